@@ -3,9 +3,9 @@ use mathlib.Core.Path.{_≡_}
 use mathlib.Core.Bool.{cond}
 use mathlib.Core.List.{List}
 use Prim.Native.Nat.{ℕ, _+_, _-_, _*_, _<_}
-use lib.Dec.{ltb, eqb}
+use lib.Dec.{eqb}
 use lib.ListN.{length, getD}
-use Rattle.lists.specs.Table.{table}
+use Rattle.lists.specs.Table.{table, padded}
 use Rattle.lists.specs.Sum.{Σ}
 use Rattle.definitions.specs.Zq.{Canonical, zadd, zsub, zneg, zmul}
 use Rattle.definitions.specs.Digits.{digit}
@@ -60,4 +60,4 @@ digitRow b a k = table 64 (λ j. digit b (coeff a j) k)
 
 -- "the digits of one element are 32 rows of 64, rows past the parts zero"
 unfoldable pub digitRows : ℕ → ℕ → List ℕ → List (List ℕ)
-digitRows b parts a = table 32 (λ k. cond (ltb k parts) (digitRow b a k) rzero)
+digitRows b parts a = padded 32 parts rzero (digitRow b a)
