@@ -50,9 +50,13 @@ rmul a b = table 64 (λ k. zsub (low a b k) (high a b k))
 unfoldable pub rscale : List ℕ → ℕ → List ℕ
 rscale a c = table 64 (λ k. zmul (coeff a k) c)
 
--- "Conj keeps coefficient 0 and puts minus coefficient 64−i at i."
+-- "Conj keeps coefficient 0 and puts minus coefficient 64−i at i.": coefficient i
+abbrev pub conjCoeff : List ℕ → ℕ → ℕ
+conjCoeff a i = cond (eqb i 0) (coeff a 0) (zneg (coeff a (64 - i)))
+
+-- the conjugate of an element
 unfoldable pub rconj : List ℕ → List ℕ
-rconj a = table 64 (λ k. cond (eqb k 0) (coeff a 0) (zneg (coeff a (64 - k))))
+rconj a = table 64 (conjCoeff a)
 
 -- row k of an element's digits: digit k of each coefficient
 unfoldable pub digitRow : ℕ → List ℕ → ℕ → List ℕ

@@ -41,10 +41,14 @@ module _ {ℓ} {A : Type ℓ} (n : ℕ) (d : A) (f : ℕ → A) where
   unfolding padded
   padded-all = table-ext n (λ i. cond (ltb i n) (f i) d) f (λ i l. ap (λ b. cond b (f i) d) (lt-ltb i n l))
 
+  -- the list after the last entry is stored
+  pub padded-done : (l : List A) (k : ℕ) → l ≡ padded n k d f → k ≡ n → l ≡ table n f
+  padded-done l k e same = e ∙ ap (λ j. padded n j d f) same ∙ padded-all
+
   -- one more entry stored
-  pub padded-next : (k : ℕ) (v : A) → k < n → v ≡ f k → set (padded n k d f) k v ≡ padded n (k + 1) d f
+  stored-next : (k : ℕ) (v : A) → k < n → v ≡ f k → set (padded n k d f) k v ≡ padded n (k + 1) d f
   unfolding padded
-  padded-next k v h e =
+  stored-next k v h e =
       is-table n (set (padded n k d f) k v) (λ i. cond (ltb i (k + 1)) (f i) d) d (length-set (padded n k d f) k v ∙ length-padded k) at
     where
       stored : getD (set (padded n k d f) k v) k d ≡ v
@@ -60,3 +64,7 @@ module _ {ℓ} {A : Type ℓ} (n : ℕ) (d : A) (f : ℕ → A) where
 
       at : (i : ℕ) → i < n → getD (set (padded n k d f) k v) i d ≡ cond (ltb i (k + 1)) (f i) d
       at i l = by i l (ℕ-discrete i k)
+
+  -- one more entry stored in a list that holds the entries before it
+  pub padded-next : (l : List A) (k : ℕ) (v : A) → l ≡ padded n k d f → k < n → v ≡ f k → set l k v ≡ padded n (k + 1) d f
+  padded-next l k v before h e = ap (λ l′. set l′ k v) before ∙ stored-next k v h e

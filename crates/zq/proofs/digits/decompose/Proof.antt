@@ -49,7 +49,7 @@ loop-again c =
     let at : l .k < 32 = omega arith in (
       omega arith,
       rw (add-one (l .k)) (c .next-size .ensures ∙ ap (nextSize _) (l .inv .1)),
-      rw (l .inv .2) (padded-next 32 0 _ (l .k) _ at (digit-is _ _ _ _ _ _ (l .inv .1) (c .before .digit .ensures))),
+      padded-next 32 0 _ _ (l .k) _ (l .inv .2) at (digit-is _ _ _ _ _ _ (l .inv .1) (c .before .digit .ensures)),
     )
 
 returns : tie.Need-returns Inv-loop μ-loop

@@ -2,6 +2,7 @@
 use native.Mathlib.Omega.{arith}
 use borrow.Author.Needs.{needs}
 use Rattle.definitions.proofs.Fits.{product-max}
+use Rattle.definitions.specs.Answer.{value128}
 use Rattle.zq.proofs.norm.add_square.Statement.{statement}
 use Rattle.zq.proofs.norm.add_square.Tie as tie
 
@@ -11,9 +12,14 @@ mul-square c =
     omega (arith, product-max {a = n} {b = n} (omega arith) (omega arith))
 
 returns : tie.Need-returns
+unfolding value128
 returns c =
     let n = c .before .before .before .args .size in
     omega (arith, product-max {a = n} {b = n} (omega arith) (omega arith))
 
+returns-2 : tie.Need-returns-2
+unfolding value128
+returns-2 c = search needs
+
 pub add-square-spec : {M : Type 1} → statement M
-add-square-spec = tie.close (tie.spec mul-square (λ c κs. search needs) (λ c. search needs) returns (λ c. search needs))
+add-square-spec = tie.close (tie.spec mul-square (λ c κs. search needs) (λ c. search needs) returns returns-2)
