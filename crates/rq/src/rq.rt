@@ -1,5 +1,5 @@
 // A ring element as 64 words, coefficient of X^0 first. No operation asks for canonical words, and each gives some.
-
+use crate::product;
 use definitions::answers::U128;
 use zq::norm;
 use zq::zq::Zq;
@@ -44,6 +44,16 @@ impl Rq {
             difference[k] = Zq(a[k]).sub(Zq(b[k])).0;
         }
         Rq { coeffs: difference }
+    }
+
+    pub fn mul(self, rhs: Rq) -> Rq
+        ensures { λ r. ⌜ r .coeffs ≡ rmul (self .coeffs) (rhs .coeffs) ⌝ }
+    {
+        let a = self.coeffs;
+        let b = rhs.coeffs;
+        Rq {
+            coeffs: product::multiply(a, b),
+        }
     }
 
     // The product with a number.

@@ -24,10 +24,11 @@ loop-holds c = (omega arith, refl, omega arith)
 
 loop-again : tie.Need-loop-again Inv-loop μ-loop
 loop-again c =
-    let l = c .before .before .before .loop in
-    (omega arith,
-    c .add-square .ensures .0 ∙ ap₂ _+_ (l .inv .1) (ap (λ n. n * n) (c .before .size .ensures)) ∙ sym (Σ-suc (l .k) _),
-    omega arith)
+    let l = c .before .before .before .loop in (
+      omega arith,
+      c .add-square .ensures .0 ∙ ap₂ _+_ (l .inv .1) (ap (λ n. n * n) (c .before .size .ensures)) ∙ sym (Σ-suc (l .k) _),
+      omega arith,
+    )
 
 returns : tie.Need-returns Inv-loop μ-loop
 unfolding norm
