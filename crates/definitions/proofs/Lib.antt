@@ -1,1 +1,5 @@
+pub mod Test
+pub mod Centre
+pub mod Digits
+pub mod Challenge
 pub mod Table
