@@ -1,15 +1,14 @@
 -- The centre of a canonical value: its sign, its size, its square, and the centre of the negative.
 use mathlib.Core.Path.{_≡_, refl, sym, ap, ap₂, _∙_}
 use mathlib.Core.Bool.{Bool, true, false, cond, not}
-use Prim.Native.Nat.{ℕ, zero, suc, _+_, _-_, _*_, _%_, _≤_, _<_}
-use native.Mathlib.Nat.{mod-eq-of-lt}
+use Prim.Native.Nat.{ℕ, zero, suc, _-_, _*_, _≤_, _<_}
 use native.Mathlib.Omega.{arith}
-use lib.Dec.{ltb}
-use lib.IntN.{ℤ, pos, negsuc, negℤ, negℤ-negℤ, natAbs, _-ℤ_, _*ℤ_}
+use lib.IntN.{pos, negsuc, negℤ, negℤ-negℤ, natAbs, _-ℤ_, _*ℤ_}
 use borrow.Author.Tests.{lt-ltb, le-ltb}
 use Rattle.definitions.specs.Zq.{Q, Canonical, zneg, isLargerThanHalf, centre, size}
 use Rattle.definitions.specs.Digits.{signed}
-use Rattle.definitions.proofs.Test.{ltb-cases}
+use Rattle.definitions.specs.Norm.{square}
+use Rattle.definitions.proofs.Cases.{ltb-cases}
 
 -- a size is at most 2147483647
 pub size-le : (a : ℕ) → Canonical a → size a ≤ 2147483647
@@ -33,10 +32,12 @@ below-zero a h = ltb-cases (λ t. cond t (negsuc (Q - suc a)) (pos (a - Q)) ≡ 
 pub centre-signed : (a : ℕ) → Canonical a → centre a ≡ cond (isLargerThanHalf a) (negℤ (pos (size a))) (pos (size a))
 centre-signed a h = ltb-cases (λ t. cond t (pos a -ℤ pos Q) (pos a) ≡ cond t (negℤ (pos (cond t (Q - a) a))) (pos (cond t (Q - a) a))) 2147483647 a (λ l. below-zero a h) (λ l. refl)
 
+-- the absolute value of −n is n
 natAbs-neg : (n : ℕ) → natAbs (negℤ (pos n)) ≡ n
 natAbs-neg zero = refl
 natAbs-neg (suc n) = refl
 
+-- the square of −n is n·n
 square-neg : (n : ℕ) → negℤ (pos n) *ℤ negℤ (pos n) ≡ pos (n * n)
 square-neg zero = refl
 square-neg (suc n) = refl
@@ -49,8 +50,8 @@ size-abs a h = sym (ap natAbs (centre-signed a h) ∙ either (isLargerThanHalf a
     either true n = natAbs-neg n
     either false n = refl
 
--- the centre's square is the size's
-pub centre-square : (a : ℕ) → Canonical a → centre a *ℤ centre a ≡ pos (size a * size a)
+-- the square in a norm is the centre's square
+pub centre-square : (a : ℕ) → Canonical a → centre a *ℤ centre a ≡ pos (square a)
 centre-square a h = ap₂ _*ℤ_ (centre-signed a h) (centre-signed a h) ∙ either (isLargerThanHalf a) (size a)
   where
     either : (t : Bool) (n : ℕ) → cond t (negℤ (pos n)) (pos n) *ℤ cond t (negℤ (pos n)) (pos n) ≡ pos (n * n)

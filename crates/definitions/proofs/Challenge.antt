@@ -1,5 +1,5 @@
 -- The shuffle keeps the multiset of entries, and what follows of a challenge.
-use mathlib.Core.Path.{_≡_, refl, sym, ap, ap₂, _∙_, subst}
+use mathlib.Core.Path.{_≡_, refl, sym, ap, _∙_}
 use mathlib.Core.Bool.{Bool, true, false, cond, not}
 use mathlib.Core.List.{List}
 use mathlib.Core.Logic.{_⊎_, inl, inr}
@@ -9,19 +9,19 @@ use native.Mathlib.Decide.{ℕ-discrete}
 use native.Mathlib.Omega.{arith}
 use lib.Dec.{ltb, eqb}
 use lib.ListN.{length, getD, set, length-set}
+use lib.IntN.{pos, negℤ}
 use lib.Seq.{lt-length-set, getD-set-same, getD-set-other}
 use borrow.Author.Tests.{lt-ltb, ltb-true}
-use Rattle.lists.specs.Table.{table}
 use Rattle.lists.specs.Sum.{Σ}
 use Rattle.lists.proofs.Table.{length-table, getD-table}
 use Rattle.lists.proofs.Sum.{Σ-ext, Σ-zero, Σ-term}
-use Rattle.definitions.specs.Zq.{Q, Canonical, zneg, size}
+use Rattle.definitions.specs.Zq.{Q, Canonical, zneg, centre, size}
 use Rattle.definitions.specs.Digits.{signed}
-use Rattle.definitions.specs.Norm.{norm, square}
+use Rattle.definitions.specs.Norm.{norm}
 use Rattle.definitions.specs.Rq.{AllCanonical}
 use Rattle.definitions.specs.Challenge.{startSize, startCoeff, start, swap, swaps, shuffle, challenge}
-use Rattle.definitions.proofs.Test.{ltb-cases}
-use Rattle.definitions.proofs.Centre.{size-signed, signed-canonical}
+use Rattle.definitions.proofs.Cases.{ltb-cases}
+use Rattle.definitions.proofs.Centre.{size-signed, centre-of-signed, signed-canonical}
 
 -- the sum of f over the entries of a list
 abbrev pub total : (ℕ → ℕ) → List ℕ → ℕ
@@ -75,7 +75,7 @@ total-swap f a i j h l =
 pub length-swaps : (words : List ℕ) (k : ℕ) (a : List ℕ) → length (swaps words k a) ≡ length a
 unfolding swaps
 length-swaps words zero a = refl
-length-swaps words (suc k) a = length-swap (swaps words k a) (63 - k) (getD words k 0 % (63 - k + 1)) ∙ length-swaps words k a
+length-swaps words (suc k) a = simp length-set (length-swaps words k a)
 
 -- swaps keep the sum of f over the entries
 pub total-swaps : (f : ℕ → ℕ) (words : List ℕ) (k : ℕ) (a : List ℕ) → length a ≡ 64 → total f (swaps words k a) ≡ total f a
@@ -116,6 +116,14 @@ all-shuffle p words a e h k l =
 -- a size before the shuffle is at most 2
 startSize-le : (k : ℕ) → startSize k ≤ 2
 startSize-le k = ltb-cases (λ t. cond t 1 (cond (ltb k 41) 2 0) ≤ 2) k 31 (λ h. omega arith) (λ h. ltb-cases (λ t. cond t 2 0 ≤ 2) k 41 (λ m. omega arith) (λ m. omega arith))
+
+-- sign 1 gives the size itself
+pub start-plus : (signs : List ℕ) (k : ℕ) → getD signs k 0 ≡ 1 → centre (startCoeff signs k) ≡ pos (startSize k)
+start-plus signs k e = rw e (centre-of-signed false (startSize k) (omega (arith, startSize-le k)))
+
+-- sign 0 gives minus the size
+pub start-minus : (signs : List ℕ) (k : ℕ) → getD signs k 0 ≡ 0 → centre (startCoeff signs k) ≡ negℤ (pos (startSize k))
+start-minus signs k e = rw e (centre-of-signed true (startSize k) (omega (arith, startSize-le k)))
 
 -- a coefficient before the shuffle is the size with its sign
 start-signed : (signs : List ℕ) (k : ℕ) → startCoeff signs k ≡ signed (not (eqb (getD signs k 0) 1)) (startSize k)
@@ -181,4 +189,11 @@ norm-challenge signs words = total-challenge (λ n. n * n) signs words
 -- each coefficient of a challenge is canonical
 pub challenge-canonical : (signs words : List ℕ) → AllCanonical (challenge signs words)
 unfolding challenge
-challenge-canonical signs words k h = ltb-true (getD (challenge signs words) k 0) Q (all-shuffle (λ x. ltb x Q) words (start signs) (length-start signs) (λ i m. lt-ltb (getD (start signs) i 0) Q (rw (getD-start signs i m) (start-canonical signs i))) k (rw (length-challenge signs words) at h))
+challenge-canonical signs words k h =
+    ltb-true
+    (getD (challenge signs words) k 0)
+    Q
+    (all-shuffle (λ x. ltb x Q) words (start signs) (length-start signs) before k (rw (length-challenge signs words) at h))
+  where
+    before : (i : ℕ) → i < 64 → ltb (getD (start signs) i 0) Q ≡ true
+    before i m = lt-ltb (getD (start signs) i 0) Q (rw (getD-start signs i m) (start-canonical signs i))

@@ -1,4 +1,4 @@
-pub mod Test
+pub mod Cases
 pub mod Centre
 pub mod Digits
 pub mod Challenge
