@@ -21,6 +21,7 @@ pub record Row : Type 1 where
   pub said : kind
 
 infix 5 _is_
+-- the row of what is given and what is said
 abbrev pub _is_ : {A : Type 0} → A → A → Row
 _is_ {A} x y = record { kind = A; given = x; said = y }
 
@@ -53,7 +54,7 @@ rows =
     ∷ (zmul 65537 65535 is 0)
     -- "centres of 2147483647, 2147483648, 4294967294 are 2147483647, −2147483647, −1"
     ∷ ((centre 2147483647 ∷ centre 2147483648 ∷ centre 4294967294 ∷ []) is (pos 2147483647 ∷ negℤ (pos 2147483647) ∷ negℤ (pos 1) ∷ []))
-    -- "digits of 7, base 4: two give −1, 2, one gives −1"
+    -- "digits of 7, base 4: two give −1, 2, one gives −1" (base, parts, value)
     ∷ ((digits 4 2 7 ∷ digits 4 1 7 ∷ []) is ((minus 1 ∷ 2 ∷ []) ∷ (minus 1 ∷ []) ∷ []))
     -- "of 4294967288: 1, −2"
     ∷ (digits 4 2 4294967288 is (1 ∷ minus 2 ∷ []))
