@@ -1,0 +1,3 @@
+mod Scan
+mod Result
+mod Limits

@@ -1,0 +1,4 @@
+// The exported calls.
+pub mod answers;
+pub mod numbers;
+pub mod operands;
