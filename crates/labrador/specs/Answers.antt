@@ -2,9 +2,11 @@
 use mathlib.Core.List.{List}
 use Prim.Native.Nat.{ℕ, _/_, _%_, _^_}
 use lib.IntN.{ℤ, pos}
-use lib.ListN.{replicate}
+use lib.ListN.{replicate, take, drop}
 use Rattle.definitions.specs.Answer.{Answer, number, place, result}
 use Rattle.definitions.specs.Rq.{rzero}
+use Rattle.definitions.specs.Challenge.{challenge}
+use Rattle.definitions.specs.Leaf.{signWords}
 use Rattle.labrador.specs.declared.answers.Status.{Status}
 use Rattle.labrador.specs.declared.answers.WordAnswer.{WordAnswer}
 use Rattle.labrador.specs.declared.answers.CentreAnswer.{CentreAnswer}
@@ -35,3 +37,7 @@ elementAnswer a coeffs = record { number = number a; place = place a; coeffs = r
 -- a norm in two u64
 abbrev pub normAnswer : Answer → ℕ → NormAnswer
 normAnswer a norm = record { number = number a; place = place a; hi = result a norm 0 / 2 ^ 64; lo = result a norm 0 % 2 ^ 64 }
+
+-- a challenge: "the 41 sign words coming first"
+abbrev pub challengeAnswer : List ℕ → ElementAnswer
+challengeAnswer words = elementAnswer (signWords (take 41 words)) (challenge (take 41 words) (drop 41 words))

@@ -1,4 +1,5 @@
 // The exported calls.
 pub mod answers;
+pub mod elements;
 pub mod numbers;
 pub mod operands;
