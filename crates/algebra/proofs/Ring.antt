@@ -136,6 +136,22 @@ module _ (O : Ops) (R : CRing O) where
 pub ruleset ring =
     (add-assoc, add-comm, add-left-comm, add-nil, nil-add, mul-assoc, mul-comm, mul-left-comm, mul-one, one-mul, mul-nil, nil-mul, mul-add, add-mul, mul-neg, neg-mul, neg-neg, neg-nil, neg-dist, add-neg, neg-add, add-neg-cancel, neg-add-cancel)
 
+module _ (O : Ops) (R : CRing O) where
+  open Ops O using (Carrier, add as _⊕_, mul as _⊗_, neg, nil, one)
+
+  infixl 60 _⊕_
+  infixl 70 _⊗_
+  -- (1 + 1)a = a + a
+  pub two-mul : (a : Carrier) → (one ⊕ one) ⊗ a ≡ a ⊕ a
+  two-mul a = simp (ring, R)
+
+  -- where 1 + 1 has an inverse h, a + a = b + b gives a = b
+  pub double-cancel : (h : Carrier) → h ⊗ (one ⊕ one) ≡ one → (a b : Carrier) → a ⊕ a ≡ b ⊕ b → a ≡ b
+  double-cancel h e a b d = sym (halved a) ∙ ap (λ x. h ⊗ x) d ∙ halved b
+    where
+      halved : (x : Carrier) → h ⊗ (x ⊕ x) ≡ x
+      halved x = ap (λ y. h ⊗ y) (sym (two-mul x)) ∙ sym (mul-assoc O R h (one ⊕ one) x) ∙ ap (λ y. y ⊗ x) e ∙ one-mul O R x
+
 -- operations that an injective function carries into those of a commutative ring make one
 pub transfer : (O P : Ops) → CRing P → IsSet (O .Carrier) → (φ : O .Carrier → P .Carrier) → ((a b : O .Carrier) → φ a ≡ φ b → a ≡ b)
     → ((a b : O .Carrier) → φ (O .add a b) ≡ P .add (φ a) (φ b))
