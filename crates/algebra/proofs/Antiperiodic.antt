@@ -32,10 +32,10 @@ mulF O d a b k = O .neg (sum O d (λ i. O .mul (a i) (b (k + (d - i)))))
 unfoldable pub conjF : (O : Ops) → ℕ → (ℕ → O .Carrier) → ℕ → O .Carrier
 conjF O d a k = O .neg (a (d - k))
 
--- one as values below d
-unfoldable pub oneF : (O : Ops) → ℕ → O .Carrier
-oneF O zero = O .one
-oneF O (suc k) = O .nil
+-- a constant as values below d
+unfoldable pub constF : (O : Ops) → O .Carrier → ℕ → O .Carrier
+constF O c zero = c
+constF O c (suc k) = O .nil
 
 module _ (O : Ops) (R : CRing O) (d : ℕ) (pos : 0 < d) where
   open Ops O using (Carrier, add as _⊕_, mul as _⊗_, neg, nil, one)
@@ -194,17 +194,18 @@ module _ (O : Ops) (R : CRing O) (d : ℕ) (pos : 0 < d) where
       ∙ sum-add O R d (λ i. a i ⊗ b (k + (d - i))) (λ i. a i ⊗ c (k + (d - i))))
       ∙ neg-dist O R (sum O d (λ i. a i ⊗ b (k + (d - i)))) (sum O d (λ i. a i ⊗ c (k + (d - i))))
 
-  -- 1 · a = a
-  pub one-mulF : (a : ℕ → Carrier) → Antiperiodic O d a → (k : ℕ) → mulF O d (extend O d (oneF O)) a k ≡ a k
-  unfolding mulF oneF
-  one-mulF a p k =
+  -- the product with a constant
+  pub const-mulF : (c : Carrier) (a : ℕ → Carrier) → Antiperiodic O d a → (k : ℕ) → mulF O d (extend O d (constF O c)) a k ≡ c ⊗ a k
+  unfolding mulF constF
+  const-mulF c a p k =
       ap neg
-      (sum-single O R d 0 (λ i. extend O d (oneF O) i ⊗ a (k + (d - i))) pos (λ i l n. ap (λ x. x ⊗ a (k + (d - i))) (extend-below (oneF O) i l ∙ other i n) ∙ nil-mul O R (a (k + (d - i))))
-      ∙ ap₂ _⊗_ (extend-below (oneF O) 0 pos) (ap (λ m. a (k + m)) (Nat.sub-zero d) ∙ p k)
-      ∙ one-mul O R (neg (a k)))
-      ∙ neg-neg O R (a k)
+      (sum-single O R d 0 (λ i. extend O d (constF O c) i ⊗ a (k + (d - i))) pos
+      (λ i l n. ap (λ x. x ⊗ a (k + (d - i))) (extend-below (constF O c) i l ∙ other i n) ∙ nil-mul O R (a (k + (d - i))))
+      ∙ ap₂ _⊗_ (extend-below (constF O c) 0 pos) (ap (λ m. a (k + m)) (Nat.sub-zero d) ∙ p k)
+      ∙ mul-neg O R c (a k))
+      ∙ neg-neg O R (c ⊗ a k)
     where
-      other : (i : ℕ) → i ≢ 0 → oneF O i ≡ nil
+      other : (i : ℕ) → i ≢ 0 → constF O c i ≡ nil
       other zero n = absurd (n refl)
       other (suc i) n = refl
 
@@ -276,7 +277,7 @@ module _ (O : Ops) (R : CRing O) (d : ℕ) (pos : 0 < d) where
     mul = λ f g. (mulF O d (f .0) (g .0), mulF-anti O R d pos (f .0) (g .0) (g .1));
     neg = λ f. ((λ k. neg (f .0 k)), λ k. ap neg (f .1 k));
     nil = ((λ k. nil), λ k. sym (neg-nil O R));
-    one = (extend O d (oneF O), extend-anti O R d pos (oneF O));
+    one = (extend O d (constF O one), extend-anti O R d pos (constF O one));
   }
 
   -- elements whose coefficients agree below d are equal
@@ -293,6 +294,7 @@ module _ (O : Ops) (R : CRing O) (d : ℕ) (pos : 0 < d) where
     add-neg = λ a. anti-path _ _ (λ k l. R .add-neg (a .0 k));
     mul-assoc = λ a b c. anti-path _ _ (λ k l. mulF-assoc O R d pos (a .0) (b .0) (c .0) (b .1) (c .1) k);
     mul-comm = λ a b. anti-path _ _ (λ k l. mulF-comm O R d pos (a .0) (b .0) (a .1) (b .1) k);
-    mul-one = λ a. anti-path _ _ (λ k l. mulF-comm O R d pos (a .0) (extend O d (oneF O)) (a .1) (extend-anti O R d pos (oneF O)) k ∙ one-mulF O R d pos (a .0) (a .1) k);
+    mul-one = λ a.
+        anti-path _ _ (λ k l. mulF-comm O R d pos (a .0) (extend O d (constF O one)) (a .1) (extend-anti O R d pos (constF O one)) k ∙ const-mulF O R d pos one (a .0) (a .1) k ∙ one-mul O R (a .0 k));
     mul-add = λ a b c. anti-path _ _ (λ k l. mulF-add O R d pos (a .0) (b .0) (c .0) k);
   }

@@ -1,3 +1,4 @@
 pub mod Modulo
 pub mod ZqRing
 pub mod RqRing
+pub mod Bridge

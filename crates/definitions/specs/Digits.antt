@@ -1,5 +1,5 @@
 -- The digit rule (document 01, "Leaves"). A size s in base b gives a remainder and the size that goes on; both are kept as sizes, the remainder's sign beside it.
-use mathlib.Core.Bool.{Bool, cond, xor}
+use mathlib.Core.Bool.{Bool, true, false, cond, xor}
 use mathlib.Core.List.{List}
 use Prim.Native.Nat.{ℕ, zero, suc, _+_, _-_, _/_, _%_}
 use lib.Dec.{ltb}
