@@ -1,22 +1,20 @@
 -- The words of an element and the element of a list: the definitions on lists always give elements, and their words are those of the ring's operations.
-use mathlib.Core.Path.{_≡_, refl, sym, ap, ap₂, _∙_}
+use mathlib.Core.Path.{_≡_, sym, ap, ap₂, _∙_}
 use mathlib.Core.Bool.{Bool, true, false, cond}
 use mathlib.Core.List.{List}
 use Prim.Native.Nat.{ℕ, _+_, _-_, _*_, _%_, _<_}
 use native.Mathlib.Nat as Nat
 use native.Mathlib.Omega.{arith}
 use lib.Dec.{eqb}
-use lib.ListN.{length, getD}
 use Rattle.lists.specs.Table.{table}
 use Rattle.lists.specs.Sum.{Σ}
-use Rattle.lists.proofs.Table.{is-table, getD-table}
-use Rattle.algebra.specs.Ops.{Ops, sum, dot}
-use Rattle.algebra.proofs.Ring.{CRing}
+use Rattle.lists.proofs.Table.{is-table}
+use Rattle.algebra.specs.Ops.{sum, dot}
 use Rattle.algebra.proofs.Sum.{sum-ext, sum-map, sum-add, sum-neg}
 use Rattle.definitions.specs.Zq.{Q, Canonical, zadd, zsub, zneg, zmul}
 use Rattle.definitions.specs.Rq.{coeff, Element, rzero, radd, rsub, low, high, rmul, rscale, rconj}
-use Rattle.definitions.specs.Ring.{Residue, residue, canonical-mod, ZqOps, IsElement, words, table-element, element, RqOps, scale, conj}
-use Rattle.definitions.proofs.ZqRing.{zq-ring, residue-Σ, residue-zsub, residue-reduced, residue-mod}
+use Rattle.definitions.specs.Ring.{residue, canonical-mod, ZqOps, IsElement, words, table-element, element, RqOps, scale, conj}
+use Rattle.definitions.proofs.ZqRing.{zq-ring, residue-Σ, residue-zsub, residue-reduced}
 use Rattle.definitions.proofs.RqRing.{words-path, coefficient, element-path, coefficient-element, coefficient-table, coefficient-radd, coefficient-rsub, coefficient-rzero, coefficient-neg, coefficient-rscale, coefficient-rmul, residue-low, residue-high}
 
 -- zero is an element
