@@ -8,7 +8,7 @@ use native.Mathlib.Omega.{arith}
 use lib.Dec.{eqb}
 use Rattle.lists.specs.Table.{table}
 use Rattle.lists.specs.Sum.{Σ}
-use Rattle.lists.proofs.Table.{is-table}
+use Rattle.lists.proofs.Table.{is-table, getD-table, table-ext}
 use Rattle.algebra.specs.Ops.{sum, dot}
 use Rattle.algebra.proofs.Sum.{sum-ext, sum-map, sum-add, sum-neg}
 use Rattle.definitions.specs.Zq.{Q, Canonical, zadd, zsub, zneg, zmul}
@@ -79,6 +79,12 @@ words-add a b = words-element (radd (words a) (words b)) (radd-element (words a)
 -- the words of a negative
 pub words-neg : (a : Element) → words (RqOps .neg a) ≡ rsub rzero (words a)
 words-neg a = words-element (rsub rzero (words a)) (rsub-element rzero (words a))
+
+-- 0 − a has each coefficient negated
+pub rsub-rzero : (a : List ℕ) → rsub rzero a ≡ table 64 (λ k. zneg (coeff a k))
+unfolding rsub rzero
+rsub-rzero a =
+    table-ext 64 (λ k. zsub (coeff rzero k) (coeff a k)) (λ k. zneg (coeff a k)) (λ k h. ap (λ x. (x + (Q - coeff a k % Q)) % Q) (getD-table 64 (λ i. 0) k 0 h) ∙ ap (λ x. x % Q) (Nat.zero-add (Q - coeff a k % Q)))
 
 -- the words of a product
 pub words-mul : (a b : Element) → words (RqOps .mul a b) ≡ rmul (words a) (words b)

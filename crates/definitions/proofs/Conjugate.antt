@@ -16,7 +16,7 @@ use Rattle.definitions.specs.Ring.{Residue, residue, ZqOps, words, RqOps
 use Rattle.definitions.proofs.ZqRing.{zq-ring, residue-zneg}
 use Rattle.definitions.proofs.RqRing.{coefficient, element-path, coefficient-table, coefficient-radd, coefficient-rzero, coefficient-neg, coefficient-rscale, continued, carry, carry-below, carry-mul, AntiOps, carry-path, carry-add, carry-neg, carry-nil, coefficient-scalar, word-mod, residue-products}
 use Rattle.definitions.proofs.Bridge.{words-mul, words-conj}
-use Rattle.definitions.proofs.Scalar.{continued-scale}
+use Rattle.definitions.proofs.Scalar.{continued-scale, coefficient-scalar-mul}
 
 -- the coefficients of a conjugate
 pub coefficient-conj : (a : Element) (k : ℕ) → k < 64 → coefficient (conj a) k ≡ conjF ZqOps 64 (continued a) k
@@ -104,6 +104,11 @@ constant-neg a = coefficient-neg a 0 (lit< tt)
 pub constant-scale : (a : Element) (c : ℕ) → constant (scale a c) ≡ ZqOps .mul (constant a) (residue c)
 unfolding constant scale
 constant-scale a c = coefficient-rscale (words a) c 0 (lit< tt)
+
+-- the constant coefficient of the product of a number and an element
+pub constant-scalar-mul : (c : ℕ) (a : Element) → constant (RqOps .mul (scalar c) a) ≡ ZqOps .mul (residue c) (constant a)
+unfolding constant
+constant-scalar-mul c a = coefficient-scalar-mul c a 0 (lit< tt)
 
 -- the constant coefficient of a number
 pub constant-scalar : (c : ℕ) → constant (scalar c) ≡ residue c

@@ -1,7 +1,6 @@
 -- Numbers as elements, multiples of elements, and 2 cancelled in Rq.
 use mathlib.Core.Path.{_≡_, refl, sym, ap, ap₂, _∙_}
 use Prim.Native.Nat.{ℕ, zero, suc, _+_, _*_, _%_, _<_}
-use native.Mathlib.Nat as Nat
 use lib.Dec.{lit<}
 use Rattle.algebra.specs.Ops.{sum}
 use Rattle.algebra.proofs.Ring.{double-cancel, add-mul, mul-nil, nil-mul}
