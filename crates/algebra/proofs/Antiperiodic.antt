@@ -236,7 +236,7 @@ module _ (O : Ops) (R : CRing O) (d : ℕ) (pos : 0 < d) where
       signs x y = neg-dist O R (neg x) y ∙ ap (λ z. z ⊕ neg y) (neg-neg O R x)
 
   -- value d − i of the conjugate, for i < d
-  conj-at : (a : ℕ → Carrier) → Antiperiodic O d a → (i : ℕ) → i < d → extend O d (conjF O d a) (0 + (d - i)) ≡ neg (a i)
+  pub conj-at : (a : ℕ → Carrier) → Antiperiodic O d a → (i : ℕ) → i < d → extend O d (conjF O d a) (0 + (d - i)) ≡ neg (a i)
   unfolding conjF
   conj-at a p zero h =
       ap (λ x. extend O d (conjF O d a) (0 + x)) (Nat.sub-zero d)

@@ -19,32 +19,40 @@ module _ (O : Ops) (R : CRing O) where
 
   infixl 60 _⊕_
   infixl 70 _⊗_
-  -- the laws of the ring, each as a lemma that a tactic's list can name
+  -- The laws of the ring as lemmas, which a tactic's list can name.
+  -- (a + b) + c = a + (b + c)
   pub add-assoc : (a b c : Carrier) → a ⊕ b ⊕ c ≡ a ⊕ (b ⊕ c)
   add-assoc = R .add-assoc
 
+  -- a + b = b + a
   pub add-comm : (a b : Carrier) → a ⊕ b ≡ b ⊕ a
   add-comm = R .add-comm
 
+  -- a + 0 = a
   pub add-nil : (a : Carrier) → a ⊕ nil ≡ a
   add-nil = R .add-nil
 
+  -- a + −a = 0
   pub add-neg : (a : Carrier) → a ⊕ neg a ≡ nil
   add-neg = R .add-neg
 
+  -- (ab)c = a(bc)
   pub mul-assoc : (a b c : Carrier) → a ⊗ b ⊗ c ≡ a ⊗ (b ⊗ c)
   mul-assoc = R .mul-assoc
 
+  -- ab = ba
   pub mul-comm : (a b : Carrier) → a ⊗ b ≡ b ⊗ a
   mul-comm = R .mul-comm
 
+  -- a · 1 = a
   pub mul-one : (a : Carrier) → a ⊗ one ≡ a
   mul-one = R .mul-one
 
+  -- a(b + c) = ab + ac
   pub mul-add : (a b c : Carrier) → a ⊗ (b ⊕ c) ≡ a ⊗ b ⊕ a ⊗ c
   mul-add = R .mul-add
 
-  -- b + (a + c) = a + (b + c)
+  -- a + (b + c) = b + (a + c)
   pub add-left-comm : (a b c : Carrier) → a ⊕ (b ⊕ c) ≡ b ⊕ (a ⊕ c)
   add-left-comm a b c = sym (add-assoc a b c) ∙ ap (λ x. x ⊕ c) (add-comm a b) ∙ add-assoc b a c
 

@@ -1,22 +1,20 @@
 -- The words of an element and the element of a list: the definitions on lists always give elements, and their words are those of the ring's operations.
-use mathlib.Core.Path.{_≡_, refl, sym, ap, ap₂, _∙_}
+use mathlib.Core.Path.{_≡_, sym, ap, ap₂, _∙_}
 use mathlib.Core.Bool.{Bool, true, false, cond}
 use mathlib.Core.List.{List}
 use Prim.Native.Nat.{ℕ, _+_, _-_, _*_, _%_, _<_}
 use native.Mathlib.Nat as Nat
 use native.Mathlib.Omega.{arith}
 use lib.Dec.{eqb}
-use lib.ListN.{length, getD}
 use Rattle.lists.specs.Table.{table}
 use Rattle.lists.specs.Sum.{Σ}
-use Rattle.lists.proofs.Table.{is-table, getD-table}
-use Rattle.algebra.specs.Ops.{Ops, sum, dot}
-use Rattle.algebra.proofs.Ring.{CRing}
+use Rattle.lists.proofs.Table.{is-table, getD-table, table-ext}
+use Rattle.algebra.specs.Ops.{sum, dot}
 use Rattle.algebra.proofs.Sum.{sum-ext, sum-map, sum-add, sum-neg}
 use Rattle.definitions.specs.Zq.{Q, Canonical, zadd, zsub, zneg, zmul}
 use Rattle.definitions.specs.Rq.{coeff, Element, rzero, radd, rsub, low, high, rmul, rscale, rconj}
-use Rattle.definitions.specs.Ring.{Residue, residue, canonical-mod, ZqOps, IsElement, words, table-element, element, RqOps, scale, conj}
-use Rattle.definitions.proofs.ZqRing.{zq-ring, residue-Σ, residue-zsub, residue-reduced, residue-mod}
+use Rattle.definitions.specs.Ring.{residue, canonical-mod, ZqOps, IsElement, words, table-element, element, RqOps, scale, conj}
+use Rattle.definitions.proofs.ZqRing.{zq-ring, residue-Σ, residue-zsub, residue-reduced}
 use Rattle.definitions.proofs.RqRing.{words-path, coefficient, element-path, coefficient-element, coefficient-table, coefficient-radd, coefficient-rsub, coefficient-rzero, coefficient-neg, coefficient-rscale, coefficient-rmul, residue-low, residue-high}
 
 -- zero is an element
@@ -81,6 +79,12 @@ words-add a b = words-element (radd (words a) (words b)) (radd-element (words a)
 -- the words of a negative
 pub words-neg : (a : Element) → words (RqOps .neg a) ≡ rsub rzero (words a)
 words-neg a = words-element (rsub rzero (words a)) (rsub-element rzero (words a))
+
+-- 0 − a has each coefficient negated
+pub rsub-rzero : (a : List ℕ) → rsub rzero a ≡ table 64 (λ k. zneg (coeff a k))
+unfolding rsub rzero
+rsub-rzero a =
+    table-ext 64 (λ k. zsub (coeff rzero k) (coeff a k)) (λ k. zneg (coeff a k)) (λ k h. ap (λ x. (x + (Q - coeff a k % Q)) % Q) (getD-table 64 (λ i. 0) k 0 h) ∙ ap (λ x. x % Q) (Nat.zero-add (Q - coeff a k % Q)))
 
 -- the words of a product
 pub words-mul : (a b : Element) → words (RqOps .mul a b) ≡ rmul (words a) (words b)

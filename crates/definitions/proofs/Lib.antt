@@ -7,4 +7,6 @@ pub mod Challenge
 pub mod ZqRing
 pub mod RqRing
 pub mod Bridge
+pub mod Scalar
+pub mod Conjugate
 pub mod Table

@@ -125,7 +125,7 @@ pub carry-below : (a : Element) (k : ℕ) → k < 64 → continued a k ≡ coeff
 carry-below a k h = extend-below ZqOps zq-ring 64 (lit< tt) (coefficient a) k h
 
 -- an element is carried to whatever has its coefficients
-carry-path : (a : Element) (f : Anti ZqOps 64) → ((k : ℕ) → k < 64 → coefficient a k ≡ f .0 k) → carry a ≡ f
+pub carry-path : (a : Element) (f : Anti ZqOps 64) → ((k : ℕ) → k < 64 → coefficient a k ≡ f .0 k) → carry a ≡ f
 carry-path a f h = anti-path ZqOps zq-ring 64 (lit< tt) (carry a) f (λ k l. carry-below a k l ∙ h k l)
 
 -- elements carried to the same are equal

@@ -15,7 +15,7 @@ module _ {ℓ} {A : Type ℓ} where
   pub length-table : (n : ℕ) (f : ℕ → A) → length (table n f) ≡ n
   unfolding table
   length-table zero f = refl
-  length-table (suc n) f = length-append (table n f) (f n ∷ []) ∙ ap (λ k. k + 1) (length-table n f) ∙ add-one n
+  length-table (suc n) f = length-append (table n f) _ ∙ ap (λ k. k + 1) (length-table n f) ∙ add-one n
 
   -- element i of a table is the function's value at i
   pub getD-table : (n : ℕ) (f : ℕ → A) (i : ℕ) (d : A) → i < n → getD (table n f) i d ≡ f i
