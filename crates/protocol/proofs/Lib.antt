@@ -1,0 +1,4 @@
+pub mod Agrees
+pub mod Fine
+pub mod Sections
+pub mod Flat
