@@ -5,7 +5,7 @@ use native.Mathlib.Nat.{add-zero, mul-add-div-right, div-eq-of-lt, mul-add-mod-s
 use native.Mathlib.Omega.{arith}
 use Rattle.definitions.specs.declared.answers.Operands.{Operands}
 use Rattle.definitions.specs.declared.answers.Operands.the-variants as O
-use Rattle.definitions.specs.Answer.{fine, number, result, ofOperands}
+use Rattle.definitions.specs.Answer.{Answer, fine, refused, failed, number, result, _then_, ofOperands}
 use Rattle.labrador.specs.declared.answers.Status.{Status}
 use Rattle.labrador.specs.Answers.{statusOf}
 
@@ -32,6 +32,22 @@ dropped o s value none e z = by o (λ h. z (ap (λ t. t .number) e ∙ h))
     by (O.ParameterOutOfLimits p) h = refl
     by (O.Word p) h = refl
     by (O.SignWord p) h = refl
+
+-- with another number the answer comes before any later one
+pub refused-first : (o : Operands) (s : Status) (later : Answer) → s ≡ statusOf (ofOperands o) → (s .number ≡ 0 → ⊥) → ofOperands o ≡ ofOperands o then later
+refused-first o s later e z = by o (λ h. z (ap (λ t. t .number) e ∙ h))
+  where
+    by : (o : Operands) → (number (ofOperands o) ≡ 0 → ⊥) → ofOperands o ≡ ofOperands o then later
+    by O.Fit h = absurd (h refl)
+    by (O.ParameterOutOfLimits p) h = refl
+    by (O.Word p) h = refl
+    by (O.SignWord p) h = refl
+
+-- an answer comes before a fine one
+pub then-fine : (a : Answer) → a ≡ a then fine
+then-fine fine = refl
+then-fine (refused n p) = refl
+then-fine (failed n vs) = refl
 
 -- the upper part of hi · 2^64 + lo
 pub upper-part : (hi lo : ℕ) → lo < 2 ^ 64 → hi ≡ (hi * 2 ^ 64 + lo) / 2 ^ 64
