@@ -2,7 +2,7 @@
 use mathlib.Core.Path.{_≡_, refl, sym, _∙_, ap, ap₂}
 use mathlib.Core.Bool.{Bool, true, false, cond}
 use mathlib.Core.List.{List, [], _∷_, _++_}
-use Prim.Native.Nat.{ℕ, zero, suc, _+_, _≤_, _<_}
+use Prim.Native.Nat.{ℕ, suc, _+_, _≤_, _<_}
 use native.Mathlib.Nat.{add-zero, zero-add}
 use native.Mathlib.Numerals.{add-one}
 use native.Mathlib.Omega.{arith}
@@ -13,7 +13,7 @@ use lib.Seq.{drop-cons, drop-length}
 use Rattle.definitions.specs.Answer.{Answer, fine, refused, below, _then_}
 use Rattle.definitions.specs.Zq.{Q}
 use Rattle.definitions.specs.Leaf.{canonicalWords}
-use Rattle.labrador.specs.Scan.{found, FirstNotBelow}
+use Rattle.labrador.specs.Scan.{FirstNotBelow}
 
 -- the search has passed i words: the whole answer is that of the words from i on
 abbrev pub Passed : ℕ → List ℕ → ℕ → Type 0

@@ -99,8 +99,8 @@ pub fn elements(a: Rq, b: Rq) -> Operands
 pub fn element_and_number(a: Rq, c: u32) -> Operands
     ensures { λ r. ⌜ ofOperands r ≡ canonicalWords (a .coeffs ++ (c ∷ [])) ⌝ }
 {
-    let words = [c];
-    first(element(a), words_from(&words, 64))
+    let number = [c];
+    first(element(a), words_from(&number, 64))
 }
 
 // A parameter from its least to its greatest value.

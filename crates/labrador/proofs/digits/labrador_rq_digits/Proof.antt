@@ -1,5 +1,5 @@
 -- `labrador_rq_digits` meets its contract: the slice is too short and the operands fit, it is too short and they are refused, or there is room.
-use mathlib.Core.Path.{_≡_, refl, sym, _∙_, ap, ap₂}
+use mathlib.Core.Path.{_≡_, sym, _∙_, ap, ap₂}
 use mathlib.Core.Bool.{cond}
 use mathlib.Core.List.{List, _++_}
 use Prim.Native.Nat.{ℕ, _≤_, _<_}
@@ -7,9 +7,7 @@ use native.Mathlib.Omega.{arith}
 use borrow.Author.Needs.{needs}
 use borrow.Author.Tests.{lt-ltb, le-ltb}
 use lib.ListN.{length, drop}
-use Rattle.definitions.specs.declared.answers.Operands.{Operands}
-use Rattle.definitions.specs.Answer.{Answer, fine, refused, _then_, ofOperands}
-use Rattle.labrador.specs.declared.answers.Status.{Status}
+use Rattle.definitions.specs.Answer.{fine, refused, _then_, ofOperands}
 use Rattle.labrador.specs.Answers.{statusOf}
 use Rattle.labrador.specs.Rows.{roomFor2048, rowsOrZero, rowWords, wordsWritten}
 use Rattle.labrador.proofs.Result.{is-fine, refused-first, then-fine}

@@ -1,5 +1,5 @@
 -- `rq_digit_rows` meets its contract.
-use mathlib.Core.Path.{_≡_, sym, _∙_, ap}
+use mathlib.Core.Path.{sym, _∙_, ap}
 use lib.ListN.{replicate}
 use borrow.Author.Needs.{needs}
 use Rattle.lists.specs.Table.{table}

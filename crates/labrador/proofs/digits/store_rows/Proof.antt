@@ -1,13 +1,12 @@
 -- `store_rows` meets its contract. The invariant: the first k rows are stored.
-use mathlib.Core.Path.{_≡_, refl, _∙_, ap}
-use mathlib.Core.List.{[], _++_}
-use Prim.Native.Nat.{_+_, _-_, _*_, _≤_, _<_}
+use mathlib.Core.Path.{_≡_, refl, _∙_}
+use mathlib.Core.List.{[]}
+use Prim.Native.Nat.{_-_, _≤_}
 use native.Mathlib.Omega.{arith}
 use borrow.Author.Needs.{needs}
-use lib.ListN.{length, getD, drop}
+use lib.ListN.{length, getD}
 use mir.Syntax.{w32}
 use denote.Plain.{UInt}
-use Rattle.lists.specs.Table.{cat}
 use Rattle.labrador.proofs.Owned.{row-long}
 use Rattle.labrador.proofs.Store.{Stored, none-stored, row-stored, all-stored}
 use Rattle.labrador.proofs.digits.store_rows.Statement.{statement}

@@ -1,5 +1,5 @@
 -- `first` meets its contract.
-use mathlib.Core.Path.{_≡_, sym, ap}
+use mathlib.Core.Path.{sym, ap}
 use borrow.Author.Needs.{needs}
 use Rattle.definitions.specs.Answer.{ofOperands, _then_}
 use Rattle.labrador.proofs.operands.first.Statement.{statement}

@@ -13,7 +13,7 @@ abbrev μ-loop : tie.MeasureT-loop
 μ-loop words limit i₀ i = length words - i
 
 returns : tie.Need-returns Inv-loop μ-loop
-returns c = bad-found _ _ _ (c .before .before .before .loop .inv .1) (omega arith) (c .if1 .taken)
+returns c = bad-found _ _ _ (c .before .before .before .loop .inv .1) (omega arith) (omega arith)
 
 loop-again : tie.Need-loop-again Inv-loop μ-loop
 loop-again c = (omega arith, one-passed _ _ _ (c .before .before .before .loop .inv .1) (omega arith) (c .if1 .left))
