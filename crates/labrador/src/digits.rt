@@ -1,8 +1,8 @@
 // The digits of an element: 32 rows of 64, rows past the parts zero, and all zero where the operands are refused.
 use crate::answers;
 use crate::answers::Status;
-use crate::operands;
 use definitions::answers::Operands;
+use operands::leaf;
 use rq::digits;
 use rq::rq::Rq;
 ghost use mathlib.Core.Path.{_≡_};
@@ -20,7 +20,7 @@ pub fn rq_digit_operands(base: u32, parts: u32, a: Rq) -> Operands
     ensures { λ r. ⌜ ofOperands r ≡ digitOperands base parts (a .coeffs) ⌝ }
 {
     let words = a.coeffs;
-    operands::digit_operands(base, parts, &words)
+    leaf::digit_operands(base, parts, &words)
 }
 
 // The rows by value. `rq_digit_operands` tells a refusal.

@@ -6,7 +6,7 @@ use Rattle.lists.specs.Table.{table}
 use Rattle.definitions.specs.Answer.{result}
 use Rattle.definitions.specs.Rq.{rzero, digitRows}
 use Rattle.labrador.proofs.Result.{is-fine, kept, dropped}
-use Rattle.labrador.proofs.Limits.{digit-limits}
+use Rattle.operands.proofs.Limits.{digit-limits}
 use Rattle.labrador.proofs.digits.rq_digit_rows.Statement.{statement}
 use Rattle.labrador.proofs.digits.rq_digit_rows.Tie as tie
 
