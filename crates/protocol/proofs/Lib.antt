@@ -1,1 +1,4 @@
 pub mod Agrees
+pub mod Checks
+pub mod Constraints
+pub mod PsiRows
