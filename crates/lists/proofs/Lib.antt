@@ -1,3 +1,5 @@
 pub mod Table
 pub mod Padded
 pub mod Sum
+pub mod Part
+pub mod Cat

@@ -11,11 +11,6 @@ then-fine fine = refl
 then-fine (refused n p) = refl
 then-fine (failed n vs) = refl
 
--- a test whose fact holds is fine
-pub require-holds {ℓ} : {A : Type ℓ} (d : Dec A) (answer : Answer) → A → require d answer ≡ fine
-require-holds (yes a) answer h = refl
-require-holds (no n) answer h = absurd (n h)
-
 -- tests of equivalent facts with equal answers are equal
 pub require-iff {ℓ κ} : {A : Type ℓ} {B : Type κ} (d : Dec A) (e : Dec B) (answer other : Answer) → (A → B) → (B → A) → answer ≡ other → require d answer ≡ require e other
 require-iff (yes a) (yes b) answer other f g same = refl
