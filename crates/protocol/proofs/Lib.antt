@@ -5,3 +5,4 @@ pub mod PsiRows
 pub mod Fine
 pub mod Sections
 pub mod Flat
+pub mod Norms
