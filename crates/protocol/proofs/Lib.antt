@@ -6,3 +6,5 @@ pub mod Fine
 pub mod Sections
 pub mod Flat
 pub mod Norms
+pub mod Relations
+pub mod ChecksAreConditions
