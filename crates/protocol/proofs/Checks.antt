@@ -1,5 +1,5 @@
 -- Laws of tests one after the other.
-use mathlib.Core.Path.{_≡_, refl, ap₂, _∙_}
+use mathlib.Core.Path.{_≡_, refl, ap₂}
 use Prim.Native.Nat.{ℕ, zero, suc, _<_}
 use native.Mathlib.Omega.{arith}
 use Rattle.definitions.specs.Answer.{Answer, fine, refused, failed, _then_}

@@ -1,18 +1,18 @@
 -- The checks of a message that agrees with the formulas are demand 3's conditions.
 use mathlib.Core.Path.{_≡_, refl, sym, ap, ap₂, _∙_}
 use mathlib.Core.Logic.{_↔_}
-use mathlib.Core.List.{List, [], _∷_, flatMap, List-discrete}
+use mathlib.Core.List.{[], _∷_, flatMap, List-discrete}
 use Prim.Native.Nat.{ℕ, _+_, _*_, _%_, _<_}
 use native.Mathlib.Decide.{decLe, ℕ-discrete}
 use native.Mathlib.Omega.{arith}
-use Rattle.lists.specs.Table.{table, cat}
+use Rattle.lists.specs.Table.{table}
 use Rattle.lists.specs.Sum.{Σ}
 use Rattle.lists.proofs.Table.{table-ext}
 use Rattle.lists.proofs.Cat.{cat-ext}
 use Rattle.lists.proofs.Sum.{Σ-ext}
 use Rattle.definitions.specs.Zq.{Q, zsub}
 use Rattle.definitions.specs.Norm.{square, norm}
-use Rattle.definitions.specs.Answer.{Answer, fine, refused, failed, _then_}
+use Rattle.definitions.specs.Answer.{fine, refused, failed, _then_}
 use Rattle.definitions.specs.Rq.{Element, coeff, rzero}
 use Rattle.definitions.specs.Ring.{words, canonical-mod}
 use Rattle.definitions.proofs.ZqRing.{zsub-zero}
@@ -24,7 +24,7 @@ use Rattle.protocol.specs.Formulas as F
 use Rattle.protocol.specs.Formulas.{_⊕_, _⊗_, sum, pairs, rows, triangle, digits-of, norm-of, t-digits, g-digits, h-digits, a-sum, b-sum, u₁-of, u₂-of}
 use Rattle.protocol.specs.Prover.{t-norm, g-norm, h-norm}
 use Rattle.protocol.specs.Conditions.{p-norm, psi-error, sent, computed, digit-sum, alpha-error, conditions}
-use Rattle.protocol.specs.Verifier.{twice, same, z-parts, check-21, check-22, check-23, check-24, check-25, check-26, check-27, check-28, check-29, checks}
+use Rattle.protocol.specs.Verifier.{twice, same, z-parts, check-21, check-22, check-23, check-27, check-28, check-29, checks}
 use Rattle.protocol.proofs.Agrees.{Agrees}
 use Rattle.protocol.proofs.Fine.{require-holds}
 use Rattle.protocol.proofs.Checks.{then-fine, require-iff, first-ext, first-fine}
@@ -50,13 +50,15 @@ module _ (X : Public) (s : ℕ → ℕ → Element) (M : Message) (agrees : Agre
   open Public X using (P, b₀, psi, omega)
   open Parameters P using (n, r, κ, κ₁, κ₂, l, L, beta-sq, beta-prime-sq)
 
-  -- digits of what is sent are digits of the formulas
+  -- the digits of the t that is sent
   same-t : t-digits X (M .t) ≡ t-digits X (F.t X s)
   same-t = ap (digits-of (P .b) (P .t₁)) (rows-ext r κ (M .t) (F.t X s) (agrees .t))
 
+  -- the digits of the g that is sent
   same-g : g-digits X (M .g) ≡ g-digits X (F.g X s)
   same-g = ap (digits-of (P .b) (P .t₂)) (triangle-ext r (M .g) (F.g X s) (agrees .g))
 
+  -- the digits of the h that is sent
   same-h : h-digits X (M .h) ≡ h-digits X (F.h X s)
   same-h = ap (digits-of (P .b) (P .t₁)) (triangle-ext r (M .h) (F.h X s) (agrees .h))
 
@@ -120,15 +122,17 @@ module _ (X : Public) (s : ℕ → ℕ → Element) (M : Message) (agrees : Agre
       require-iff (same (twice (pairs r (λ i j. a-sum X i j ⊗ M .g i j)) ⊕ sum r (λ i. M .h i i)) (twice (b-sum X (M .b″)))) (List-discrete ℕ-discrete (words (alpha-error X s)) rzero)
       (failed 27 []) (failed 27 []) (met .0) (met .1) refl
 
-  -- the norms of the digits that are sent are those of the formulas
+  -- 14 of the t that is sent
   t-norm-is : t-norm X (M .t) ≡ t-norm X (F.t X s)
   unfolding t-norm
   t-norm-is = ap (λ es. require (decLe (norm-of es) (P .bound-B)) (refused 14 0)) same-t
 
+  -- 15 of the g that is sent
   g-norm-is : g-norm X (M .g) ≡ g-norm X (F.g X s)
   unfolding g-norm
   g-norm-is = ap (λ es. require (decLe (norm-of es) (P .bound-C)) (refused 15 0)) same-g
 
+  -- 16 of the h that is sent
   h-norm-is : h-norm X (M .h) ≡ h-norm X (F.h X s)
   unfolding h-norm
   h-norm-is = ap (λ es. require (decLe (norm-of es) (P .bound-D)) (refused 16 0)) same-h

@@ -1,6 +1,6 @@
 -- Constraints weighed: the left side of a weighed sum of constraints is the weighed sum of their left sides.
-use mathlib.Core.Path.{_≡_, refl, sym, ap, ap₂, _∙_}
-use Prim.Native.Nat.{ℕ, _<_}
+use mathlib.Core.Path.{_≡_, refl, ap, ap₂, _∙_}
+use Prim.Native.Nat.{ℕ}
 use Rattle.algebra.specs.Ops as Ops
 use Rattle.algebra.proofs.Sum.{sum-ext}
 use Rattle.algebra.proofs.Dot.{dot-sub-right}

@@ -8,3 +8,4 @@ pub mod Flat
 pub mod Norms
 pub mod Relations
 pub mod ChecksAreConditions
+pub mod Corollary

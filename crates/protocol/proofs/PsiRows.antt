@@ -1,20 +1,19 @@
 -- Check 22's two values: the first less the second is the psi row's sum of errors.
-use mathlib.Core.Path.{_≡_, refl, sym, ap, ap₂, _∙_}
+use mathlib.Core.Path.{_≡_, sym, ap, ap₂, _∙_}
 use Prim.Native.Nat.{ℕ, _+_, _-_, _*_, _/_, _%_, _<_}
 use native.Mathlib.Nat as Nat
 use native.Mathlib.Omega.{arith}
 use Rattle.lists.specs.Sum.{Σ}
-use Rattle.lists.specs.Table.{table}
 use Rattle.algebra.specs.Ops as Ops
 use Rattle.algebra.proofs.Ring.{sub-common}
 use Rattle.algebra.proofs.Sum.{sum-ext, sum-rows}
 use Rattle.algebra.proofs.Dot.{dot-sub-right}
 use Rattle.definitions.specs.Zq.{Q, zsub}
 use Rattle.definitions.specs.Rq.{Element, coeff}
-use Rattle.definitions.specs.Ring.{Residue, residue, ZqOps, RqOps, words, scalar, constant, conj}
+use Rattle.definitions.specs.Ring.{Residue, residue, ZqOps, words, scalar, constant, conj}
 use Rattle.definitions.proofs.ZqRing.{zq-ring, residue-add, residue-mul, residue-reduced, residue-zsub, residue-Σ}
 use Rattle.definitions.proofs.RqRing.{coefficient, coefficient-table, residue-products}
-use Rattle.definitions.proofs.Conjugate.{constant-add, constant-sum, constant-scalar-mul, constant-conj-dot, constant-word}
+use Rattle.definitions.proofs.Conjugate.{constant-add, constant-sum, constant-scalar-mul, constant-conj-dot}
 use Rattle.protocol.specs.Views.{Public}
 use Rattle.protocol.specs.Parameters.{Parameters}
 use Rattle.protocol.specs.Formulas as F

@@ -19,7 +19,7 @@ use Rattle.protocol.specs.Parameters.{Parameters}
 use Rattle.protocol.specs.Formulas as F
 use Rattle.protocol.specs.Formulas.{_⊕_, _⊗_, sum, dot, pairs, left, a-sum, φ-sum, b-sum}
 use Rattle.protocol.specs.Conditions.{alpha-error}
-use Rattle.protocol.specs.Verifier.{twice, same, check-24, check-25, check-26, check-27}
+use Rattle.protocol.specs.Verifier.{twice, same, check-24, check-25, check-26}
 use Rattle.protocol.proofs.Agrees.{Agrees}
 use Rattle.protocol.proofs.Fine.{require-holds}
 use Rattle.protocol.proofs.Checks.{first-fine}
@@ -63,14 +63,17 @@ module _ (X : Public) (s : ℕ → ℕ → Element) (M : Message) (agrees : Agre
       ∙ twice-line-of-comb RqOps rq-ring r n c (φ-sum X) s
       ∙ pairs-ext RqOps r (λ i j. (dot n (φ-sum X i) (s j) ⊕ dot n (φ-sum X j) (s i)) ⊗ c i ⊗ c j) (λ i j. M .h i j ⊗ c i ⊗ c j) (λ i j h l. ap (λ x. x ⊗ c i ⊗ c j) (sym (agrees .h i j h l)))
 
+  -- 24 is fine
   pub check-24-fine : check-24 X M ≡ fine
   unfolding check-24
   check-24-fine = first-fine κ _ (λ k h. require-holds (same (dot n (A k) (M .z)) (sum r (λ i. M .t i k ⊗ c i))) _ (ap words (t-relation k h)))
 
+  -- 25 is fine
   pub check-25-fine : check-25 X M ≡ fine
   unfolding check-25
   check-25-fine = require-holds (same (dot n (M .z) (M .z)) (pairs r (λ i j. M .g i j ⊗ c i ⊗ c j))) _ (ap words g-relation)
 
+  -- 26 is fine
   pub check-26-fine : check-26 X M ≡ fine
   unfolding check-26
   check-26-fine = require-holds (same (twice (sum r (λ i. dot n (φ-sum X i) (M .z) ⊗ c i))) (pairs r (λ i j. M .h i j ⊗ c i ⊗ c j))) _ (ap words h-relation)
