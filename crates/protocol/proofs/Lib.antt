@@ -2,3 +2,4 @@ pub mod Agrees
 pub mod Fine
 pub mod Sections
 pub mod Flat
+pub mod ReadBack
