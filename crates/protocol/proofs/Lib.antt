@@ -3,3 +3,4 @@ pub mod Fine
 pub mod Sections
 pub mod Flat
 pub mod ReadBack
+pub mod Accepted
