@@ -101,6 +101,11 @@ module _ (call : Call) (J R W scratch output : List ℕ) (e : prove call J R W (
       let need = span (made-sections call (parameters J)) in
       ap (take need) output-at-exit ∙ take-at (made X call s) (drop need output) need (length-made call X s)
 
+-- the whole call makes the transcript
+pub made-whole : (X : Public) (s : ℕ → ℕ → Element) → made X whole s ≡ sections (transcript X s)
+unfolding made transcript
+made-whole X s = refl
+
 -- the verifier refuses nothing of a transcript that is made
 pub transcript-fine : (X : Public) (s : ℕ → ℕ → Element) → transcript-refusal (X .P) (sections (transcript X s)) ≡ fine
 unfolding transcript-refusal
