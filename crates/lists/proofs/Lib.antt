@@ -2,4 +2,5 @@ pub mod Table
 pub mod Padded
 pub mod Sum
 pub mod Part
+pub mod Splice
 pub mod Cat
