@@ -11,3 +11,4 @@ pub mod ChecksAreConditions
 pub mod Corollary
 pub mod ReadBack
 pub mod Accepted
+pub mod Demand3
