@@ -87,7 +87,7 @@ module _ (s : Section) (ws : List ℕ) (wss : List (List ℕ)) (size : length ws
   rest-from : drop (place + 1 + s .count) words ≡ sections wss
   rest-from = sym (drop-drop (s .count) (place + 1) words) ∙ ap (drop (s .count)) words-from ∙ drop-at ws (sections wss) (s .count) size
 
--- the counts of filled sections are as expected
+-- the counts of filled sections that stand from a place on are as expected
 counted-fine : {ss : List Section} {wss : List (List ℕ)} → Filled ss wss → (number : ℕ) (words : List ℕ) (place : ℕ) → drop place words ≡ sections wss → counted number words place ss ≡ fine
 unfolding counted
 counted-fine none number words place from = refl
@@ -106,7 +106,7 @@ layout-fine {ss} {wss} f number =
     then-both-fine (counted-fine f number (sections wss) 0 refl)
     (require-holds (decLe (length (sections wss)) (0 + span ss)) (refused number (0 + span ss)) (omega (arith, length-sections f)))
 
--- the words of filled sections are in range
+-- the words of filled sections that stand from a place on are in range
 ranged-at : {ss : List Section} {wss : List (List ℕ)} → Filled ss wss → (number : ℕ) (words : List ℕ) (place : ℕ) → drop place words ≡ sections wss → ranged number words place ss ≡ fine
 unfolding ranged
 ranged-at none number words place from = refl
@@ -116,5 +116,6 @@ ranged-at (more {s} {ws} {ss} {wss} e r f) number words place from =
     ∙ in-range-fine (s .range) number (place + 1) ws r)
     (ranged-at f number words (place + 1 + s .count) (rest-from s ws wss e words place from))
 
+-- the words of filled sections are in range
 pub ranged-fine : {ss : List Section} {wss : List (List ℕ)} → Filled ss wss → (number : ℕ) → ranged number (sections wss) 0 ss ≡ fine
 ranged-fine {wss = wss} f number = ranged-at f number (sections wss) 0 refl
