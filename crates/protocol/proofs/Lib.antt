@@ -9,3 +9,6 @@ pub mod Norms
 pub mod Relations
 pub mod ChecksAreConditions
 pub mod Corollary
+pub mod ReadBack
+pub mod Accepted
+pub mod Demand3
