@@ -12,3 +12,4 @@ pub mod Corollary
 pub mod ReadBack
 pub mod Accepted
 pub mod Demand3
+pub mod Stored
