@@ -3,3 +3,4 @@ pub mod Padded
 pub mod Sum
 pub mod Part
 pub mod Cat
+pub mod Prefix
