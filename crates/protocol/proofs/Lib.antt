@@ -5,3 +5,4 @@ pub mod Flat
 pub mod Then
 pub mod Prefix
 pub mod Alike
+pub mod Rounds
