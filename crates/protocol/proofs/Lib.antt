@@ -2,6 +2,8 @@ pub mod Agrees
 pub mod Fine
 pub mod Sections
 pub mod Flat
+pub mod ReadBack
+pub mod Accepted
 pub mod Then
 pub mod Prefix
 pub mod Alike

@@ -23,6 +23,20 @@ pub data Filled : List Section → List (List ℕ) → Type 0 where
   none : Filled [] []
   more : {s : Section} {ws : List ℕ} {ss : List Section} {wss : List (List ℕ)} → length ws ≡ s .count → InRange (s .range) ws → Filled ss wss → Filled (s ∷ ss) (ws ∷ wss)
 
+-- the first sections filled
+pub filled-take : {ss : List Section} {wss : List (List ℕ)} → Filled ss wss → (m : ℕ) → Filled (take m ss) (take m wss)
+filled-take none zero = none
+filled-take none (suc m) = none
+filled-take (more e r f) zero = none
+filled-take (more e r f) (suc m) = more e r (filled-take f m)
+
+-- the later sections filled
+pub filled-drop : {ss : List Section} {wss : List (List ℕ)} → Filled ss wss → (m : ℕ) → Filled (drop m ss) (drop m wss)
+filled-drop none zero = none
+filled-drop none (suc m) = none
+filled-drop (more e r f) zero = more e r f
+filled-drop (more e r f) (suc m) = filled-drop f m
+
 -- words in range are not refused
 in-range-fine : (range : Range) (number place : ℕ) (ws : List ℕ) → InRange range ws → in-range range number place ws ≡ fine
 in-range-fine free number place ws h = refl
