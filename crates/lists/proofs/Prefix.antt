@@ -3,7 +3,7 @@ use mathlib.Core.Path.{_≡_, sym, ap, _∙_}
 use mathlib.Core.List.{List}
 use Prim.Native.Nat.{ℕ, _+_, _≤_, _<_}
 use lib.ListN.{getD, take, drop}
-use lib.Seq.{take-take, getD-take}
+use lib.Seq.{getD-take}
 use Rattle.lists.proofs.Part.{part-of-take}
 
 module _ {ℓ} {A : Type ℓ} (n : ℕ) (l l′ : List A) (alike : take n l ≡ take n l′) where

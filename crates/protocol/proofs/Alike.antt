@@ -1,12 +1,10 @@
 -- Two slices of randomness that begin alike: the views and formulas that read no further are the same.
-use mathlib.Core.Path.{_≡_, refl, sym, ap, ap₂, _∙_}
-use mathlib.Core.List.{List, [], _∷_, _++_}
-use Prim.Native.Nat.{ℕ, zero, suc, _+_, _*_, _%_, _≤_, _<_}
+use mathlib.Core.Path.{_≡_, refl, ap, ap₂}
+use mathlib.Core.List.{List}
+use Prim.Native.Nat.{ℕ, _+_, _*_, _%_, _≤_, _<_}
 use native.Mathlib.Nat.{mul-le-mul-right}
 use native.Mathlib.Omega.{arith}
-use lib.ListN.{length, getD, take, drop}
-use Rattle.lists.specs.Table.{table}
-use Rattle.lists.specs.Sum.{Σ}
+use lib.ListN.{getD, take}
 use Rattle.lists.proofs.Table.{table-ext}
 use Rattle.lists.proofs.Sum.{Σ-ext}
 use Rattle.lists.proofs.Prefix.{getD-alike, part-alike}
@@ -19,10 +17,10 @@ use Rattle.definitions.specs.Ring.{RqOps, element, scale, conj}
 use Rattle.definitions.specs.Projection.{entry}
 use Rattle.definitions.specs.Challenge.{challenge}
 use Rattle.protocol.specs.Parameters.{Parameters, parameters}
-use Rattle.protocol.specs.Layout.{Section, part, span, start, randomness-sections}
-use Rattle.protocol.specs.Views.{Public, public}
+use Rattle.protocol.specs.Layout.{part, span, start, randomness-sections}
+use Rattle.protocol.specs.Views.{public}
 use Rattle.protocol.specs.Formulas as F
-use Rattle.protocol.specs.Formulas.{_⊕_, _⊗_, sum, dot, coefficient}
+use Rattle.protocol.specs.Formulas.{_⊕_, _⊗_, coefficient}
 
 -- the words of the first m sections of randomness, counts included
 abbrev pub upto : Parameters → ℕ → ℕ

@@ -7,4 +7,6 @@ pub mod Accepted
 pub mod Then
 pub mod Prefix
 pub mod Alike
+pub mod Handed
 pub mod Rounds
+pub mod Total

@@ -1,27 +1,27 @@
 -- Layout and ranges of sections: of sections one after the other, and of a slice's prefix.
 use mathlib.Core.Path.{_≡_, refl, sym, ap, ap₂, _∙_}
 use mathlib.Core.Bool.{Bool, true, false, cond}
-use mathlib.Core.List.{List, [], _∷_, _++_}
-use Prim.Native.Nat.{ℕ, zero, suc, _+_, _≤_, _<_, min}
-use native.Mathlib.Nat.{add-zero}
+use mathlib.Core.List.{List, [], _∷_, _++_, append-assoc}
+use Prim.Native.Nat.{ℕ, _+_, _≤_}
+use native.Mathlib.Nat.{add-zero, zero-add}
 use native.Mathlib.Decide.{decLe}
 use native.Mathlib.Omega.{arith}
 use borrow.Author.Tests.{lt-ltb}
 use lib.Dec.{ltb, eqb}
-use lib.ListN.{length, getD, take, drop, length-take}
+use lib.ListN.{length, getD, take, length-take}
 use lib.Seq.{take-all, length-take-le, getD-take}
 use Rattle.lists.proofs.Part.{part-of-take}
-use Rattle.definitions.specs.Answer.{Answer, fine, refused, failed, _then_}
+use Rattle.definitions.specs.Answer.{Answer, fine, refused, _then_}
 use Rattle.protocol.specs.Checks.{require}
-use Rattle.protocol.specs.Layout.{Section, span, counted, ends, layout, in-range, ranged, part}
+use Rattle.protocol.specs.Layout.{Section, span, sections, counted, ends, layout, in-range, ranged, part}
 use Rattle.protocol.proofs.Fine.{require-holds}
-use Rattle.protocol.proofs.Then.{then-assoc}
+use Rattle.protocol.proofs.Then.{then-assoc, then-fine}
 
--- the words of sections one after the other
-pub span-append : (ss ss′ : List Section) → span (ss ++ ss′) ≡ span ss + span ss′
-unfolding span
-span-append [] ss′ = omega arith
-span-append (s ∷ ss) ss′ = ap (λ k. 1 + s .count + k) (span-append ss ss′) ∙ omega arith
+-- sections of words one after the other
+pub sections-append : (wss wss′ : List (List ℕ)) → sections (wss ++ wss′) ≡ sections wss ++ sections wss′
+unfolding sections
+sections-append [] wss′ = refl
+sections-append (ws ∷ wss) wss′ = ap (λ l. (length ws ∷ ws) ++ l) (sections-append wss wss′) ∙ sym (append-assoc (length ws ∷ ws) (sections wss) (sections wss′))
 
 -- the place after a section, and after those behind it
 regroup : (place count rest : ℕ) → place + 1 + count + rest ≡ place + (1 + count + rest)
@@ -103,3 +103,29 @@ module _ (number : ℕ) (words : List ℕ) (n : ℕ) where
   -- a prefix ends where it ends
   pub ends-prefix : ends number (take n words) n ≡ fine
   ends-prefix = require-holds (decLe (length (take n words)) n) (refused number n) (rw length-take (omega arith))
+
+module _ (number number′ : ℕ) (words : List ℕ) where
+  -- sections from the start, and what follows them not handed: their counts, then their ranges
+  pub refusal-of-prefix : (ss : List Section)
+      → layout number (take (span ss) words) 0 ss then ranged number′ (take (span ss) words) 0 ss ≡ counted number words 0 ss then ranged number′ words 0 ss
+  unfolding layout
+  refusal-of-prefix ss =
+      ap₂ _then_
+      (ap₂ _then_
+      (counted-prefix number words (span ss) 0 ss (omega arith))
+      (ap (ends number (take (span ss) words)) (zero-add (span ss)) ∙ ends-prefix number words (span ss))
+      ∙ then-fine (counted number words 0 ss))
+      (ranged-prefix number′ words (span ss) 0 ss (omega arith))
+
+  -- sections from the start, and others behind them: the counts of both, and nothing surplus, then the ranges of both
+  pub refusal-of-all : (ss ss′ : List Section)
+      → layout number words 0 (ss ++ ss′) then ranged number′ words 0 (ss ++ ss′)
+      ≡ counted number words 0 ss then counted number words (span ss) ss′ then ends number words (span (ss ++ ss′)) then ranged number′ words 0 ss then ranged number′ words (span ss) ss′
+  unfolding layout
+  refusal-of-all ss ss′ =
+      ap₂ _then_
+      (ap₂ _then_
+      (counted-append number words 0 ss ss′ ∙ ap (λ k. counted number words 0 ss then counted number words k ss′) (zero-add (span ss)))
+      (ap (ends number words) (zero-add (span (ss ++ ss′)))))
+      (ranged-append number′ words 0 ss ss′ ∙ ap (λ k. ranged number′ words 0 ss then ranged number′ words k ss′) (zero-add (span ss)))
+      ∙ sym (then-assoc (counted number words 0 ss then counted number words (span ss) ss′ then ends number words (span (ss ++ ss′))) (ranged number′ words 0 ss) (ranged number′ words (span ss) ss′))

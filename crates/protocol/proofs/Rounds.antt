@@ -1,109 +1,190 @@
--- The five rounds against the whole call: what they make, and what they refuse.
+-- The five rounds against the whole call: their outputs joined are its output, and a round refuses what it refuses up to that point.
 use mathlib.Core.Path.{_≡_, refl, sym, ap, ap₂, _∙_}
-use mathlib.Core.Bool.{true, false, cond}
-use mathlib.Core.List.{List, [], _∷_, _++_, append-assoc, append-nil}
-use Prim.Native.Nat.{ℕ, _+_, _≤_, _<_}
-use native.Mathlib.Nat.{le-refl}
+use mathlib.Core.Logic.{_≢_, _↔_}
+use mathlib.Core.Bool.{Bool, true, false, cond}
+use mathlib.Core.List.{List, [], _++_}
+use Prim.Native.Nat.{ℕ, _+_, _≤_}
+use native.Mathlib.Nat.{le-refl, zero-add}
 use native.Mathlib.Decide.{decLe}
-use native.Mathlib.Omega.{arith}
-use lib.ListN.{length, take, drop}
-use lib.Seq.{take-take}
-use Rattle.lists.specs.Table.{table, cat}
-use Rattle.lists.proofs.Table.{table-ext}
-use Rattle.lists.proofs.Cat.{cat-ext}
-use Rattle.definitions.specs.Answer.{Answer, fine, refused, failed, _then_}
+use lib.ListN.{length, take, drop, take-append-drop}
+use lib.Seq.{take-take, take-all}
+use Rattle.definitions.specs.Answer.{Answer, fine, refused, _then_}
 use Rattle.definitions.specs.Rq.{Element}
 use Rattle.protocol.specs.Checks.{require}
 use Rattle.protocol.specs.Parameters.{Parameters, parameters}
-use Rattle.protocol.specs.Layout.{span, sections, randomness-sections}
-use Rattle.protocol.specs.Views.{Public, public}
+use Rattle.protocol.specs.Layout.{span, counted, ends, layout, ranged, randomness-sections, job-refusal, randomness-refusal, witness-refusal, scratch-refusal, scratch-need}
+use Rattle.protocol.specs.Views.{Public, public, witness}
 use Rattle.protocol.specs.Formulas as F
-use Rattle.protocol.specs.Formulas.{flat, rows, triangle, norm-of, digits-of, times}
-use Rattle.protocol.specs.Prover.{Call, whole, round₁, round₂, round₃, round₄, round₅, witness-norm, t-norm, g-norm, h-norm, work-refusal, transcript, made}
-use Rattle.protocol.proofs.Then.{then-assoc, then-fine}
-use Rattle.protocol.proofs.Alike.{upto, u₁-same, p-alike, b″-alike, h-alike, z-alike}
+use Rattle.protocol.specs.Formulas.{norm-of, h-digits}
+use Rattle.protocol.specs.Prover.{Call, whole, made-sections, prove-refusal, witness-norm, t-norm, g-norm, h-norm, work-refusal, transcript, made, prove, prove-output}
+use Rattle.protocol.proofs.Fine.{refused-not-fine, require-holds, required, then-both-fine, then-fine-left, then-fine-each}
+use Rattle.protocol.proofs.Then.{then-assoc, then-either, then-only, refused-first}
+use Rattle.protocol.proofs.Prefix.{sections-append, refusal-of-prefix, refusal-of-all}
+use Rattle.protocol.proofs.Accepted.{job-kappa, Admitted, admitted, before-work, in-work, output-made}
+use Rattle.protocol.proofs.Alike.{upto}
+use Rattle.protocol.proofs.Handed.{Round, one, two, three, four, five, call, handed-to, made-alike, work-alike}
 
--- the five rounds
-pub data Round : Type 0 where
-  one two three four five : Round
-
--- the call of a round
-abbrev pub call : Round → Call
-call one = round₁
-call two = round₂
-call three = round₃
-call four = round₄
-call five = round₅
-
--- "A round's randomness slice ends after the first 0, 1, 3, 5 or 7 sections.": what a call is handed of the whole call's randomness
-abbrev pub handed-to : Call → List ℕ → List ℕ → List ℕ
-handed-to c J R = take (upto (parameters J) (c .handed)) R
-
--- fewer sections take fewer words
-seven-hold-five : (P : Parameters) → upto P 5 ≤ upto P 7
-unfolding span
-seven-hold-five P = omega arith
-
-module _ (J R R′ : List ℕ) (s : ℕ → ℕ → Element) where
-  open Parameters (parameters J) using (n, r, κ, κ₁, κ₂, b, t₁, L, bound-D)
-
-  -- the triangle h, from randomness that is alike for five sections
-  h-triangle-alike : (N : ℕ) → take N R ≡ take N R′ → upto (parameters J) 5 ≤ N → triangle r (F.h (public J R) s) ≡ triangle r (F.h (public J R′) s)
-  unfolding triangle
-  h-triangle-alike N alike within =
-      cat-ext r (λ i. table (i + 1) (F.h (public J R) s i)) (λ i. table (i + 1) (F.h (public J R′) s i))
-      (λ i hi. table-ext (i + 1) (F.h (public J R) s i) (F.h (public J R′) s i) (λ j hj. h-alike J R R′ N alike s within i j hi (omega arith)))
-
-  -- what a round makes depends on no more randomness than it is handed
-  pub made-alike : (ρ : Round) → κ ≡ L → handed-to (call ρ) J R ≡ handed-to (call ρ) J R′ → made (public J R) (call ρ) s ≡ made (public J R′) (call ρ) s
-  unfolding made transcript F.t F.g F.u₂ F.u₂-of
-  made-alike one κ-is-L alike = ap (λ f. sections (flat (table κ₁ f) ∷ [])) (u₁-same J R R′ 0 refl s)
-  made-alike two κ-is-L alike =
-      ap (λ l. sections (l ∷ []))
-      (table-ext 256 (F.p (public J R) s) (F.p (public J R′) s) (p-alike J R R′ (upto (parameters J) 1) alike s (le-refl (upto (parameters J) 1))))
-  made-alike three κ-is-L alike =
-      ap (λ l. sections (flat l ∷ []))
-      (table-ext κ (F.b″ (public J R) s) (F.b″ (public J R′) s)
-      (λ k hk. b″-alike J R R′ (upto (parameters J) 3) alike s (le-refl (upto (parameters J) 3)) k (rw κ-is-L at hk)))
-  made-alike four κ-is-L alike =
-      ap (λ l. sections (flat (table κ₂ (times (public J R .D) (digits-of b t₁ l))) ∷ []))
-      (h-triangle-alike (upto (parameters J) 5) alike (le-refl (upto (parameters J) 5)))
-  made-alike five κ-is-L alike =
-      ap₂ (λ z h. sections (flat z ∷ flat (rows r κ (F.t (public J R) s)) ∷ flat (triangle r (F.g (public J R) s)) ∷ flat h ∷ []))
-      (table-ext n (F.z (public J R) s) (F.z (public J R′) s) (λ m hm. z-alike J R R′ (upto (parameters J) 7) alike s (le-refl (upto (parameters J) 7)) m))
-      (h-triangle-alike (upto (parameters J) 7) alike (seven-hold-five (parameters J)))
-
-  -- the refusals before h read no randomness
-  norms-same : witness-norm (public J R) s then t-norm (public J R) (F.t (public J R) s) then g-norm (public J R) (F.g (public J R) s)
-      ≡ witness-norm (public J R′) s then t-norm (public J R′) (F.t (public J R′) s) then g-norm (public J R′) (F.g (public J R′) s)
-  unfolding witness-norm t-norm g-norm F.t F.g
-  norms-same = refl
-
-  -- that of h reads five sections
-  h-norm-alike : (N : ℕ) → take N R ≡ take N R′ → upto (parameters J) 5 ≤ N → h-norm (public J R) (F.h (public J R) s) ≡ h-norm (public J R′) (F.h (public J R′) s)
-  unfolding h-norm
-  h-norm-alike N alike within = ap (λ l. require (decLe (norm-of (digits-of b t₁ l)) bound-D) (refused 16 0)) (h-triangle-alike N alike within)
-
-  -- what a round refuses in its work depends on no more randomness than it is handed
-  pub work-alike : (ρ : Round) → handed-to (call ρ) J R ≡ handed-to (call ρ) J R′ → work-refusal (public J R) (call ρ) s ≡ work-refusal (public J R′) (call ρ) s
-  unfolding work-refusal
-  work-alike one alike = ap (λ a. a then fine) norms-same
-  work-alike two alike = ap (λ a. a then fine) norms-same
-  work-alike three alike = ap (λ a. a then fine) norms-same
-  work-alike four alike = ap₂ _then_ norms-same (h-norm-alike (upto (parameters J) 5) alike (le-refl (upto (parameters J) 5)))
-  work-alike five alike = ap₂ _then_ norms-same (h-norm-alike (upto (parameters J) 7) alike (seven-hold-five (parameters J)))
-
--- the whole call's refusals are a round's, then 16 where the round works out no h
-pub work-of-whole : (X : Public) (s : ℕ → ℕ → Element) (ρ : Round) → work-refusal X whole s ≡ work-refusal X (call ρ) s then cond (call ρ .has-h) fine (h-norm X (F.h X s))
+-- the whole call's refusals in its work are a call's, then 16 where the call works out no h
+pub work-of-whole : (X : Public) (s : ℕ → ℕ → Element) (c : Call) → work-refusal X whole s ≡ work-refusal X c s then cond (c .has-h) fine (h-norm X (F.h X s))
 unfolding work-refusal
-work-of-whole X s ρ = go ρ
-  where
-    before : Answer
-    before = witness-norm X s then t-norm X (F.t X s) then g-norm X (F.g X s)
+work-of-whole X s c = then-either (c .has-h) (witness-norm X s then t-norm X (F.t X s) then g-norm X (F.g X s)) (h-norm X (F.h X s))
 
-    go : (ρ : Round) → before then h-norm X (F.h X s) ≡ before then cond (call ρ .has-h) (h-norm X (F.h X s)) fine then cond (call ρ .has-h) fine (h-norm X (F.h X s))
-    go one = ap (λ a. a then h-norm X (F.h X s)) (sym (then-fine before))
-    go two = ap (λ a. a then h-norm X (F.h X s)) (sym (then-fine before))
-    go three = ap (λ a. a then h-norm X (F.h X s)) (sym (then-fine before))
-    go four = sym (then-fine (before then h-norm X (F.h X s)))
-    go five = sym (then-fine (before then h-norm X (F.h X s)))
+-- what h is refused for is 16
+h-refusal : (X : Public) (s : ℕ → ℕ → Element) (c : Call) (n p : ℕ) → n ≢ 16 → cond (c .has-h) fine (h-norm X (F.h X s)) ≡ refused n p → ⊥
+unfolding h-norm
+h-refusal X s c n p other = go (c .has-h) (decLe (norm-of (h-digits X (F.h X s))) (X .P .bound-D))
+  where
+    go : (t : Bool) (d : Dec (norm-of (h-digits X (F.h X s)) ≤ X .P .bound-D)) → cond t fine (require d (refused 16 0)) ≡ refused n p → ⊥
+    go true d e = refused-not-fine n p (sym e)
+    go false (yes h) e = refused-not-fine n p (sym e)
+    go false (no h) e = other (cc)
+
+-- an answer that is another, then that for h: they give the same refusals but for 16
+but-16 : (X : Public) (s : ℕ → ℕ → Element) (c : Call) (a b : Answer) → a ≡ b then cond (c .has-h) fine (h-norm X (F.h X s)) → (n p : ℕ) → n ≢ 16 → (a ≡ refused n p) ↔ (b ≡ refused n p)
+but-16 X s c a b e n p other =
+    let last = cond (c .has-h) fine (h-norm X (F.h X s)) in
+    (λ f. refused-first b last n p (h-refusal X s c n p other) (sym e ∙ f), λ f. e ∙ ap (λ x. x then last) f)
+
+-- a call's work refuses what the whole call's does, but for 16
+pub work-refuses : (X : Public) (s : ℕ → ℕ → Element) (c : Call) (n p : ℕ) → n ≢ 16 → (work-refusal X whole s ≡ refused n p) ↔ (work-refusal X c s ≡ refused n p)
+work-refuses X s c = but-16 X s c (work-refusal X whole s) (work-refusal X c s) (work-of-whole X s c)
+
+-- where the whole call's work refuses nothing, no call's does
+pub work-fine : (X : Public) (s : ℕ → ℕ → Element) (c : Call) → work-refusal X whole s ≡ fine → work-refusal X c s ≡ fine
+work-fine X s c e = then-fine-left (work-refusal X c s) (cond (c .has-h) fine (h-norm X (F.h X s))) (sym (work-of-whole X s c) ∙ e)
+
+module _ (P : Parameters) (m : ℕ) (R : List ℕ) where
+  -- what is wrong with the randomness beyond its first m sections
+  abbrev pub beyond : Answer
+  beyond = counted 7 R (upto P m) (drop m (randomness-sections P)) then ends 7 R (upto P 7) then ranged 8 R (upto P m) (drop m (randomness-sections P))
+
+  -- where the counts of the first m sections are right, nothing is wrong beyond them
+  abbrev pub NothingBeyond : Type 0
+  NothingBeyond = counted 7 R 0 (take m (randomness-sections P)) ≡ fine → beyond ≡ fine
+
+  -- then the first m sections handed alone are refused as all are
+  pub same-randomness : NothingBeyond → randomness-refusal P m (take (upto P m) R) ≡ randomness-refusal P 7 R
+  unfolding randomness-refusal
+  same-randomness h =
+      let ss = randomness-sections P in
+      refusal-of-prefix 7 8 R (take m ss)
+      ∙ sym (then-only (counted 7 R 0 (take m ss)) (counted 7 R (upto P m) (drop m ss)) (ends 7 R (upto P 7)) (ranged 8 R 0 (take m ss)) (ranged 8 R (upto P m) (drop m ss)) h)
+      ∙ sym (rw (take-append-drop m ss) at (refusal-of-all 7 8 R (take m ss) (drop m ss)))
+
+  -- randomness that is not refused is not refused where its first m sections are handed alone
+  pub fine-randomness : randomness-refusal P 7 R ≡ fine → randomness-refusal P m (take (upto P m) R) ≡ fine
+  unfolding randomness-refusal
+  fine-randomness e =
+      let ss = randomness-sections P in
+      let all = rw (take-append-drop m ss) at (refusal-of-all 7 8 R (take m ss) (drop m ss)) in
+      let each = then-fine-each (counted 7 R 0 (take m ss)) (counted 7 R (upto P m) (drop m ss)) (ends 7 R (upto P 7)) (ranged 8 R 0 (take m ss)) (ranged 8 R (upto P m) (drop m ss)) (sym all ∙ e) in
+      refusal-of-prefix 7 8 R (take m ss) ∙ then-both-fine (each .0) (each .3)
+
+-- what is handed of what is handed
+handed-twice : (c : Call) (J R : List ℕ) → handed-to c J (handed-to c J R) ≡ handed-to c J R
+handed-twice c J R = take-take (upto (parameters J) (c .handed)) (upto (parameters J) (c .handed)) R (le-refl (upto (parameters J) (c .handed)))
+
+module _ (J R W : List ℕ) (scratch output : ℕ) (ρ : Round) (output′ : ℕ)
+    (later : NothingBeyond (parameters J) (call ρ .handed) R)
+    (enough : span (made-sections whole (parameters J)) ≤ output)
+    (enough′ : span (made-sections (call ρ) (parameters J)) ≤ output′) where
+  -- before the work a round refuses what the whole call refuses, if nothing is wrong with the randomness that the round is not handed
+  pub round-refusal : prove-refusal (call ρ) J (handed-to (call ρ) J R) W scratch output′ ≡ prove-refusal whole J R W scratch output
+  unfolding prove-refusal
+  round-refusal =
+      let P = parameters J in
+      ap₂ (λ a b. job-refusal J then a then witness-refusal P W then scratch-refusal P scratch then b)
+      (same-randomness P (call ρ .handed) R later)
+      (require-holds (decLe (span (made-sections (call ρ) P)) output′) (refused 2 (span (made-sections (call ρ) P))) enough′
+      ∙ sym (require-holds (decLe (span (made-sections whole P)) output) (refused 2 (span (made-sections whole P))) enough))
+
+  -- the whole call's answer is the round's, then 16 where the round works out no h
+  pub round-answer : prove whole J R W scratch output
+      ≡ prove (call ρ) J (handed-to (call ρ) J R) W scratch output′ then cond (call ρ .has-h) fine (h-norm (public J R) (F.h (public J R) (witness (parameters J) W)))
+  unfolding prove
+  round-answer =
+      let P = parameters J in
+      let X = public J R in
+      let s = witness P W in
+      let last = cond (call ρ .has-h) fine (h-norm X (F.h X s)) in
+      ap (λ a. prove-refusal whole J R W scratch output then a) (work-of-whole X s (call ρ))
+      ∙ sym (then-assoc (prove-refusal whole J R W scratch output) (work-refusal X (call ρ) s) last)
+      ∙ ap₂ (λ a w. a then w then last) (sym round-refusal) (sym (work-alike J (handed-to (call ρ) J R) R s ρ (handed-twice (call ρ) J R)))
+
+  -- "A round refuses what the whole call refuses up to that point.": all but 16, which is the fourth round's and the fifth's
+  pub round-refuses : (n p : ℕ) → n ≢ 16 → (prove whole J R W scratch output ≡ refused n p) ↔ (prove (call ρ) J (handed-to (call ρ) J R) W scratch output′ ≡ refused n p)
+  round-refuses = but-16 (public J R) (witness (parameters J) W) (call ρ) (prove whole J R W scratch output) (prove (call ρ) J (handed-to (call ρ) J R) W scratch output′) round-answer
+
+-- the first round is handed an empty slice
+pub handed-none : (J R : List ℕ) → handed-to (call one) J R ≡ []
+unfolding span
+handed-none J R = refl
+
+-- the fifth round is handed all of a randomness that is not refused
+pub handed-all : (J R : List ℕ) → randomness-refusal (parameters J) 7 R ≡ fine → handed-to (call five) J R ≡ R
+unfolding randomness-refusal layout
+handed-all J R e =
+    let ss = randomness-sections (parameters J) in
+    let each = then-fine-each fine fine (counted 7 R 0 ss) (ends 7 R (0 + span ss)) (ranged 8 R 0 ss) e in
+    let within : length R ≤ 0 + span ss = required (decLe (length R) (0 + span ss)) (refused 7 (0 + span ss)) (refused-not-fine 7 (0 + span ss)) (each .3) in
+    take-all (span ss) R (rw zero-add at within)
+
+-- lists of the five rounds, one after the other
+abbrev pub joined : (Round → List ℕ) → List ℕ
+joined f = f one ++ f two ++ f three ++ f four ++ f five
+
+-- equal lists joined
+joined-ext : (f g : Round → List ℕ) → ((ρ : Round) → f ρ ≡ g ρ) → joined f ≡ joined g
+joined-ext f g h = λ i. joined (λ ρ. h ρ i)
+
+-- what the rounds make, joined
+made-joined : (X : Public) (s : ℕ → ℕ → Element) → joined (λ ρ. made X (call ρ) s) ≡ made X whole s
+unfolding made transcript
+made-joined X s = simp (← sections-append)
+
+-- what the rounds make, each of the randomness that it is handed, joined is what the whole call makes
+pub rounds-made : (J R : List ℕ) (s : ℕ → ℕ → Element) → parameters J .κ ≡ parameters J .L
+    → joined (λ ρ. made (public J (handed-to (call ρ) J R)) (call ρ) s) ≡ made (public J R) whole s
+rounds-made J R s κ-is-L =
+    joined-ext (λ ρ. made (public J (handed-to (call ρ) J R)) (call ρ) s) (λ ρ. made (public J R) (call ρ) s)
+    (λ ρ. made-alike J (handed-to (call ρ) J R) R s ρ κ-is-L (handed-twice (call ρ) J R))
+    ∙ made-joined (public J R) s
+
+-- the needed part of the output that a call leaves
+abbrev pub needed : Call → (J R W scratch output : List ℕ) → List ℕ
+needed c J R W scratch output = take (span (made-sections c (parameters J))) (prove-output c J R W scratch output)
+
+module _ (J R W scratch output : List ℕ) (whole-fine : prove whole J R W (length scratch) (length output) ≡ fine) where
+  -- the whole call is not refused before the work
+  whole-admitted : Admitted whole J R W (length scratch) (length output)
+  whole-admitted = admitted whole J R W (length scratch) (length output) (before-work whole J R W scratch output whole-fine)
+
+  -- where the whole call is fine each round is, with buffers long enough
+  pub round-fine : (ρ : Round) (scratch′ output′ : ℕ) → scratch-need (parameters J) ≤ scratch′ → span (made-sections (call ρ) (parameters J)) ≤ output′
+      → prove (call ρ) J (handed-to (call ρ) J R) W scratch′ output′ ≡ fine
+  unfolding prove prove-refusal
+  round-fine ρ scratch′ output′ enough enough′ =
+      let P = parameters J in
+      let s = witness P W in
+      then-both-fine
+      (then-both-fine
+      (then-both-fine
+      (then-both-fine
+      (then-both-fine (whole-admitted .job) (fine-randomness P (call ρ .handed) R (whole-admitted .randomness)))
+      (whole-admitted .witness))
+      (require-holds (decLe (scratch-need P) scratch′) (refused 1 (scratch-need P)) enough))
+      (require-holds (decLe (span (made-sections (call ρ) P)) output′) (refused 2 (span (made-sections (call ρ) P))) enough′))
+      (work-alike J (handed-to (call ρ) J R) R s ρ (handed-twice (call ρ) J R)
+      ∙ work-fine (public J R) s (call ρ) (in-work whole J R W scratch output whole-fine))
+
+  -- "The five outputs, their sections' counts included, joined equal the whole call's.": with any buffers that are long enough
+  pub rounds-joined : (scratches outputs : Round → List ℕ)
+      → ((ρ : Round) → scratch-need (parameters J) ≤ length (scratches ρ))
+      → ((ρ : Round) → span (made-sections (call ρ) (parameters J)) ≤ length (outputs ρ))
+      → joined (λ ρ. needed (call ρ) J (handed-to (call ρ) J R) W (scratches ρ) (outputs ρ)) ≡ needed whole J R W scratch output
+  rounds-joined scratches outputs enough enough′ =
+      let s = witness (parameters J) W in
+      joined-ext (λ ρ. needed (call ρ) J (handed-to (call ρ) J R) W (scratches ρ) (outputs ρ)) (λ ρ. made (public J (handed-to (call ρ) J R)) (call ρ) s)
+      (λ ρ. output-made (call ρ) J (handed-to (call ρ) J R) W (scratches ρ) (outputs ρ) (round-fine ρ (length (scratches ρ)) (length (outputs ρ)) (enough ρ) (enough′ ρ)))
+      ∙ rounds-made J R s (job-kappa J (whole-admitted .job))
+      ∙ sym (output-made whole J R W scratch output whole-fine)
