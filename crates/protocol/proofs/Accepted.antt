@@ -1,18 +1,18 @@
 -- What a fine answer of the prover says, and what it then leaves in the output; the verifier refuses nothing of it.
-use mathlib.Core.Path.{_≡_, refl, sym, ap, _∙_}
-use mathlib.Core.List.{List, [], _∷_, _++_}
+use mathlib.Core.Path.{_≡_, refl, ap, _∙_}
+use mathlib.Core.List.{List, _++_}
 use Prim.Native.Nat.{ℕ, _≤_}
 use native.Mathlib.Decide.{decLe, ℕ-discrete}
 use lib.ListN.{length, take, drop}
 use lib.Seq.{take-at}
-use Rattle.definitions.specs.Answer.{Answer, fine, refused, result, _then_}
+use Rattle.definitions.specs.Answer.{fine, refused, result}
 use Rattle.definitions.specs.Rq.{Element}
-use Rattle.protocol.specs.Parameters.{Parameters, parameters, limits, kappa-is-L}
-use Rattle.protocol.specs.Layout.{span, sections, counted, layout, ranged, first-section, job-sections, transcript-sections, job-refusal, randomness-refusal, witness-refusal, transcript-refusal, scratch-refusal, output-refusal, scratch-need}
+use Rattle.protocol.specs.Parameters.{parameters, limits, kappa-is-L}
+use Rattle.protocol.specs.Layout.{span, sections, counted, layout, ranged, first-section, job-sections, job-refusal, randomness-refusal, witness-refusal, transcript-refusal, scratch-refusal, output-refusal, scratch-need}
 use Rattle.protocol.specs.Views.{Public, public, witness}
 use Rattle.protocol.specs.Formulas as F
 use Rattle.protocol.specs.Prover.{Call, whole, made-sections, prove-refusal, witness-norm, t-norm, g-norm, h-norm, work-refusal, transcript, made, zeroed, prove, prove-output}
-use Rattle.protocol.proofs.Fine.{require-holds, required, refused-not-fine, then-both-fine, then-fine-left, then-fine-right, then-fine-each}
+use Rattle.protocol.proofs.Fine.{required, refused-not-fine, then-both-fine, then-fine-left, then-fine-right, then-fine-each}
 use Rattle.protocol.proofs.Sections.{Filled, filled-take, filled-drop, length-sections, layout-fine, ranged-fine}
 use Rattle.protocol.proofs.ReadBack.{transcript-filled}
 
@@ -100,6 +100,11 @@ module _ (call : Call) (J R W scratch output : List ℕ) (e : prove call J R W (
       let s = witness (parameters J) W in
       let need = span (made-sections call (parameters J)) in
       ap (take need) output-at-exit ∙ take-at (made X call s) (drop need output) need (length-made call X s)
+
+-- the whole call makes the transcript
+pub made-whole : (X : Public) (s : ℕ → ℕ → Element) → made X whole s ≡ sections (transcript X s)
+unfolding made transcript
+made-whole X s = refl
 
 -- the verifier refuses nothing of a transcript that is made
 pub transcript-fine : (X : Public) (s : ℕ → ℕ → Element) → transcript-refusal (X .P) (sections (transcript X s)) ≡ fine

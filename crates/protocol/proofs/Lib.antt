@@ -1,7 +1,14 @@
 pub mod Agrees
+pub mod Checks
+pub mod Constraints
+pub mod PsiRows
 pub mod Fine
 pub mod Sections
 pub mod Flat
+pub mod Norms
+pub mod Relations
+pub mod ChecksAreConditions
+pub mod Corollary
 pub mod ReadBack
 pub mod Accepted
 pub mod Then
@@ -10,3 +17,4 @@ pub mod Alike
 pub mod Handed
 pub mod Rounds
 pub mod Total
+pub mod Demand3

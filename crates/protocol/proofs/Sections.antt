@@ -9,8 +9,8 @@ use borrow.Author.Tests.{lt-ltb, eq-eqb}
 use lib.Dec.{ltb, eqb}
 use lib.ListN.{length, getD, take, drop, length-append, length-drop}
 use lib.Seq.{take-at, take-append-seam, drop-append-add, drop-at, drop-drop, getD-drop, getD-take}
-use Rattle.definitions.specs.Answer.{Answer, fine, refused, _then_}
-use Rattle.protocol.specs.Layout.{Range, free, under, Section, part, span, start, sections, counted, ends, layout, in-range, ranged}
+use Rattle.definitions.specs.Answer.{fine, refused}
+use Rattle.protocol.specs.Layout.{Range, free, under, Section, part, span, start, sections, counted, layout, in-range, ranged}
 use Rattle.protocol.proofs.Fine.{require-holds, then-both-fine, below-fine}
 
 -- each word is in the range
