@@ -18,3 +18,4 @@ pub mod Handed
 pub mod Rounds
 pub mod Total
 pub mod Demand3
+pub mod Examples

@@ -15,7 +15,8 @@ use Rattle.definitions.specs.Answer.{Answer, fine, refused, _then_}
 use Rattle.protocol.specs.Checks.{require}
 use Rattle.protocol.specs.Layout.{Section, span, sections, counted, ends, layout, in-range, ranged, part}
 use Rattle.protocol.proofs.Fine.{require-holds}
-use Rattle.protocol.proofs.Then.{then-assoc, then-fine}
+use Rattle.protocol.proofs.Then.{then-assoc}
+use Rattle.protocol.proofs.Checks.{then-fine}
 
 -- sections of words one after the other
 pub sections-append : (wss wss′ : List (List ℕ)) → sections (wss ++ wss′) ≡ sections wss ++ sections wss′
@@ -128,4 +129,7 @@ module _ (number number′ : ℕ) (words : List ℕ) where
       (counted-append number words 0 ss ss′ ∙ ap (λ k. counted number words 0 ss then counted number words k ss′) (zero-add (span ss)))
       (ap (ends number words) (zero-add (span (ss ++ ss′)))))
       (ranged-append number′ words 0 ss ss′ ∙ ap (λ k. ranged number′ words 0 ss then ranged number′ words k ss′) (zero-add (span ss)))
-      ∙ sym (then-assoc (counted number words 0 ss then counted number words (span ss) ss′ then ends number words (span (ss ++ ss′))) (ranged number′ words 0 ss) (ranged number′ words (span ss) ss′))
+      ∙ sym
+      (then-assoc (counted number words 0 ss then counted number words (span ss) ss′ then ends number words (span (ss ++ ss′)))
+      (ranged number′ words 0 ss)
+      (ranged number′ words (span ss) ss′))

@@ -40,7 +40,8 @@ h-refusal X s c n p other = go (c .has-h) (decLe (norm-of (h-digits X (F.h X s))
     go false (no h) e = other (cc)
 
 -- an answer that is another, then that for h: they give the same refusals but for 16
-but-16 : (X : Public) (s : ℕ → ℕ → Element) (c : Call) (a b : Answer) → a ≡ b then cond (c .has-h) fine (h-norm X (F.h X s)) → (n p : ℕ) → n ≢ 16 → (a ≡ refused n p) ↔ (b ≡ refused n p)
+but-16 : (X : Public) (s : ℕ → ℕ → Element) (c : Call) (a b : Answer) → a ≡ b then cond (c .has-h) fine (h-norm X (F.h X s)) → (n p : ℕ) → n ≢ 16
+    → (a ≡ refused n p) ↔ (b ≡ refused n p)
 but-16 X s c a b e n p other =
     let last = cond (c .has-h) fine (h-norm X (F.h X s)) in
     (λ f. refused-first b last n p (h-refusal X s c n p other) (sym e ∙ f), λ f. e ∙ ap (λ x. x then last) f)

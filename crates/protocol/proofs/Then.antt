@@ -3,6 +3,7 @@ use mathlib.Core.Path.{_≡_, refl, sym, ap, _∙_}
 use mathlib.Core.Bool.{Bool, true, false, cond}
 use Prim.Native.Nat.{ℕ}
 use Rattle.definitions.specs.Answer.{Answer, fine, refused, failed, _then_}
+use Rattle.protocol.proofs.Checks.{then-fine}
 use Rattle.protocol.proofs.Fine.{then-fine-left, then-fine-right}
 
 -- the order of bracketing is free
@@ -10,12 +11,6 @@ pub then-assoc : (a b c : Answer) → a then b then c ≡ a then (b then c)
 then-assoc fine b c = refl
 then-assoc (refused n p) b c = refl
 then-assoc (failed n vs) b c = refl
-
--- fine is neutral on the right
-pub then-fine : (a : Answer) → a then fine ≡ a
-then-fine fine = refl
-then-fine (refused n p) = refl
-then-fine (failed n vs) = refl
 
 -- b is tested first or last
 pub then-either : (t : Bool) (a b : Answer) → a then b ≡ a then cond t b fine then cond t fine b
