@@ -5,10 +5,13 @@ use mathlib.Core.Logic.{_≢_}
 use Prim.Native.Nat.{ℕ, zero, suc, _+_, _-_, _≤_, _<_}
 use native.Mathlib.Nat.{add-zero, add-suc, add-assoc}
 use native.Mathlib.Decide.{decLt, decLe}
+use native.Mathlib.Numerals.{add-one}
 use native.Mathlib.Omega.{arith}
-use lib.ListN.{length, getD, set, take, drop, length-append, length-set, length-take, length-drop}
-use lib.Seq.{sets, sets-eq, length-sets, ext-getD, getD-take, getD-drop, getD-set-same, getD-set-other, take-length}
+use lib.ListN.{length, getD, set, take, drop, replicate, length-set, length-take, length-drop, length-replicate, replicate-append-replicate}
+use lib.Seq.{sets, sets-eq, length-sets, ext-getD, getD-take, getD-drop, getD-set-same, getD-set-other, take-length, length-take-le, take-suc}
+use Rattle.lists.specs.Table.{table}
 use Rattle.lists.specs.Part.{part, splice}
+use Rattle.lists.proofs.Table.{is-table}
 
 module _ {ℓ} {A : Type ℓ} where
   -- as long as the list
@@ -137,3 +140,23 @@ module _ {ℓ} {A : Type ℓ} (d : A) where
           ∙ ap (λ j. getD (splice l at more) j d) (sym at-i)
       agree i (no b) (no c) =
           getD-splice-after (splice l at new) at more i d (omega arith) ∙ getD-splice-after l at new i d (omega arith) ∙ sym (getD-splice-after l at more i d (omega arith))
+
+  -- one more element of a list stored after its first k
+  pub splice-take-next : (l : List A) (at : ℕ) (new : List A) (k : ℕ) → k < length new
+      → set (splice l at (take k new)) (at + k) (getD new k d) ≡ splice l at (take (k + 1) new)
+  splice-take-next l at new k h =
+      let e : length (take k new) ≡ k = length-take-le k new (omega arith) in
+      ap (λ j. set (splice l at (take k new)) (at + j) (getD new k d)) (sym e)
+      ∙ splice-next l at (take k new) (getD new k d)
+      ∙ ap (splice l at) (sym (take-suc new k d h) ∙ ap (λ j. take j new) (sym (add-one k)))
+
+  -- a part as a table
+  pub part-table : (l : List A) (from n : ℕ) → from + n ≤ length l → table n (λ i. getD l (from + i) d) ≡ part l from n
+  part-table l from n h = sym (is-table n (part l from n) (λ i. getD l (from + i) d) d (length-part l from n h) (λ i k. getD-part l from n i k))
+
+  -- one more store of a fixed value
+  pub splice-replicate-next : (l : List A) (at k : ℕ) → set (splice l at (replicate k d)) (at + k) d ≡ splice l at (replicate (k + 1) d)
+  splice-replicate-next l at k =
+      ap (λ j. set (splice l at (replicate k d)) (at + j) d) (sym (length-replicate k d))
+      ∙ splice-next l at (replicate k d) d
+      ∙ ap (splice l at) (replicate-append-replicate k 1 d)

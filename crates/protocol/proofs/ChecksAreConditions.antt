@@ -1,6 +1,5 @@
 -- The checks of a message that agrees with the formulas are demand 3's conditions.
 use mathlib.Core.Path.{_≡_, refl, sym, ap, ap₂, _∙_}
-use mathlib.Core.Logic.{_↔_}
 use mathlib.Core.List.{[], _∷_, flatMap, List-discrete}
 use Prim.Native.Nat.{ℕ, _+_, _*_, _%_, _<_}
 use native.Mathlib.Decide.{decLe, ℕ-discrete}
@@ -10,13 +9,11 @@ use Rattle.lists.specs.Sum.{Σ}
 use Rattle.lists.proofs.Table.{table-ext}
 use Rattle.lists.proofs.Cat.{cat-ext}
 use Rattle.lists.proofs.Sum.{Σ-ext}
-use Rattle.definitions.specs.Zq.{Q, zsub}
+use Rattle.definitions.specs.Zq.{Q}
 use Rattle.definitions.specs.Norm.{square, norm}
 use Rattle.definitions.specs.Answer.{fine, refused, failed, _then_}
 use Rattle.definitions.specs.Rq.{Element, coeff, rzero}
-use Rattle.definitions.specs.Ring.{words, canonical-mod}
-use Rattle.definitions.proofs.ZqRing.{zsub-zero}
-use Rattle.definitions.proofs.Bridge.{coeff-zero-canonical}
+use Rattle.definitions.specs.Ring.{words}
 use Rattle.protocol.specs.Checks.{require, first}
 use Rattle.protocol.specs.Views.{Public, Message}
 use Rattle.protocol.specs.Parameters.{Parameters}
@@ -28,7 +25,7 @@ use Rattle.protocol.specs.Verifier.{twice, same, z-parts, check-21, chec
 use Rattle.protocol.proofs.Agrees.{Agrees}
 use Rattle.protocol.proofs.Fine.{require-holds}
 use Rattle.protocol.proofs.Checks.{then-fine, require-iff, first-ext, first-fine}
-use Rattle.protocol.proofs.PsiRows.{psi-error-is}
+use Rattle.protocol.proofs.PsiRows.{psi-row-met}
 use Rattle.protocol.proofs.Norms.{norm-table, digits-of-table, digits-of-rows, digits-of-triangle}
 use Rattle.protocol.proofs.Relations.{check-24-fine, check-25-fine, check-26-fine, aggregated-relation}
 
@@ -78,24 +75,15 @@ module _ (X : Public) (s : ℕ → ℕ → Element) (M : Message) (agrees : Agre
   unfolding computed
   same-computed k = ap (λ x. (Σ l (λ x. psi k x * b₀ x) + x) % Q) (Σ-ext 256 (λ j. omega k j * M .p j) (λ j. omega k j * F.p X s j) (λ j h. ap (_*_ (omega k j)) (agrees .p j h)))
 
-  -- the two values are the same just where the psi row's sum is zero
-  pub psi-row-met : (k : ℕ) → (sent X s k ≡ computed X s k) ↔ (psi-error X s k ≡ 0)
-  unfolding sent computed
-  psi-row-met k =
-      let zero : (zsub (sent X s k) (computed X s k) ≡ 0) ↔ (sent X s k ≡ computed X s k) =
-      zsub-zero (sent X s k) (computed X s k) (coeff-zero-canonical (F.b″ X s k)) (canonical-mod (Σ l (λ x. psi k x * b₀ x) + Σ 256 (λ j. omega k j * F.p X s j))) in
-      (λ e. psi-error-is X s k ∙ zero .1 e, λ e. zero .0 (sym (psi-error-is X s k) ∙ e))
-
   -- check 22 is the condition on the psi rows
   pub check-22-is : κ ≡ L → check-22 X M ≡ first L (λ k. require (ℕ-discrete (psi-error X s k) 0) (failed 22 (k ∷ sent X s k ∷ computed X s k ∷ [])))
   unfolding check-22
   check-22-is e = first-ext κ _ _ (λ k h.
       let first-value = same-sent k h in
       let second-value = same-computed k in
-      require-iff (ℕ-discrete (coeff (words (M .b″ k)) 0) ((Σ l (λ x. psi k x * b₀ x) + Σ 256 (λ j. omega k j * M .p j)) % Q)) (ℕ-discrete (psi-error X s k) 0)
-      (failed 22 (k ∷ coeff (words (M .b″ k)) 0 ∷ (Σ l (λ x. psi k x * b₀ x) + Σ 256 (λ j. omega k j * M .p j)) % Q ∷ [])) (failed 22 (k ∷ sent X s k ∷ computed X s k ∷ []))
-      (λ q. psi-row-met k .0 (sym first-value ∙ q ∙ second-value))
-      (λ q. first-value ∙ psi-row-met k .1 q ∙ sym second-value)
+      require-iff (ℕ-discrete _ _) (ℕ-discrete (psi-error X s k) 0) _ (failed 22 (k ∷ sent X s k ∷ computed X s k ∷ []))
+      (λ q. psi-row-met X s k .0 (sym first-value ∙ q ∙ second-value))
+      (λ q. first-value ∙ psi-row-met X s k .1 q ∙ sym second-value)
       (ap₂ (λ x y. failed 22 (k ∷ x ∷ y ∷ [])) first-value second-value))
       ∙ ap (λ m. first m (λ k. require (ℕ-discrete (psi-error X s k) 0) (failed 22 (k ∷ sent X s k ∷ computed X s k ∷ [])))) e
 

@@ -1,4 +1,4 @@
--- Constraints weighed: the left side of a weighed sum of constraints is the weighed sum of their left sides.
+-- Weighted sums of constraints: their left side is the weighted sum of the left sides.
 use mathlib.Core.Path.{_≡_, refl, ap, ap₂, _∙_}
 use Prim.Native.Nat.{ℕ}
 use Rattle.algebra.specs.Ops as Ops

@@ -1,22 +1,19 @@
 -- Norms of lists of words, of elements and of their digits.
 use mathlib.Core.Path.{_≡_, refl, ap, ap₂, _∙_}
 use mathlib.Core.List.{List, [], _∷_, _++_, flatMap, append-nil}
-use Prim.Native.Nat.{ℕ, _+_, _<_}
-use native.Mathlib.Omega.{arith}
-use native.Mathlib.Decide.{decLt}
-use lib.ListN.{length, getD, length-append, List·getD-append, List·getD-eq-default}
+use Prim.Native.Nat.{ℕ, _+_}
+use lib.ListN.{length, getD, length-append, List·getD-append}
 use lib.Seq.{getD-append-add}
 use Rattle.lists.specs.Table.{table, cat}
 use Rattle.lists.specs.Sum.{Σ}
 use Rattle.lists.proofs.Table.{length-table, getD-table}
 use Rattle.lists.proofs.Sum.{Σ-ext, Σ-split}
 use Rattle.lists.proofs.Additive.{Additive, additive-cat, additive-table, additive-flatMap}
-use Rattle.definitions.specs.Zq.{Canonical}
 use Rattle.definitions.specs.Norm.{square, norm}
 use Rattle.definitions.specs.Digits.{digit}
 use Rattle.definitions.specs.Rq.{Element, coeff, digitRow}
 use Rattle.definitions.specs.Ring.{words, table-element}
-use Rattle.definitions.proofs.Bridge.{words-element}
+use Rattle.definitions.proofs.Bridge.{coeff-canonical, words-element}
 use Rattle.definitions.proofs.Digits.{digit-of-canonical}
 use Rattle.protocol.specs.Formulas.{flat, norm-of, digit-element, digits-of, rows, triangle}
 use Rattle.protocol.specs.Conditions.{digits-norm}
@@ -48,14 +45,6 @@ norm-of-additive = additive-flatMap words norm norm-additive
 pub norm-of-one : (e : Element) → norm-of (e ∷ []) ≡ norm (words e)
 unfolding flat flatMap
 norm-of-one e = ap norm (append-nil (words e))
-
--- a coefficient of an element is canonical, and 0 past its 64
-pub coeff-canonical : (e : Element) (k : ℕ) → Canonical (coeff (words e) k)
-coeff-canonical e k = go (decLt k (length (words e)))
-  where
-    go : Dec (k < length (words e)) → Canonical (coeff (words e) k)
-    go (yes h) = e .1 .1 k h
-    go (no h) = rw (List·getD-eq-default (words e) 0 {n = k} (omega arith)) (omega arith)
 
 -- the words of a digit of an element
 pub words-digit : (b : ℕ) (e : Element) (k : ℕ) → words (digit-element b e k) ≡ digitRow b (words e) k

@@ -1,5 +1,6 @@
 -- Check 22's two values: the first less the second is the psi row's sum of errors.
 use mathlib.Core.Path.{_≡_, sym, ap, ap₂, _∙_}
+use mathlib.Core.Logic.{_↔_}
 use Prim.Native.Nat.{ℕ, _+_, _-_, _*_, _/_, _%_, _<_}
 use native.Mathlib.Nat as Nat
 use native.Mathlib.Omega.{arith}
@@ -10,9 +11,10 @@ use Rattle.algebra.proofs.Sum.{sum-ext, sum-rows}
 use Rattle.algebra.proofs.Dot.{dot-sub-right}
 use Rattle.definitions.specs.Zq.{Q, zsub}
 use Rattle.definitions.specs.Rq.{Element, coeff}
-use Rattle.definitions.specs.Ring.{Residue, residue, ZqOps, words, scalar, constant, conj}
-use Rattle.definitions.proofs.ZqRing.{zq-ring, residue-add, residue-mul, residue-reduced, residue-zsub, residue-Σ}
+use Rattle.definitions.specs.Ring.{Residue, residue, canonical-mod, ZqOps, words, scalar, constant, conj}
+use Rattle.definitions.proofs.ZqRing.{zq-ring, zsub-zero, residue-add, residue-mul, residue-reduced, residue-zsub, residue-Σ}
 use Rattle.definitions.proofs.RqRing.{coefficient, coefficient-table, residue-products}
+use Rattle.definitions.proofs.Bridge.{coeff-canonical}
 use Rattle.definitions.proofs.Conjugate.{constant-add, constant-sum, constant-scalar-mul, constant-conj-dot}
 use Rattle.protocol.specs.Views.{Public}
 use Rattle.protocol.specs.Parameters.{Parameters}
@@ -24,15 +26,15 @@ use Rattle.protocol.proofs.Constraints.{projected, b″-is}
 infixl 30 _+Q_
 infixl 40 _*Q_
 -- sum and product in Zq
-abbrev _+Q_ : Residue → Residue → Residue
+abbrev pub _+Q_ : Residue → Residue → Residue
 _+Q_ = ZqOps .add
 
-abbrev _*Q_ : Residue → Residue → Residue
+abbrev pub _*Q_ : Residue → Residue → Residue
 _*Q_ = ZqOps .mul
 
 -- the constant coefficient of a sum of multiples
-pub constant-weighed : (n : ℕ) (w : ℕ → ℕ) (f : ℕ → Element) → constant (sum n (λ x. scalar (w x) ⊗ f x)) ≡ Ops.sum ZqOps n (λ x. residue (w x) *Q constant (f x))
-constant-weighed n w f =
+pub constant-weighted : (n : ℕ) (w : ℕ → ℕ) (f : ℕ → Element) → constant (sum n (λ x. scalar (w x) ⊗ f x)) ≡ Ops.sum ZqOps n (λ x. residue (w x) *Q constant (f x))
+constant-weighted n w f =
     constant-sum n (λ x. scalar (w x) ⊗ f x) ∙ sum-ext ZqOps n (λ x. constant (scalar (w x) ⊗ f x)) (λ x. residue (w x) *Q constant (f x)) (λ x h. constant-scalar-mul (w x) (f x))
 
 -- the place of coefficient q of element m
@@ -79,14 +81,23 @@ module _ (X : Public) (s : ℕ → ℕ → Element) where
       ∙ sym (residue-Σ r (λ i. projection X s i j))
       ∙ sym (residue-reduced (Σ r (λ i. projection X s i j)))
 
+  -- in Zq: Σ psi[k][l]·(constant coefficient of left side l), Σ psi[k][l]·b0[l] and Σ omega[k][j]·p[j]
+  abbrev pub lefts : ℕ → Residue
+  lefts k = Ops.sum ZqOps l (λ x. residue (psi k x) *Q constant (left P (a′ x) (φ′ x) s))
+
+  abbrev pub rights : ℕ → Residue
+  rights k = Ops.sum ZqOps l (λ x. residue (psi k x) *Q residue (b₀ x))
+
+  abbrev pub projections : ℕ → Residue
+  projections k = Ops.sum ZqOps 256 (λ j. residue (omega k j) *Q residue (p X s j))
+
   -- the constant coefficient of b''_k: Σ psi[k][l]·(constant coefficient of left side l) + Σ omega[k][j]·p_j
-  pub constant-b″ : (k : ℕ)
-      → constant (b″ X s k) ≡ Ops.sum ZqOps l (λ x. residue (psi k x) *Q constant (left P (a′ x) (φ′ x) s)) +Q Ops.sum ZqOps 256 (λ j. residue (omega k j) *Q residue (p X s j))
+  pub constant-b″ : (k : ℕ) → constant (b″ X s k) ≡ lefts k +Q projections k
   constant-b″ k =
       ap constant (b″-is X s k)
       ∙ constant-add (sum l (λ x. scalar (psi k x) ⊗ left P (a′ x) (φ′ x) s)) (sum 256 (λ j. scalar (omega k j) ⊗ projected X s j))
-      ∙ ap₂ _+Q_ (constant-weighed l (psi k) (λ x. left P (a′ x) (φ′ x) s))
-      (constant-weighed 256 (omega k) (projected X s)
+      ∙ ap₂ _+Q_ (constant-weighted l (psi k) (λ x. left P (a′ x) (φ′ x) s))
+      (constant-weighted 256 (omega k) (projected X s)
       ∙ sum-ext ZqOps 256 (λ j. residue (omega k j) *Q constant (projected X s j)) (λ j. residue (omega k j) *Q residue (p X s j)) (λ j h. ap (_*Q_ (residue (omega k j))) (constant-projected j)))
 
   -- the canonical value of a constant-term constraint's error
@@ -95,14 +106,12 @@ module _ (X : Public) (s : ℕ → ℕ → Element) where
   residue-error x = residue-zsub (coeff (words (left P (a′ x) (φ′ x) s)) 0) (b₀ x)
 
   -- the canonical value of the first value, in Zq
-  pub residue-sent : (k : ℕ)
-      → residue (sent X s k) ≡ Ops.sum ZqOps l (λ x. residue (psi k x) *Q constant (left P (a′ x) (φ′ x) s)) +Q Ops.sum ZqOps 256 (λ j. residue (omega k j) *Q residue (p X s j))
+  pub residue-sent : (k : ℕ) → residue (sent X s k) ≡ lefts k +Q projections k
   unfolding sent constant
   residue-sent k = constant-b″ k
 
   -- the canonical value of the second value, in Zq
-  pub residue-computed : (k : ℕ)
-      → residue (computed X s k) ≡ Ops.sum ZqOps l (λ x. residue (psi k x) *Q residue (b₀ x)) +Q Ops.sum ZqOps 256 (λ j. residue (omega k j) *Q residue (p X s j))
+  pub residue-computed : (k : ℕ) → residue (computed X s k) ≡ rights k +Q projections k
   unfolding computed
   residue-computed k =
       residue-reduced (Σ l (λ x. psi k x * b₀ x) + Σ 256 (λ j. omega k j * p X s j))
@@ -110,9 +119,7 @@ module _ (X : Public) (s : ℕ → ℕ → Element) where
       ∙ ap₂ _+Q_ (residue-products l (psi k) b₀) (residue-products 256 (omega k) (p X s))
 
   -- Σ psi[k][l]·error_l in Zq
-  pub residue-row : (k : ℕ)
-      → residue (Σ l (λ x. psi k x * constant-error X s x))
-      ≡ Ops.sum ZqOps l (λ x. residue (psi k x) *Q constant (left P (a′ x) (φ′ x) s)) +Q ZqOps .neg (Ops.sum ZqOps l (λ x. residue (psi k x) *Q residue (b₀ x)))
+  pub residue-row : (k : ℕ) → residue (Σ l (λ x. psi k x * constant-error X s x)) ≡ lefts k +Q ZqOps .neg (rights k)
   unfolding Ops.dot
   residue-row k =
       residue-products l (psi k) (constant-error X s)
@@ -125,9 +132,14 @@ module _ (X : Public) (s : ℕ → ℕ → Element) where
   unfolding psi-error
   psi-error-is k = ap (λ (x : Residue). x .0) (
       residue-row k
-      ∙ sym (sub-common ZqOps zq-ring
-      (Ops.sum ZqOps l (λ x. residue (psi k x) *Q constant (left P (a′ x) (φ′ x) s)))
-      (Ops.sum ZqOps 256 (λ j. residue (omega k j) *Q residue (p X s j)))
-      (Ops.sum ZqOps l (λ x. residue (psi k x) *Q residue (b₀ x))))
+      ∙ sym (sub-common ZqOps zq-ring (lefts k) (projections k) (rights k))
       ∙ sym (ap₂ (λ x y. x +Q ZqOps .neg y) (residue-sent k) (residue-computed k))
       ∙ sym (residue-add (sent X s k) (Q - computed X s k % Q)))
+
+  -- the two values are the same just where that sum is zero
+  pub psi-row-met : (k : ℕ) → (sent X s k ≡ computed X s k) ↔ (psi-error X s k ≡ 0)
+  unfolding sent computed
+  psi-row-met k =
+      let zero : (zsub (sent X s k) (computed X s k) ≡ 0) ↔ (sent X s k ≡ computed X s k) =
+      zsub-zero (sent X s k) (computed X s k) (coeff-canonical (b″ X s k) 0) (canonical-mod (Σ l (λ x. psi k x * b₀ x) + Σ 256 (λ j. omega k j * p X s j))) in
+      (λ e. psi-error-is k ∙ zero .1 e, λ e. zero .0 (sym (psi-error-is k) ∙ e))
