@@ -73,17 +73,18 @@ module _ (P : Parameters) (R R′ : List ℕ) (N : ℕ) (alike : take N R ≡ ta
   unfolding span start
   shuffle-words within i hi = part-alike N R R′ alike (start (randomness-sections P) 6 + 63 * i) 63 (omega arith)
 
--- fewer sections take fewer words
+-- what holds three sections holds one
 three-hold-one : (P : Parameters) (N : ℕ) → upto P 3 ≤ N → upto P 1 ≤ N
 unfolding span
 three-hold-one P N h = omega arith
 
+-- what holds five sections holds three
 five-hold-three : (P : Parameters) (N : ℕ) → upto P 5 ≤ N → upto P 3 ≤ N
 unfolding span
 five-hold-three P N h = omega arith
 
 module _ (J R R′ : List ℕ) (N : ℕ) (alike : take N R ≡ take N R′) where
-  open Parameters (parameters J) using (n, r, κ₂, K, l, L)
+  open Parameters (parameters J) using (n, r, K, l, L)
 
   -- a row of a projection matrix
   Π-row-alike : upto (parameters J) 1 ≤ N → (i j m : ℕ) → i < r → j < 256 → m < n → F.Π-row (public J R) i j m ≡ F.Π-row (public J R′) i j m
@@ -113,11 +114,7 @@ module _ (J R R′ : List ℕ) (N : ℕ) (alike : take N R ≡ take N R′) wher
       (λ k hk. ap₂ (λ e f. element e ⊗ f) (beta-words (parameters J) R R′ N alike within k hk) (φ″-alike (five-hold-three (parameters J) N within) k i m hk hi hm)))
 
   module _ (s : ℕ → ℕ → Element) where
-    -- "t_i", "g_ij" and "u1" read no randomness
-    pub t-same : F.t (public J R) s ≡ F.t (public J R′) s
-    unfolding F.t
-    t-same = refl
-
+    -- "u1" reads no randomness
     pub u₁-same : F.u₁ (public J R) s ≡ F.u₁ (public J R′) s
     unfolding F.u₁ F.u₁-of F.t F.g
     u₁-same = refl

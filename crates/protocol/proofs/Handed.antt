@@ -36,7 +36,7 @@ call five = round₅
 abbrev pub handed-to : Call → List ℕ → List ℕ → List ℕ
 handed-to c J R = take (upto (parameters J) (c .handed)) R
 
--- fewer sections take fewer words
+-- five sections take fewer words than seven
 seven-hold-five : (P : Parameters) → upto P 5 ≤ upto P 7
 unfolding span
 seven-hold-five P = omega arith

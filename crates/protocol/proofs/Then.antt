@@ -12,7 +12,7 @@ then-assoc fine b c = refl
 then-assoc (refused n p) b c = refl
 then-assoc (failed n vs) b c = refl
 
--- b is tested first or last
+-- b stands in one of two places, and fine in the other
 pub then-either : (t : Bool) (a b : Answer) → a then b ≡ a then cond t b fine then cond t fine b
 then-either true a b = sym (then-fine (a then b))
 then-either false a b = ap (λ x. x then b) (sym (then-fine a))
