@@ -49,12 +49,14 @@ take-zeroed need buffer = take-at (replicate need 0) (drop need buffer) need (le
 
 -- a buffer that is zeroed where an answer is fine, else left
 module _ (a : Answer) (need : ℕ) (buffer : List ℕ) where
+  -- its length and the words beyond the need stay
   zeroed-kept : (a ≡ fine → need ≤ length buffer) → Kept need buffer (result a (zeroed need buffer) buffer)
   zeroed-kept fits =
       result-cases (Kept need buffer) a (zeroed need buffer) buffer
       (λ e. kept-written need (replicate need 0) buffer (length-replicate need 0) (fits e))
       (λ bad. kept-left need buffer)
 
+  -- its needed part is zero where the answer is fine
   zeroed-fine : a ≡ fine → take need (result a (zeroed need buffer) buffer) ≡ replicate need 0
   zeroed-fine e = ap (λ x. take need (result x (zeroed need buffer) buffer)) e ∙ take-zeroed need buffer
 
