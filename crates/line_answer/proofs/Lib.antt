@@ -1,0 +1,3 @@
+mod Small
+pub mod Parsing
+pub mod Chunks
