@@ -2,9 +2,12 @@
 use mathlib.Core.Path.{_≡_, refl, _∙_, sym, ap}
 use mathlib.Core.Bool.{Bool, true, false, cond}
 use mathlib.Core.List.{List, [], _∷_, _++_, append-assoc, append-nil, flatten}
-use Prim.Native.Nat.{ℕ, _+_}
+use Prim.Native.Nat.{ℕ, _+_, _*_, _≤_, _<_}
+use native.Mathlib.Numerals.{add-one}
 use native.Mathlib.Omega.{arith}
 use lib.Dec.{ltb, eqb}
+use lib.ListN.{length, take, getD, length-append}
+use lib.Seq.{take-suc}
 use borrow.Author.Tests.{ne-eqb}
 use Rattle.line_answer.specs.Text.{isDigit}
 use Rattle.line_answer.specs.Line.{answerTo, text}
@@ -15,6 +18,7 @@ use Rattle.line_answer.specs.declared.reading.Extended.the-variants.{To,
 use Rattle.line_answer.specs.declared.reading.State.{State}
 use Rattle.line_answer.specs.declared.reading.State.the-variants.{First, Second, Bad}
 use Rattle.line_answer.proofs.Parsing.{parsed-steps}
+use Rattle.line_answer.proofs.Decimal.{length-text}
 
 -- the state after two runs
 pub after-append : (s : State) (xs ys : List ℕ) → after s (xs ++ ys) ≡ after (after s xs) ys
@@ -27,6 +31,38 @@ pub answers-append : (s : State) (xs ys : List ℕ) → answers s (xs ++ ys) ≡
 unfolding after answers
 answers-append s [] ys = refl
 answers-append s (x ∷ xs) ys = ap (λ l. written s x ++ l) (answers-append (next s x) xs ys) ∙ sym (append-assoc (written s x) (answers (next s x) xs) (answers (after (next s x) xs) ys))
+
+-- the first i + 1 bytes
+take-more : (bs : List ℕ) (i : ℕ) → i < length bs → take (i + 1) bs ≡ take i bs ++ (getD bs i 0 ∷ [])
+take-more bs i h = rw add-one (take-suc bs i 0 h)
+
+-- the state after one byte more of a chunk
+pub after-take : (s : State) (bs : List ℕ) (i : ℕ) → i < length bs → after s (take (i + 1) bs) ≡ next (after s (take i bs)) (getD bs i 0)
+unfolding after
+after-take s bs i h = ap (after s) (take-more bs i h) ∙ after-append s (take i bs) (getD bs i 0 ∷ [])
+
+-- what is written after one byte more of a chunk
+pub answers-take : (s : State) (bs : List ℕ) (i : ℕ) → i < length bs
+    → answers s (take (i + 1) bs) ≡ answers s (take i bs) ++ written (after s (take i bs)) (getD bs i 0)
+unfolding answers
+answers-take s bs i h =
+    ap (answers s) (take-more bs i h)
+    ∙ answers-append s (take i bs) (getD bs i 0 ∷ [])
+    ∙ ap (λ l. answers s (take i bs) ++ l) (append-nil (written (after s (take i bs)) (getD bs i 0)))
+
+-- a byte has at most one answer and its line feed written
+length-written : (s : State) (b : ℕ) → length (written s b) ≤ 56
+length-written s b = by (eqb b 10)
+  where
+    by : (e : Bool) → length (cond e (answerOf s) []) ≤ 56
+    by true = rw length-append (omega (arith, length-text (parsed s)))
+    by false = omega arith
+
+-- a run of bytes has at most 56 bytes written for each of its own
+pub length-answers : (s : State) (bs : List ℕ) → length (answers s bs) ≤ 56 * length bs
+unfolding answers
+length-answers s [] = omega arith
+length-answers s (b ∷ bs) = rw length-append (omega (arith, length-written s b, length-answers (next s b) bs))
 
 -- a line with one byte more at its end
 steps-snoc : (s : State) (xs : List ℕ) (b : ℕ) → steps s (xs ++ (b ∷ [])) ≡ stepped (steps s xs) b
@@ -86,6 +122,11 @@ whole begun (b ∷ bs) = by (eqb b 10) (whole [] bs) (whole (begun ++ (b ∷ [])
         ∙ ap (λ p. text p ++ (10 ∷ answerLines (linesAfter [] bs))) (parsed-steps begun)
     by false here later = rw (steps-snoc start begun b) at later
 
+-- one call on a whole input, and the last call, write its output
+pub fed-output : (input : List ℕ) → answers start input ++ last (after start input) ≡ output input
+unfolding steps
+fed-output input = whole [] input
+
 -- what is written for an input in chunks from a state on
 unfoldable pub chunked : State → List (List ℕ) → List ℕ
 chunked s [] = last s
@@ -99,5 +140,4 @@ chunked-joined s (c ∷ cs) = ap (λ l. answers s c ++ l) (chunked-joined (after
 
 -- the calls on the chunks of an input, and the last call, write the output of the input
 pub chunked-output : (cs : List (List ℕ)) → chunked start cs ≡ output (flatten cs)
-unfolding steps
-chunked-output cs = chunked-joined start cs ∙ whole [] (flatten cs)
+chunked-output cs = chunked-joined start cs ∙ fed-output (flatten cs)

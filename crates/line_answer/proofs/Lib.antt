@@ -1,3 +1,5 @@
 mod Small
+mod Decimal
+mod Runs
 pub mod Parsing
 pub mod Chunks

@@ -8,11 +8,13 @@ use native.Mathlib.Numerals.{add-one}
 use native.Mathlib.Omega.{arith}
 use lib.Dec.{leb, ltb, eqb}
 use borrow.Author.Tests.{leb-true, ltb-true}
+use Rattle.definitions.specs.Zq.{Q}
 use Rattle.line_answer.specs.Text.{isDigit}
-use Rattle.line_answer.specs.Reading.{none, start, pushed, extended, with, stepped, next, after, Small, Bounded}
+use Rattle.line_answer.specs.Reading.{none, start, pushed, extended, with, stepped, parsed, next, after, Small, Bounded, FirstCanonical}
 use Rattle.line_answer.specs.declared.reading.Word.{Word}
 use Rattle.line_answer.specs.declared.reading.State.{State}
 use Rattle.line_answer.specs.declared.reading.State.the-variants.{First, Second, Bad}
+use Rattle.line_answer.specs.declared.reading.Parsed.the-variants.{Pair, Refused}
 
 -- both halves of a conjunction
 and-true : (a b : Bool) → a && b ≡ true → (a ≡ true) × (b ≡ true)
@@ -80,3 +82,16 @@ pub bounded-after : (s : State) (bs : List ℕ) → Bounded s → Bounded (after
 unfolding after
 bounded-after s [] h = h
 bounded-after s (b ∷ bs) h = bounded-after (next s b) bs (bounded-next s b h)
+
+-- a pair that is not refused is canonical
+pub first-canonical : (s : State) → FirstCanonical (parsed s)
+unfolding parsed
+first-canonical (First w) = tt
+first-canonical (Second a w) = by (eqb (w .digits) 0) (ltb a Q) refl (ltb (w .value) Q)
+  where
+    by : (z l : Bool) → ltb a Q ≡ l → (m : Bool) → FirstCanonical (cond z Refused (cond l (cond m (Pair a (w .value)) Refused) Refused))
+    by true l h m = tt
+    by false true h true = ltb-true a Q h
+    by false true h false = tt
+    by false false h m = tt
+first-canonical Bad = tt

@@ -3,6 +3,7 @@ use mathlib.Core.Bool.{Bool, true, false, cond}
 use mathlib.Core.List.{List, [], _∷_, _++_}
 use Prim.Native.Nat.{ℕ, _+_, _-_, _*_, _^_, _<_, _≤_}
 use lib.Dec.{ltb, eqb}
+use Rattle.definitions.specs.Zq.{Canonical}
 use Rattle.line_answer.specs.Text.{isDigit}
 use Rattle.line_answer.specs.Line.{pair, text}
 use Rattle.line_answer.specs.declared.reading.Word.{Word}
@@ -11,7 +12,7 @@ use Rattle.line_answer.specs.declared.reading.Extended.the-variants.{To,
 use Rattle.line_answer.specs.declared.reading.State.{State}
 use Rattle.line_answer.specs.declared.reading.State.the-variants.{First, Second, Bad}
 use Rattle.line_answer.specs.declared.reading.Parsed.{Parsed}
-use Rattle.line_answer.specs.declared.reading.Parsed.the-variants.{Refused}
+use Rattle.line_answer.specs.declared.reading.Parsed.the-variants.{Pair, Refused}
 
 -- no digit yet
 abbrev pub none : Word
@@ -93,3 +94,8 @@ abbrev pub Bounded : State → Type 0
 Bounded (First w) = Small w
 Bounded (Second a w) = Small w
 Bounded Bad = Unit {0}
+
+-- the first number of a pair, which has a centre, is canonical
+abbrev pub FirstCanonical : Parsed → Type 0
+FirstCanonical (Pair a b) = Canonical a
+FirstCanonical Refused = Unit {0}

@@ -151,3 +151,14 @@ pub fn parse(s: State) -> Parsed
         State::Bad => Parsed::Refused,
     }
 }
+
+// Whether no byte of the line is read.
+pub fn is_fresh(s: State) -> bool
+    ensures { λ r. ⌜ r ≡ isFresh s ⌝ }
+{
+    match s {
+        State::First(w) => w.digits == 0,
+        State::Second(_, _) => false,
+        State::Bad => false,
+    }
+}

@@ -5,9 +5,6 @@ use borrow.Author.Tests.{eq-eqb, ne-eqb}
 use Rattle.line_answer.specs.Reading.{parsed}
 use Rattle.line_answer.proofs.reading.parse.Statement.{statement}
 use Rattle.line_answer.proofs.reading.parse.Tie as tie
-use Rattle.line_answer.proofs.reading.parse.Reads as reads
-use Rattle.line_answer.proofs.reading.parse.Lts as lts
-use Rattle.line_answer.proofs.reading.pair.Reads as pair-reads
 
 returns : tie.Need-returns
 unfolding parsed
