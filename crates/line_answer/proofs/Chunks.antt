@@ -50,12 +50,16 @@ answers-take s bs i h =
     ∙ answers-append s (take i bs) (getD bs i 0 ∷ [])
     ∙ ap (λ l. answers s (take i bs) ++ l) (append-nil (written (after s (take i bs)) (getD bs i 0)))
 
+-- an answer and its line feed have at most 56 bytes
+length-answerOf : (s : State) → length (answerOf s) ≤ 56
+length-answerOf s = rw length-append (omega (arith, length-text (parsed s)))
+
 -- a byte has at most one answer and its line feed written
 length-written : (s : State) (b : ℕ) → length (written s b) ≤ 56
 length-written s b = by (eqb b 10)
   where
     by : (e : Bool) → length (cond e (answerOf s) []) ≤ 56
-    by true = rw length-append (omega (arith, length-text (parsed s)))
+    by true = length-answerOf s
     by false = omega arith
 
 -- a run of bytes has at most 56 bytes written for each of its own
@@ -63,6 +67,14 @@ pub length-answers : (s : State) (bs : List ℕ) → length (answers s bs) ≤ 5
 unfolding answers
 length-answers s [] = omega arith
 length-answers s (b ∷ bs) = rw length-append (omega (arith, length-written s b, length-answers (next s b) bs))
+
+-- the end of the input has at most one answer and its line feed written
+pub length-last : (s : State) → length (last s) ≤ 56
+length-last s = by (isFresh s)
+  where
+    by : (f : Bool) → length (cond f [] (answerOf s)) ≤ 56
+    by true = omega arith
+    by false = length-answerOf s
 
 -- a line with one byte more at its end
 steps-snoc : (s : State) (xs : List ℕ) (b : ℕ) → steps s (xs ++ (b ∷ [])) ≡ stepped (steps s xs) b

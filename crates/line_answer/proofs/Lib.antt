@@ -1,5 +1,5 @@
-mod Small
+pub mod Small
 mod Decimal
-mod Runs
+pub mod Runs
 pub mod Parsing
 pub mod Chunks

@@ -38,3 +38,7 @@ written-length {l} {m} {xs} {at} w = ap length (w .contents) ∙ length-sets l a
 -- after at most k bytes, n bytes fit where k + n did
 pub room : {l m xs : List ℕ} {at p : ℕ} (k n : ℕ) → Written l at xs m p → length xs ≤ k → at + (k + n) ≤ length l → p + n ≤ length m
 room k n w h f = omega (arith, w .count, written-length w)
+
+-- bytes that fit end within the slice
+pub within : {l m xs : List ℕ} {at p : ℕ} → Written l at xs m p → at + length xs ≤ length l → p ≤ length m
+within w h = omega (arith, w .count, written-length w)
