@@ -3,3 +3,4 @@ mod Decimal
 pub mod Runs
 pub mod Parsing
 pub mod Chunks
+pub mod Laws

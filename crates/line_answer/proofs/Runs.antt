@@ -1,12 +1,12 @@
 -- Runs of bytes written one after the other.
-use mathlib.Core.Path.{_≡_, refl, _∙_, sym, ap}
+use mathlib.Core.Path.{_≡_, _∙_, sym, ap}
 use mathlib.Core.List.{List, [], _∷_, _++_}
 use Prim.Native.Nat.{ℕ, suc, _+_, _≤_, _<_}
 use native.Mathlib.Nat.{add-zero}
 use native.Mathlib.Numerals.{add-one}
 use native.Mathlib.Omega.{arith}
-use lib.ListN.{length, getD, take, set, length-append}
-use lib.Seq.{sets, length-sets, take-suc, length-take-le}
+use lib.ListN.{length, getD, take, drop, set, length-append}
+use lib.Seq.{sets, length-sets, sets-eq, take-suc, take-at, drop-at, length-take-le}
 use Rattle.line_answer.specs.Written.{Written}
 
 -- a run stored after another
@@ -42,3 +42,10 @@ room k n w h f = omega (arith, w .count, written-length w)
 -- bytes that fit end within the slice
 pub within : {l m xs : List ℕ} {at p : ℕ} → Written l at xs m p → at + length xs ≤ length l → p ≤ length m
 within w h = omega (arith, w .count, written-length w)
+
+-- bytes written at the start are the first ones, and the rest is as it was
+pub written-start : {l m xs : List ℕ} {p : ℕ} → Written l 0 xs m p → length xs ≤ length l → (take p m ≡ xs) × (drop p m ≡ drop p l)
+written-start {l} {m} {xs} {p} w h =
+    let n : length xs ≡ p = omega (arith, w .count) in
+    let e : m ≡ xs ++ drop p l = w .contents ∙ sets-eq xs l 0 (omega arith) ∙ ap (λ k. xs ++ drop k l) (sym (w .count)) in
+    (ap (take p) e ∙ take-at xs (drop p l) p n, ap (drop p) e ∙ drop-at xs (drop p l) p n)

@@ -1,5 +1,6 @@
--- Reading byte by byte: what is kept of a line that has begun, and what a run of bytes completes.
-use mathlib.Core.Bool.{Bool, true, false, cond}
+-- Reading byte by byte: what is kept of a line that has begun, and what a run of bytes has written.
+-- proofs/Chunks ties it to Output: the runs of an input, however it is cut, and its end have written the output.
+use mathlib.Core.Bool.{Bool, false, cond}
 use mathlib.Core.List.{List, [], _∷_, _++_}
 use Prim.Native.Nat.{ℕ, _+_, _-_, _*_, _^_, _<_, _≤_}
 use lib.Dec.{ltb, eqb}

@@ -1,8 +1,7 @@
 // An input in chunks of any size: each chunk is fed to the state, and the answers to the lines that it ends are written into a lent slice.
 ghost use mathlib.Core.Path.{_≡_};
-ghost use mathlib.Core.List.{[]};
 ghost use Prim.Native.Nat.{_+_, _*_, _≤_};
-ghost use lib.ListN.{length};
+ghost use lib.ListN.{length, take, drop};
 ghost use Rattle.line_answer.specs.Output.{output};
 ghost use Rattle.line_answer.specs.Reading.{Bounded, written, next, after, answers, last};
 ghost use Rattle.line_answer.specs.Written.{Written};
@@ -26,7 +25,7 @@ fn feed_byte(f: Fed, b: u8, out: &mut [u8]) -> Fed
 {
     let state = f.state;
     let at = f.at;
-    if b == 10 {
+    if b == b'\n' {
         let end = put_answer(out, at, state);
         Fed {
             state: start(),
@@ -71,7 +70,8 @@ pub fn finish(s: State, out: &mut [u8], at: usize) -> usize
 // The answers to all lines of an input.
 pub fn answer_input(input: &[u8], out: &mut [u8]) -> usize
     requires { ⌜ 56 * length (now input) + 56 ≤ length (now out) ⌝ }
-    ensures { λ r. ⌜ Written (now (out .entry)) 0 (output (now (input .entry))) (now (out .exit)) r ⌝ }
+    ensures { λ r. ⌜ take r (now (out .exit)) ≡ output (now (input .entry)) ⌝ }
+    ensures { λ r. ⌜ drop r (now (out .exit)) ≡ drop r (now (out .entry)) ⌝ }
 {
     let fresh = start();
     let f = feed(fresh, input, out);

@@ -4,7 +4,7 @@ ghost use Prim.Native.Nat.{_≤_, _<_};
 ghost use mathlib.Core.Bool.{Bool};
 ghost use Rattle.line_answer.specs.Text.{isDigit};
 ghost use Rattle.line_answer.specs.Line.{pair as Line·pair};
-ghost use Rattle.line_answer.specs.Reading.{pushed, extended, stepped, parsed, isFresh, Small, Bounded};
+ghost use Rattle.line_answer.specs.Reading.{start as Reading·start, pushed, extended, stepped, parsed, isFresh, Small, Bounded};
 
 // A decimal word as far as it is read.
 pub struct Word {
@@ -18,7 +18,7 @@ pub enum Extended {
     No,
 }
 
-// What is kept of a line: its first word; its first word's value and its second word; or that it is refused whatever follows.
+// What is kept of a line: its first word so far; its first word's value, and its second word so far; or that it is refused whatever follows.
 pub enum State {
     First(Word),
     Second(u64, Word),
@@ -36,7 +36,7 @@ const MODULUS: u64 = 4294967295;
 
 // The state in which a line begins.
 pub fn start() -> State
-    ensures { λ r. ⌜ r ≡ Rattle.line_answer.specs.Reading.start ⌝ }
+    ensures { λ r. ⌜ r ≡ Reading·start ⌝ }
 {
     State::First(Word {
         value: 0,
@@ -47,7 +47,7 @@ pub fn start() -> State
 fn is_digit(b: u8) -> bool
     ensures { λ r. ⌜ r ≡ isDigit b ⌝ }
 {
-    48 <= b && b <= 57
+    b'0' <= b && b <= b'9'
 }
 
 fn push(w: Word, b: u8) -> Word
@@ -57,7 +57,7 @@ fn push(w: Word, b: u8) -> Word
     ensures { λ r. ⌜ r ≡ pushed w b ⌝ }
 {
     Word {
-        value: w.value * 10 + (b - 48) as u64,
+        value: w.value * 10 + (b - b'0') as u64,
         digits: w.digits + 1,
     }
 }
@@ -81,7 +81,7 @@ fn step_first(w: Word, b: u8) -> State
     requires { ⌜ Small w ⌝ }
     ensures { λ r. ⌜ r ≡ stepped (State.First w) b ⌝ }
 {
-    if b == 32 {
+    if b == b' ' {
         if w.digits == 0 {
             return State::Bad;
         }

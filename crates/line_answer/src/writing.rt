@@ -39,10 +39,10 @@ fn put_decimal(out: &mut [u8], at: usize, n: u32) -> usize
     ensures { λ r. ⌜ Written (now (out .entry)) at (decimal n) (now (out .exit)) r ⌝ }
 {
     if n < 10 {
-        put(out, at, 48 + n as u8)
+        put(out, at, b'0' + n as u8)
     } else {
         let end = put_decimal(out, at, n / 10);
-        put(out, end, 48 + (n % 10) as u8)
+        put(out, end, b'0' + (n % 10) as u8)
     }
 }
 

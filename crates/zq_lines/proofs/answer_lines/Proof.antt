@@ -1,6 +1,5 @@
 -- `answer_lines` is safe and ends: the measure is the number of turns that are left, and the state stays bounded.
 use mathlib.Core.Path.{_≡_, refl, _∙_, sym, subst}
-use Prim.Native.Nat.{_*_, _≤_}
 use native.Mathlib.Omega.{arith}
 use lib.ListN.{length}
 use borrow.Author.Needs.{needs}

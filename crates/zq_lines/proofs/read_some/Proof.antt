@@ -1,6 +1,6 @@
 -- `read_some` is safe, and the state that it hands on is bounded.
 use mathlib.Core.Path.{sym, subst}
-use Prim.Native.Nat.{_+_, _*_, _≤_}
+use Prim.Native.Nat.{_≤_}
 use native.Mathlib.Omega.{arith}
 use lib.ListN.{length, take}
 use lib.Seq.{length-take-le}

@@ -9,8 +9,8 @@ use Rattle.line_answer.specs.Output.{output}
 use Rattle.line_answer.specs.Reading.{Bounded, start, answers, after, last}
 use Rattle.line_answer.specs.Written.{Written}
 use Rattle.line_answer.specs.declared.reading.State.{State}
-use Rattle.line_answer.proofs.Chunks.{length-answers, fed-output}
-use Rattle.line_answer.proofs.Runs.{written-append, room}
+use Rattle.line_answer.proofs.Chunks.{length-answers, length-output, fed-output}
+use Rattle.line_answer.proofs.Runs.{written-append, written-start, room}
 use Rattle.line_answer.proofs.Small.{bounded-start}
 use Rattle.line_answer.proofs.feeding.answer_input.Statement.{statement}
 use Rattle.line_answer.proofs.feeding.answer_input.Tie as tie
@@ -37,13 +37,15 @@ returns : tie.Need-returns
 returns c =
     let w = c .before .before .before .before .before .before in
     let a = w .before .before .before .before .before .args in
-    both (w .before .before .start .result) (w .feed .result .state) (a .input .now) (a .out .now) (w .feed .last .1 .1 .0) (c .before .before .finish .last .1 .0)
+    written-start
+    (both (w .before .before .start .result) (w .feed .result .state) (a .input .now) (a .out .now) (w .feed .last .1 .1 .0) (c .before .before .finish .last .1 .0)
     (w .feed .result .at)
     (c .before .before .finish .result)
     (w .before .before .start .ensures)
     (w .feed .ensures .0)
     (w .feed .ensures .1)
-    (c .before .before .finish .ensures)
+    (c .before .before .finish .ensures))
+    (omega (arith, w .before .before .before .before .before .pre, length-output (a .input .now)))
 
 pub answer-input-spec : {M : Type 1} → statement M
 answer-input-spec = tie.close (tie.spec (λ c κs. search needs) feed-requires finish-requires (λ c. search needs) returns)

@@ -1,11 +1,10 @@
 -- `feed` meets its contract: after i turns the first i bytes of the chunk are fed.
 use mathlib.Core.Path.{_≡_, refl, _∙_, sym, ap, subst}
-use Prim.Native.Nat.{ℕ, _+_, _-_, _*_, _≤_, _<_}
+use Prim.Native.Nat.{ℕ, _+_, _-_, _≤_, _<_}
 use native.Mathlib.Omega.{arith}
 use mathlib.Core.List.{List}
 use lib.ListN.{length, take, getD}
 use lib.Seq.{take-all, length-take-le}
-use borrow.Author.Needs.{needs}
 use Rattle.line_answer.specs.Reading.{after, answers, written, next, Bounded}
 use Rattle.line_answer.specs.Written.{Written}
 use Rattle.line_answer.specs.declared.reading.State.{State}

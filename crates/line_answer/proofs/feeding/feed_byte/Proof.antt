@@ -1,6 +1,5 @@
 -- `feed_byte` meets its contract.
 use mathlib.Core.Path.{refl}
-use native.Mathlib.Nat.{add-zero}
 use native.Mathlib.Omega.{arith}
 use borrow.Author.Needs.{needs}
 use borrow.Author.Tests.{eq-eqb, ne-eqb}

@@ -1,12 +1,11 @@
 -- `put_decimal` meets its contract. The measure is the number.
-use mathlib.Core.Path.{_≡_, refl, _∙_, sym, ap, subst}
-use Prim.Native.Nat.{ℕ, _+_, _-_, _/_, _%_, _≤_, _<_}
+use mathlib.Core.Path.{_∙_, ap}
+use Prim.Native.Nat.{ℕ, _<_}
 use native.Mathlib.Omega.{arith}
-use lib.ListN.{length, length-append}
+use lib.ListN.{length}
 use borrow.Author.Needs.{needs}
 use borrow.Fn.Kinds.{In}
 use borrow.Fn.PlainCycle.{Measures, is, falls, and}
-use Rattle.line_answer.specs.Text.{decimal}
 use Rattle.line_answer.proofs.Decimal.{decimal-digit, decimal-more, length-decimal-more}
 use Rattle.line_answer.proofs.Runs.{written-append, written-length}
 use Rattle.line_answer.proofs.writing.put_decimal.Reads as put-decimal

@@ -1,10 +1,9 @@
 -- `put_bytes` meets its contract: after i turns the first i bytes are written.
 use mathlib.Core.Path.{_≡_, refl, _∙_, sym, ap}
-use Prim.Native.Nat.{ℕ, _+_, _-_, _≤_, _<_}
+use Prim.Native.Nat.{_+_, _-_, _≤_}
 use native.Mathlib.Omega.{arith}
 use lib.ListN.{length, take, getD, set}
 use lib.Seq.{sets, length-sets, take-all}
-use borrow.Author.Needs.{needs}
 use Rattle.line_answer.proofs.Runs.{sets-take}
 use Rattle.line_answer.proofs.writing.put_bytes.Statement.{statement}
 use Rattle.line_answer.proofs.writing.put_bytes.Tie as tie

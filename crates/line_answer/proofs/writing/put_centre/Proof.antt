@@ -1,5 +1,4 @@
 -- `put_centre` meets its contract.
-use mathlib.Core.Path.{_≡_, _∙_, sym, subst}
 use native.Mathlib.Omega.{arith}
 use borrow.Author.Needs.{needs}
 use Rattle.definitions.specs.Zq.{size}
