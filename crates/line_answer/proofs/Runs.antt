@@ -49,3 +49,9 @@ written-start {l} {m} {xs} {p} w h =
     let n : length xs ≡ p = omega (arith, w .count) in
     let e : m ≡ xs ++ drop p l = w .contents ∙ sets-eq xs l 0 (omega arith) ∙ ap (λ k. xs ++ drop k l) (sym (w .count)) in
     (ap (take p) e ∙ take-at xs (drop p l) p n, ap (drop p) e ∙ drop-at xs (drop p l) p n)
+
+-- the same by the number of bytes
+pub written-first : {l m xs : List ℕ} {p : ℕ} → Written l 0 xs m p → length xs ≤ length l → take (length xs) m ≡ xs
+written-first {l} {m} {xs} {p} w h =
+    let n : length xs ≡ p = omega (arith, w .count) in
+    ap (λ k. take k m) n ∙ written-start w h .0

@@ -17,6 +17,7 @@ pub struct Fed {
     pub at: usize,
 }
 
+// Feeds one byte: a line feed has the line answered.
 fn feed_byte(f: Fed, b: u8, out: &mut [u8]) -> Fed
     requires { ⌜ Bounded (f .state) ⌝ }
     requires { ⌜ f .at + 56 ≤ length (now out) ⌝ }

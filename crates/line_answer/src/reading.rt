@@ -5,6 +5,7 @@ ghost use mathlib.Core.Bool.{Bool};
 ghost use Rattle.line_answer.specs.Text.{isDigit};
 ghost use Rattle.line_answer.specs.Line.{pair as Line·pair};
 ghost use Rattle.line_answer.specs.Reading.{start as Reading·start, pushed, extended, stepped, parsed, isFresh, Small, Bounded};
+use zq::zq::Zq;
 
 // A decimal word as far as it is read.
 pub struct Word {
@@ -31,8 +32,8 @@ pub enum Parsed {
     Refused,
 }
 
-// The modulus, as a u64.
-const MODULUS: u64 = 4294967295;
+// Q as a u64.
+const MODULUS: u64 = Zq::Q as u64;
 
 // The state in which a line begins.
 pub fn start() -> State
@@ -44,12 +45,14 @@ pub fn start() -> State
     })
 }
 
+// Whether a byte is a decimal digit.
 fn is_digit(b: u8) -> bool
     ensures { λ r. ⌜ r ≡ isDigit b ⌝ }
 {
     b'0' <= b && b <= b'9'
 }
 
+// A word with one more digit.
 fn push(w: Word, b: u8) -> Word
     requires { ⌜ Small w ⌝ }
     requires { ⌜ w .digits < 10 ⌝ }
@@ -77,6 +80,7 @@ fn extend(w: Word, b: u8) -> Extended
     }
 }
 
+// One more byte of a first word: a space after a digit begins the second.
 fn step_first(w: Word, b: u8) -> State
     requires { ⌜ Small w ⌝ }
     ensures { λ r. ⌜ r ≡ stepped (State.First w) b ⌝ }
@@ -99,6 +103,7 @@ fn step_first(w: Word, b: u8) -> State
     }
 }
 
+// One more byte of a second word.
 fn step_second(a: u64, w: Word, b: u8) -> State
     requires { ⌜ Small w ⌝ }
     ensures { λ r. ⌜ r ≡ stepped (State.Second a w) b ⌝ }
@@ -121,6 +126,7 @@ pub fn step(s: State, b: u8) -> State
     }
 }
 
+// Two words, refused where one is at or above Q.
 fn pair(a: u64, b: u64) -> Parsed
     ensures { λ r. ⌜ r ≡ Line·pair a b ⌝ }
 {

@@ -13,6 +13,7 @@ use crate::reading::State;
 use crate::reading::parse;
 use zq::zq::Zq;
 
+// One byte.
 fn put(out: &mut [u8], at: usize, b: u8) -> usize
     requires { ⌜ at < length (now out) ⌝ }
     ensures { λ r. ⌜ Written (now (out .entry)) at (b ∷ []) (now (out .exit)) r ⌝ }
@@ -21,6 +22,7 @@ fn put(out: &mut [u8], at: usize, b: u8) -> usize
     at + 1
 }
 
+// Some bytes.
 fn put_bytes(out: &mut [u8], at: usize, bytes: &[u8]) -> usize
     requires { ⌜ at + length (now bytes) ≤ length (now out) ⌝ }
     ensures { λ r. ⌜ Written (now (out .entry)) at (now (bytes .entry)) (now (out .exit)) r ⌝ }
@@ -70,6 +72,7 @@ fn put_centre(out: &mut [u8], at: usize, a: Zq) -> usize
     }
 }
 
+// Both words, their sum, their product and the first one's centre, one space apart.
 fn put_pair(out: &mut [u8], at: usize, a: u32, b: u32) -> usize
     requires { ⌜ Canonical a ⌝ }
     requires { ⌜ at + 55 ≤ length (now out) ⌝ }
@@ -84,7 +87,7 @@ fn put_pair(out: &mut [u8], at: usize, a: u32, b: u32) -> usize
     put_centre(out, fifth, Zq(a))
 }
 
-// What a line stands for.
+// The answer to a line, without its line feed.
 fn put_parsed(out: &mut [u8], at: usize, p: Parsed) -> usize
     requires { ⌜ FirstCanonical p ⌝ }
     requires { ⌜ at + 55 ≤ length (now out) ⌝ }

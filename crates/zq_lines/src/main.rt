@@ -9,7 +9,7 @@ use line_answer::reading::start;
 ghost use Prim.Native.Nat.{_*_, _≤_};
 ghost use lib.ListN.{length};
 ghost use Rattle.line_answer.specs.Reading.{Bounded};
-ghost use Rattle.zq_lines.specs.Turn.{BoundedTurn};
+ghost use Rattle.zq_lines.specs.Turn.{TurnFrom};
 
 // What is left after one read: more to read; the end of the input; or a read or a write that failed.
 enum Turn {
@@ -22,7 +22,7 @@ enum Turn {
 fn read_some(s: State, chunk: &mut [u8], out: &mut [u8]) -> Turn
     requires { ⌜ Bounded s ⌝ }
     requires { ⌜ 56 * length (now chunk) ≤ length (now out) ⌝ }
-    ensures { λ r. ⌜ BoundedTurn r ⌝ }
+    ensures { λ r. ⌜ TurnFrom s (now (chunk .exit)) (now (out .exit)) r ⌝ }
 {
     let got = libc::read(STDIN_FILENO, chunk);
     if got < 0 {
@@ -53,7 +53,7 @@ fn end(s: State, out: &mut [u8])
     }
 }
 
-// Reads to the end of the input. A proved loop has to end, and nothing says that an input does: the loop counts its turns down, from a number that no run uses up.
+// Reads to the end of the input. A proved loop has to end, and nothing says that an input does: the loop counts its reads down from 2^64 − 1, which no run uses up.
 fn answer_lines(chunk: &mut [u8], out: &mut [u8])
     requires { ⌜ 56 * length (now chunk) ≤ length (now out) ⌝ }
     requires { ⌜ 56 ≤ length (now out) ⌝ }
@@ -77,6 +77,7 @@ fn answer_lines(chunk: &mut [u8], out: &mut [u8])
     }
 }
 
+// Reads 1024 bytes at a time; each can end a line, whose answer has at most 56 bytes.
 fn main() {
     let mut chunk = [0u8; 1024];
     let mut out = [0u8; 57344];

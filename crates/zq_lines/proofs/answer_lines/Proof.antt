@@ -4,8 +4,8 @@ use native.Mathlib.Omega.{arith}
 use lib.ListN.{length}
 use borrow.Author.Needs.{needs}
 use Rattle.line_answer.specs.Reading.{Bounded}
-use Rattle.line_answer.proofs.Small.{bounded-start}
-use Rattle.zq_lines.specs.Turn.{BoundedTurn}
+use Rattle.line_answer.proofs.Small.{bounded-start, bounded-after}
+use Rattle.zq_lines.specs.Turn.{TurnFrom}
 use Rattle.zq_lines.proofs.answer_lines.Statement.{statement}
 use Rattle.zq_lines.proofs.answer_lines.Tie as tie
 
@@ -31,7 +31,8 @@ out-length c = c .read-some .kept .1 .1 .0 ∙ c .before .before .before .before
 loop-again : tie.Need-loop-again Inv-loop μ-loop
 loop-again c =
     let r = c .before .before .before .before .before .before .before in
-    (subst BoundedTurn (c .before .s .given .1) (r .read-some .ensures), chunk-length r, out-length r)
+    let t = subst (TurnFrom _ _ _) (c .before .s .given .1) (r .read-some .ensures) in
+    (subst Bounded (sym (t .1)) (bounded-after _ _ (r .before .before .before .before .loop .inv .0)), chunk-length r, out-length r)
 
 end-requires : tie.Need-end-requires Inv-loop μ-loop
 end-requires c κs =
