@@ -2,11 +2,11 @@
 use mathlib.Core.Path.{_≡_, refl, sym, ap, _∙_}
 use mathlib.Core.List.{List, [], _∷_, _++_, map, map-append}
 use mathlib.Core.Logic.{_⊎_, inl, inr}
-use Prim.Native.Nat.{ℕ, zero, suc, _+_, _-_, _≤_, _<_}
+use Prim.Native.Nat.{ℕ, zero, suc, _+_, _≤_, _<_}
 use native.Mathlib.Nat.{not-suc-le-zero, eq-or-lt-of-le}
 use native.Mathlib.Numerals.{add-one}
 use native.Mathlib.Omega.{arith}
-use lib.ListN.{length, getD, take, drop, length-append, length-take, length-drop, length-map, List·getD-append}
+use lib.ListN.{length, getD, take, drop, length-append, length-take, length-drop, List·getD-append}
 use lib.Seq.{ext-getD, getD-at, getD-take, getD-drop}
 use Rattle.lists.specs.Table.{table}
 
@@ -15,7 +15,7 @@ module _ {ℓ} {A : Type ℓ} where
   pub length-table : (n : ℕ) (f : ℕ → A) → length (table n f) ≡ n
   unfolding table
   length-table zero f = refl
-  length-table (suc n) f = length-append (table n f) (f n ∷ []) ∙ ap (λ k. k + 1) (length-table n f) ∙ add-one n
+  length-table (suc n) f = length-append (table n f) _ ∙ ap (λ k. k + 1) (length-table n f) ∙ add-one n
 
   -- element i of a table is the function's value at i
   pub getD-table : (n : ℕ) (f : ℕ → A) (i : ℕ) (d : A) → i < n → getD (table n f) i d ≡ f i
