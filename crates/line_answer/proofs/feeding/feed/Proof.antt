@@ -9,7 +9,7 @@ use Rattle.line_answer.specs.Reading.{after, answers, written, next, Bou
 use Rattle.line_answer.specs.Written.{Written}
 use Rattle.line_answer.specs.declared.reading.State.{State}
 use Rattle.line_answer.proofs.Chunks.{after-take, answers-take, length-answers}
-use Rattle.line_answer.proofs.Runs.{written-append, written-length}
+use Rattle.line_answer.proofs.Runs.{written-none, written-append, written-length}
 use Rattle.line_answer.proofs.Small.{bounded-after}
 use Rattle.line_answer.proofs.feeding.feed.Statement.{statement}
 use Rattle.line_answer.proofs.feeding.feed.Tie as tie
@@ -37,7 +37,7 @@ abbrev μ-loop : tie.MeasureT-loop
 
 loop-holds : tie.Need-loop-holds Inv-loop μ-loop
 unfolding after answers
-loop-holds c = (omega arith, (refl, record { contents = refl; count = refl }))
+loop-holds c = (omega arith, (refl, written-none _ _))
 
 feed-byte-requires : tie.Need-feed-byte-requires Inv-loop μ-loop
 feed-byte-requires c κs =

@@ -1,16 +1,16 @@
 -- `finish` meets its contract.
-use mathlib.Core.Path.{_≡_, refl, sym, _∙_}
+use mathlib.Core.Path.{_≡_, sym, _∙_}
 use mathlib.Core.Bool.{true, false}
-use native.Mathlib.Omega.{arith}
 use borrow.Author.Needs.{needs}
 use Rattle.line_answer.specs.Reading.{isFresh}
+use Rattle.line_answer.proofs.Runs.{written-none}
 use Rattle.line_answer.proofs.feeding.finish.Statement.{statement}
 use Rattle.line_answer.proofs.feeding.finish.Tie as tie
 
 returns : tie.Need-returns
 returns c =
     let h : isFresh (c .before .before .before .args .s) ≡ true = sym (c .before .is-fresh .ensures) ∙ c .if1 .taken in
-    rw h (record { contents = refl; count = omega arith })
+    rw h (written-none _ _)
 
 returns-2 : tie.Need-returns-2
 returns-2 c =
