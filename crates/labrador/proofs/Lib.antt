@@ -1,3 +1,3 @@
 mod Result
-mod Store
 mod Owned
+pub mod Rows
