@@ -1,0 +1,653 @@
+//! The cases of the calls on whole slices, family after family.
+
+use crate::cases::{Case, Context, Expected};
+use crate::instances::*;
+use crate::random::Random;
+use model::formulas::{outer_u1, outer_u2};
+use model::leaves::{add, Q};
+use model::refusals::{output_need, LIMITS};
+use model::words::*;
+use model::{Answer, Call};
+
+/// Which bound stands just at its figure or just below.
+#[derive(Clone, Copy, Debug, PartialEq, Eq)]
+enum Tight {
+    Loose,
+    /// Every bound equals its figure.
+    Equal,
+    /// Of A, B, C or D.
+    Below(usize),
+    ProjectionBelow,
+    SumBelow,
+}
+
+const TIGHT: [Tight; 8] = [
+    Tight::Loose,
+    Tight::Equal,
+    Tight::Below(0),
+    Tight::Below(1),
+    Tight::Below(2),
+    Tight::Below(3),
+    Tight::ProjectionBelow,
+    Tight::SumBelow,
+];
+
+impl Tight {
+    fn name(self) -> &'static str {
+        match self {
+            Tight::Loose => "bounds loose",
+            Tight::Equal => "bounds equal to their figures",
+            Tight::Below(0) => "A's bound below a vector's norm",
+            Tight::Below(1) => "B's bound below the norm of t's digits",
+            Tight::Below(2) => "C's bound below the norm of g's digits",
+            Tight::Below(_) => "D's bound below the norm of h's digits",
+            Tight::ProjectionBelow => "128·beta_sq below the projection's norm",
+            Tight::SumBelow => "beta_prime_sq below the sum of digit norms",
+        }
+    }
+}
+
+fn below(figure: u128) -> u128 {
+    figure.saturating_sub(1).min(LOOSE)
+}
+
+/// Sets the bounds by the figures of a transcript.
+fn tighten(p: &mut Parameters, figures: &Figures, tight: Tight) {
+    let largest = *figures.witness.iter().max().expect("r is at least 1");
+    match tight {
+        Tight::Loose => {}
+        Tight::Equal => {
+            p.bounds = [largest, figures.digits[0], figures.digits[1], figures.digits[2]];
+            p.beta_sq = figures.projection.div_ceil(128);
+            p.beta_prime_sq = figures.sum;
+        }
+        Tight::Below(0) => p.bounds[0] = below(largest),
+        Tight::Below(k) => p.bounds[k] = below(figures.digits[k - 1]),
+        Tight::ProjectionBelow => p.beta_sq = below(figures.projection) / 128,
+        Tight::SumBelow => p.beta_prime_sq = below(figures.sum),
+    }
+}
+
+/// The transcript of an instance by the model.
+fn modelled(instance: &Instance) -> Transcript {
+    let p = &instance.parameters;
+    model::formulas::transcript(
+        &Job::read(&instance.job_words()),
+        &Randomness::read(p, &instance.randomness_words()),
+        &read_witness(p, &instance.witness_words()),
+    )
+    .0
+}
+
+/// Random instances: every small n, r, K, l and every log_q; statements met and not; bounds loose, equal and below;
+/// then random damage to the transcript.
+pub fn random_instances(context: &mut Context, random: &mut Random, count: usize) {
+    let sizes = [
+        Size::Bits(0),
+        Size::Bits(3),
+        Size::Bits(8),
+        Size::Bits(16),
+        Size::Any,
+        Size::Ends,
+        Size::Sixteens,
+        Size::Zero,
+    ];
+    for i in 0..count {
+        let parameters = small(random, i);
+        let size = sizes[i / 3 % sizes.len()];
+        let mut instance = Instance::random(random, parameters, size);
+        let off = if i % 2 == 0 { Off::Met } else { random.pick(&Off::ALL) };
+        instance.put_off(random, off);
+        let tight = random.pick(&TIGHT);
+        if tight != Tight::Loose {
+            let figures = instance.figures(&modelled(&instance));
+            tighten(&mut instance.parameters, &figures, tight);
+        }
+        let purpose = if tight == Tight::Loose { off.name() } else { tight.name() };
+        let spare = random.below(4);
+        if let Some(transcript) = context.prover(purpose, &instance, spare) {
+            damage_at_random(context, random, &instance, &transcript);
+        }
+    }
+}
+
+/// One word of the transcript changed.
+fn damage_at_random(context: &mut Context, random: &mut Random, instance: &Instance, transcript: &[u32]) {
+    let mut sections = split(transcript);
+    let k = random.below(sections.len());
+    let word = {
+        let at = random.below(sections[k].len());
+        &mut sections[k][at]
+    };
+    *word = match random.below(3) {
+        0 => random.number(),
+        1 => add(*word, 1),
+        _ => 0,
+    };
+    context.verifier("one word of the transcript changed", instance, &join(&sections), 0);
+}
+
+/// Sizes at their limits, one or two at a time.
+pub fn limits(context: &mut Context, random: &mut Random) {
+    let base = Parameters {
+        n: 1,
+        r: 1,
+        kappa: 4,
+        kappa1: 1,
+        kappa2: 1,
+        ring: 1,
+        constant: 1,
+        log_q: 32,
+        b: 16,
+        t1: 2,
+        t2: 2,
+        beta_sq: LOOSE,
+        beta_prime_sq: LOOSE,
+        bounds: [LOOSE; 4],
+    };
+    let eight = Parameters {
+        log_q: 16,
+        kappa: 8,
+        ..base
+    };
+    let all = [
+        ("n at its limit", Parameters { n: 64, ..base }),
+        ("r at its limit", Parameters { r: 16, ..base }),
+        ("κ1 and κ2 at their limits", Parameters { kappa1: 16, kappa2: 16, ..base }),
+        ("K at its limit", Parameters { ring: 64, ..base }),
+        ("l at its limit", Parameters { constant: 64, ..base }),
+        ("log_q at its least", eight),
+        ("log_q 31", Parameters { log_q: 31, kappa: 5, ..base }),
+        ("log_q 32", base),
+        ("b at its least, t1 and t2 at their limits", Parameters { b: 2, t1: 32, t2: 32, ..base }),
+        ("b at its limit", Parameters { b: 4294967294, ..base }),
+        ("t1 and t2 at their least", Parameters { t1: 1, t2: 1, r: 2, ..base }),
+        ("t1 at its limit", Parameters { t1: 32, r: 2, b: 3, ..eight }),
+        ("t2 at its limit", Parameters { t2: 32, r: 2, b: 3, ..base }),
+    ];
+    for (purpose, parameters) in all {
+        for size in [Size::Bits(4), Size::Ends] {
+            let mut instance = Instance::random(random, parameters, size);
+            let figures = instance.figures(&modelled(&instance));
+            tighten(&mut instance.parameters, &figures, Tight::Equal);
+            context.prover(purpose, &instance, 1);
+        }
+    }
+}
+
+/// Every size at its limit at once: about 33 million words.
+pub fn largest(context: &mut Context, random: &mut Random) {
+    let parameters = Parameters {
+        n: 64,
+        r: 16,
+        kappa: 8,
+        kappa1: 16,
+        kappa2: 16,
+        ring: 64,
+        constant: 64,
+        log_q: 16,
+        b: 2,
+        t1: 32,
+        t2: 32,
+        beta_sq: LOOSE,
+        beta_prime_sq: LOOSE,
+        bounds: [LOOSE; 4],
+    };
+    let instance = Instance::random(random, parameters, Size::Any);
+    context.prover("every size at its limit", &instance, 1);
+}
+
+/// Parameters of a small instance with two vectors.
+pub fn pair_parameters() -> Parameters {
+    Parameters {
+        n: 1,
+        r: 2,
+        kappa: 4,
+        kappa1: 1,
+        kappa2: 2,
+        ring: 2,
+        constant: 2,
+        log_q: 32,
+        b: 65536,
+        t1: 2,
+        t2: 1,
+        beta_sq: LOOSE,
+        beta_prime_sq: LOOSE,
+        bounds: [LOOSE; 4],
+    }
+}
+
+/// Every bound at its figure and just below, for prover and verifier.
+pub fn bounds(context: &mut Context, random: &mut Random, parameters: Parameters) {
+    let instance = Instance::random(random, parameters, Size::Sixteens);
+    let figures = instance.figures(&modelled(&instance));
+    assert_eq!(figures.projection % 128, 0);
+    for tight in TIGHT {
+        let mut instance = instance.clone();
+        tighten(&mut instance.parameters, &figures, tight);
+        context.prover(tight.name(), &instance, 0);
+    }
+    // the lowest vector above A's bound
+    let mut rising = instance.clone();
+    for (i, chunk) in rising.witness.chunks_mut(64 * parameters.n).enumerate() {
+        chunk.fill(0);
+        chunk[0] = 1 + i as u32;
+    }
+    for i in 0..parameters.r {
+        rising.parameters.bounds[0] = (1 + i as u128).pow(2) - 1;
+        context.prover("A's bound below the norm of each vector in turn", &rising, 0);
+    }
+    let mut zero = instance.clone();
+    zero.parameters.bounds[0] = 0;
+    context.prover("A's bound 0", &zero, 0);
+    // bounds from q² / rows³ on, which the Rust's constructor refuses
+    let mut wide = instance.clone();
+    wide.parameters.bounds = [1 << 64; 4];
+    context.prover("bounds of 2^64", &wide, 0);
+    // the least limit of check 21 that needs more than three words
+    let mut long = instance;
+    long.parameters.beta_sq = (1 << 96) - 1;
+    context.prover("a limit of check 21 beyond three words", &long, 0);
+}
+
+/// Constraints off, and weights under which an error does not show.
+pub fn statements(context: &mut Context, random: &mut Random, parameters: Parameters) {
+    for off in Off::ALL {
+        let mut instance = Instance::random(random, parameters, Size::Bits(4));
+        instance.put_off(random, off);
+        context.prover(off.name(), &instance, 0);
+    }
+    let unmet = {
+        let mut instance = Instance::random(random, parameters, Size::Bits(4));
+        instance.put_off(random, Off::All);
+        instance
+    };
+    let l = parameters.constant;
+
+    let mut hidden = unmet.clone();
+    hidden.randomness[1].fill(0);
+    hidden.randomness[3].fill(0);
+    context.prover("errors under psi and alpha of zero", &hidden, 0);
+
+    let mut last = unmet.clone();
+    let rows = parameters.aggregations();
+    last.randomness[1][..(rows - 1) * l].fill(0);
+    context.prover("errors that only the last psi row shows", &last, 0);
+
+    // 65537·65535 = 0 modulo Q
+    let mut divisors = Instance::random(random, parameters, Size::Bits(4));
+    divisors.job[2][0] = add(divisors.job[2][0], 65537);
+    divisors.job[5][0] = add(divisors.job[5][0], 65537);
+    for (at, word) in divisors.randomness[1].iter_mut().enumerate() {
+        if at % l == 0 {
+            *word = 65535;
+        }
+    }
+    divisors.randomness[3][..64].fill(0);
+    divisors.randomness[3][0] = 65535;
+    context.prover("errors that are zero under their weights", &divisors, 0);
+
+    // two errors that cancel
+    let mut cancel = Instance::random(random, parameters, Size::Bits(4));
+    if l > 1 && parameters.ring > 1 {
+        for row in 0..rows {
+            cancel.randomness[1][row * l + 1] = cancel.randomness[1][row * l];
+        }
+        cancel.job[2][0] = add(cancel.job[2][0], 5);
+        cancel.job[2][1] = add(cancel.job[2][1], Q - 5);
+        let first: Vec<u32> = cancel.randomness[3][..64].to_vec();
+        cancel.randomness[3][64..128].copy_from_slice(&first);
+        cancel.job[5][7] = add(cancel.job[5][7], 5);
+        cancel.job[5][64 + 7] = add(cancel.job[5][64 + 7], Q - 5);
+        context.prover("errors that cancel", &cancel, 0);
+    }
+
+    // doubling loses nothing modulo an odd Q
+    let mut half = Instance::random(random, parameters, Size::Bits(4));
+    half.job[5][3] = add(half.job[5][3], 2147483648);
+    context.prover("a ring error of half of Q + 1", &half, 0);
+
+    let mut zero = unmet;
+    zero.witness.fill(0);
+    context.prover("a witness of zeros for another's statement", &zero, 0);
+}
+
+/// The verifier's checks and refusals in their order.
+const ORDER: [u32; 12] = [21, 22, 23, 24, 25, 26, 27, 14, 15, 28, 16, 29];
+
+/// An instance and a transcript on which exactly the given checks fail.
+fn break_checks(instance: &Instance, made: &Transcript, broken: &[u32]) -> (Instance, Transcript) {
+    let mut instance = instance.clone();
+    let mut sent = made.clone();
+    let one_more = |word: &mut u32| *word = add(*word, 1);
+    let breaks = |number: u32| broken.contains(&number);
+    if breaks(22) {
+        one_more(&mut instance.job[2][0]);
+    }
+    if breaks(24) {
+        one_more(&mut instance.job[6][0]);
+    }
+    if breaks(27) {
+        one_more(&mut instance.job[5][0]);
+    }
+    if breaks(25) {
+        // a and a' are zero, so check 27 does not see g
+        one_more(&mut sent.g[0][5]);
+    }
+    if breaks(26) {
+        // check 27 sees h's diagonal only
+        one_more(&mut sent.h[cell(1, 0)][5]);
+    }
+    let job = Job::read(&instance.job_words());
+    sent.u1 = outer_u1(&job, &sent.t, &sent.g);
+    sent.u2 = outer_u2(&job, &sent.h);
+    if breaks(28) {
+        one_more(&mut sent.u1[0][63]);
+    }
+    if breaks(29) {
+        one_more(&mut sent.u2[0][63]);
+    }
+    let figures = instance.figures(&sent);
+    let p = &mut instance.parameters;
+    if breaks(21) {
+        tighten(p, &figures, Tight::ProjectionBelow);
+    }
+    if breaks(23) {
+        tighten(p, &figures, Tight::SumBelow);
+    }
+    for k in 1..4 {
+        if breaks(13 + k as u32) {
+            tighten(p, &figures, Tight::Below(k));
+        }
+    }
+    (instance, sent)
+}
+
+/// Transcripts and jobs on which each check fails alone, and each two together.
+pub fn broken_checks(context: &mut Context, random: &mut Random, parameters: Parameters) {
+    let mut instance = Instance::random(random, parameters, Size::Bits(4));
+    instance.job[0].fill(0);
+    instance.job[3].fill(0);
+    instance.meet();
+    let made = modelled(&instance);
+    let run = |context: &mut Context, purpose: &'static str, broken: &[u32]| {
+        let (instance, sent) = break_checks(&instance, &made, broken);
+        let answer = context.verifier(purpose, &instance, &join(&sent.sections()), 0);
+        context.tally.compare(
+            "the Rust's verdict with the checks broken",
+            &Some(answer.number),
+            &broken.first().copied().or(Some(0)),
+            || format!("{broken:?}"),
+        );
+    };
+    run(context, "no check broken", &[]);
+    for (k, &first) in ORDER.iter().enumerate() {
+        run(context, "one check broken", &[first]);
+        for &second in &ORDER[k + 1..] {
+            run(context, "two checks broken", &[first, second]);
+        }
+    }
+    run(context, "all checks broken", &ORDER);
+}
+
+/// The first and the last word of each section of the transcript changed, and a transcript of zeros.
+pub fn damaged_sections(context: &mut Context, random: &mut Random, parameters: Parameters) {
+    let instance = Instance::random(random, parameters, Size::Bits(4));
+    let sections = modelled(&instance).sections();
+    for k in 0..sections.len() {
+        for at in [0, sections[k].len() - 1] {
+            let mut sections = sections.clone();
+            sections[k][at] = add(sections[k][at], 1);
+            context.verifier("one end of a section changed", &instance, &join(&sections), 0);
+        }
+    }
+    let zeros: Vec<Vec<u32>> = sections.iter().map(|s| vec![0; s.len()]).collect();
+    context.verifier("a transcript of zeros", &instance, &join(&zeros), 0);
+}
+
+/// A fault of the input.
+struct Fault {
+    /// When it is looked for: the tests of document 01's order, numbered.
+    stage: usize,
+    /// The number and the place of its refusal.
+    aim: (u32, usize),
+    kind: Kind,
+}
+
+#[derive(Clone, Copy)]
+enum Kind {
+    /// A word of a slice takes a value.
+    Word(Slice, usize, u32),
+    /// A word of a slice goes up by this, modulo 2^32.
+    Change(Slice, usize, u32),
+    /// A slice ends at this length.
+    Cut(Slice, usize),
+    /// A slice has a word too many.
+    Surplus(Slice),
+    Scratch(usize),
+    Output(usize),
+}
+
+#[derive(Clone, Copy, PartialEq, Eq)]
+enum Slice {
+    Job,
+    Randomness,
+    Third,
+}
+
+impl Slice {
+    fn of(self, case: &mut Case) -> &mut Vec<u32> {
+        match self {
+            Slice::Job => &mut case.job,
+            Slice::Randomness => &mut case.randomness,
+            Slice::Third => &mut case.third,
+        }
+    }
+}
+
+impl Fault {
+    fn make(&self, case: &mut Case) {
+        match self.kind {
+            Kind::Word(slice, at, word) => slice.of(case)[at] = word,
+            Kind::Change(slice, at, by) => {
+                let word = &mut slice.of(case)[at];
+                *word = word.wrapping_add(by);
+            }
+            Kind::Cut(slice, length) => slice.of(case).truncate(length),
+            Kind::Surplus(slice) => slice.of(case).push(0),
+            Kind::Scratch(length) => case.scratch = length,
+            Kind::Output(length) => case.output = length,
+        }
+    }
+
+    /// The word that it sets.
+    fn word(&self) -> Option<(Slice, usize)> {
+        match self.kind {
+            Kind::Word(slice, at, _) | Kind::Change(slice, at, _) => Some((slice, at)),
+            _ => None,
+        }
+    }
+
+    /// Whether it shortens a slice, and so comes after a fault that sets a word.
+    fn is_cut(&self) -> bool {
+        matches!(self.kind, Kind::Cut(..))
+    }
+}
+
+/// Where each section's count stands, and the slice's length.
+fn starts(counts: &[usize]) -> (Vec<usize>, usize) {
+    let mut at = 0;
+    let starts = counts
+        .iter()
+        .map(|count| {
+            at += 1 + count;
+            at - 1 - count
+        })
+        .collect();
+    (starts, at)
+}
+
+/// The faults of a slice from one of its sections on: a count one off; the slice ending before and after a count and
+/// before a section's last word; a word too many.
+fn layout_faults(slice: Slice, stage: usize, number: u32, counts: &[usize], from: usize) -> Vec<Fault> {
+    let (starts, length) = starts(counts);
+    let fault = |place: usize, kind: Kind| Fault {
+        stage,
+        aim: (number, place),
+        kind,
+    };
+    let mut faults = vec![fault(length, Kind::Surplus(slice))];
+    for (&at, count) in starts.iter().zip(counts).skip(from) {
+        faults.push(fault(at, Kind::Change(slice, at, 1)));
+        faults.push(fault(at, Kind::Change(slice, at, u32::MAX)));
+        for length in [at, at + 1, at + count] {
+            faults.push(fault(length, Kind::Cut(slice, length)));
+        }
+    }
+    faults
+}
+
+/// The first and the last word of a section out of range.
+fn word_faults(slice: Slice, stage: usize, number: u32, start: usize, count: usize, word: u32) -> [Fault; 2] {
+    [start + 1, start + count].map(|at| Fault {
+        stage,
+        aim: (number, at),
+        kind: Kind::Word(slice, at, word),
+    })
+}
+
+/// Every fault of a call on a fit input, by stages in document 01's order.
+fn faults(p: &Parameters, call: Call) -> Vec<Fault> {
+    let mut faults = vec![];
+    // 0: section one's layout; 1: a parameter outside its limits; 2: κ is not L
+    faults.extend(layout_faults(Slice::Job, 0, 3, &[PARAMETERS], 0).into_iter().skip(1));
+    for (k, (least, greatest)) in LIMITS.iter().enumerate() {
+        for word in [least - 1, greatest + 1, 0, Q] {
+            faults.push(Fault {
+                stage: 1,
+                aim: (4, 1 + k),
+                kind: Kind::Word(Slice::Job, 1 + k, word),
+            });
+        }
+    }
+    for kappa in [p.kappa - 1, p.kappa + 1, 1, 16] {
+        faults.push(Fault {
+            stage: 2,
+            aim: (5, 3),
+            kind: Kind::Word(Slice::Job, 3, kappa as u32),
+        });
+    }
+    // 3: the other sections' layout; 4: their words
+    let counts = p.job_counts();
+    faults.extend(layout_faults(Slice::Job, 3, 3, &counts, 1));
+    let (at, _) = starts(&counts);
+    for k in 1..counts.len() {
+        faults.extend(word_faults(Slice::Job, 4, 6, at[k], counts[k], Q));
+    }
+    // 5: the randomness's layout; 6: its words
+    let counts = &p.randomness_counts()[..call.randomness_sections()];
+    faults.extend(layout_faults(Slice::Randomness, 5, 7, counts, 0));
+    let (at, _) = starts(counts);
+    for k in 0..counts.len().min(5) {
+        faults.extend(word_faults(Slice::Randomness, 6, 8, at[k], counts[k], Q));
+    }
+    for word in [2, Q] {
+        if counts.len() > 5 {
+            faults.extend(word_faults(Slice::Randomness, 6, 8, at[5], counts[5], word));
+        }
+    }
+    // 7: the third slice's layout; 8: its words
+    let (number, counts) = match call {
+        Call::Verify => (9, p.transcript_counts()),
+        _ => (11, p.witness_counts()),
+    };
+    faults.extend(layout_faults(Slice::Third, 7, number, &counts, 0));
+    let (at, _) = starts(&counts);
+    for k in 0..counts.len() {
+        faults.extend(word_faults(Slice::Third, 8, number + 1, at[k], counts[k], Q));
+    }
+    // 9: scratch; 10: output
+    let need = p.scratch_need();
+    for length in [need - 1, 0] {
+        faults.push(Fault {
+            stage: 9,
+            aim: (1, need),
+            kind: Kind::Scratch(length),
+        });
+    }
+    if call != Call::Verify {
+        let need = output_need(p, call);
+        for length in [need - 1, 0] {
+            faults.push(Fault {
+                stage: 10,
+                aim: (2, need),
+                kind: Kind::Output(length),
+            });
+        }
+    }
+    faults
+}
+
+/// Unfit inputs of a call: each fault alone; then pairs of faults, for every pair of stages as often as asked. The
+/// earlier stage answers, and within a stage the lower place.
+pub fn unfit(context: &mut Context, random: &mut Random, parameters: Parameters, call: Call, pairs: usize) {
+    let p = &parameters;
+    let instance = Instance::random(random, parameters, Size::Bits(4));
+    let third = match call {
+        Call::Verify => join(&modelled(&instance).sections()),
+        _ => instance.witness_words(),
+    };
+    let job = instance.job_words();
+    let randomness = join(&instance.randomness[..call.randomness_sections()]);
+    let case = |purpose: &'static str| Case {
+        purpose,
+        call,
+        job: job.clone(),
+        randomness: randomness.clone(),
+        third: third.clone(),
+        scratch: p.scratch_need(),
+        output: output_need(p, call),
+        expected: Expected {
+            answer: Answer::FINE,
+            worked: None,
+        },
+    };
+    let faults = faults(p, call);
+    for fault in &faults {
+        let mut case = case("one fault in the input");
+        fault.make(&mut case);
+        context.unfit(case, fault.aim);
+    }
+    let stages: Vec<Vec<&Fault>> = (0..=10)
+        .map(|stage| faults.iter().filter(|f| f.stage == stage).collect())
+        .collect();
+    for (k, earlier) in stages.iter().enumerate() {
+        for later in &stages[k..] {
+            if earlier.is_empty() || later.is_empty() {
+                continue;
+            }
+            for _ in 0..pairs {
+                let mut two = [random.pick(earlier), random.pick(later)];
+                if two[0].word().is_some() && two[0].word() == two[1].word() {
+                    // the second would undo the first
+                    continue;
+                }
+                let first = two.iter().min_by_key(|f| (f.stage, f.aim.1)).expect("two faults");
+                let aim = first.aim;
+                two.sort_by_key(|f| f.is_cut());
+                let mut case = case("two faults in the input");
+                for fault in two {
+                    fault.make(&mut case);
+                }
+                context.unfit(case, aim);
+            }
+        }
+    }
+}
+
+/// Words that are free: shuffle words and the bounds' words, all 4294967295.
+pub fn free_words(context: &mut Context, random: &mut Random, parameters: Parameters) {
+    let mut instance = Instance::random(random, parameters, Size::Bits(4));
+    instance.randomness[6].fill(4294967295);
+    context.prover("free words of 4294967295", &instance, 0);
+}
