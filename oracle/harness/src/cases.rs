@@ -1,7 +1,7 @@
 //! A case of a call on whole slices, with the answer that is expected of it.
 
 use crate::instances::Instance;
-use crate::library;
+use crate::leaves::Leaves;
 use crate::record::Recorder;
 use crate::rust;
 use crate::tally::Tally;
@@ -75,7 +75,15 @@ impl Context {
         for number in [0, 13, 14, 15, 16, 21, 22, 23, 27] {
             tally.must_occur(CONDITIONS, format!("{number:>2}"));
         }
+        Leaves::must_occur(&mut tally);
         Context { tally, recorder }
+    }
+
+    pub fn leaves(&mut self) -> Leaves<'_> {
+        Leaves {
+            tally: &mut self.tally,
+            recorder: &mut self.recorder,
+        }
     }
 
     /// Counts a case, compares the library's answer with the expected one, and records it.
@@ -83,10 +91,7 @@ impl Context {
         self.tally
             .occurred(CALLS, row(case.call, case.expected.answer.number));
         self.tally.occurred(PURPOSES, case.purpose);
-        if let Some((ours, theirs)) = library::compare(&case) {
-            self.tally
-                .compare("library with expected answer", &ours, &theirs, || case.describe());
-        }
+        self.tally.library(&case);
         if let Some(recorder) = &mut self.recorder {
             recorder.case(&case);
         }
@@ -220,6 +225,62 @@ impl Context {
         });
         answer
     }
+}
+
+impl Tally {
+    /// Compares the library's answer with the expected one.
+    pub fn library(&mut self, case: &Case) {
+        if let Some(ours) = ours(case) {
+            let expected = Seen {
+                answer: case.expected.answer,
+                ..Seen::default()
+            };
+            self.compare("library with the expected answer", &ours, &expected, || case.describe());
+        }
+    }
+}
+
+/// What is seen of a call of the library: its answer, and the first word of each buffer that is not as expected.
+#[derive(Debug, Default, PartialEq, Eq)]
+struct Seen {
+    answer: Answer,
+    scratch: Option<usize>,
+    output: Option<usize>,
+}
+
+/// Words behind each lent buffer, which no call may touch.
+const GUARD: usize = 16;
+
+/// The library's call on a case, with buffers whose words are all known beforehand.
+fn ours(case: &Case) -> Option<Seen> {
+    if !library::HAS_WHOLE_CALLS {
+        return None;
+    }
+    let before = |length: usize| -> Vec<u32> { (0..length + GUARD).map(|k| 0xc0de_0000 ^ k as u32).collect() };
+    let mut scratch = before(case.scratch);
+    let mut output = before(case.output);
+    let answer = library::whole(
+        case.call,
+        library::Handed {
+            job: &case.job,
+            randomness: &case.randomness,
+            third: &case.third,
+            scratch: &mut scratch[..case.scratch],
+            output: &mut output[..case.output],
+        },
+    )?;
+    let mut scratch_after = before(case.scratch);
+    let mut output_after = before(case.output);
+    if let Some(words) = &case.expected.worked {
+        scratch_after[..case.scratch_need()].fill(0);
+        output_after[..words.len()].copy_from_slice(words);
+    }
+    let first = |x: &[u32], y: &[u32]| x.iter().zip(y).position(|(a, b)| a != b);
+    Some(Seen {
+        answer,
+        scratch: first(&scratch, &scratch_after),
+        output: first(&output, &output_after),
+    })
 }
 
 fn row(call: Call, number: u32) -> String {

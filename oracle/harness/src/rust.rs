@@ -364,13 +364,12 @@ pub mod leaf {
         words(&drawn.elements()[0])
     }
 
-    /// The words that one projection of one element takes.
-    pub const PROJECTION: usize = 256 * 64;
-
-    /// The entries of a whole projection of one element.
-    pub fn projection_entries(projection: &[u32]) -> Vec<u32> {
-        Tape::new(projection.to_vec(), vec![], vec![]).load();
+    /// The entry of a projection word, drawn as the first of a projection of one element.
+    pub fn projection_entry(word: u32) -> u32 {
+        let mut projection = vec![0; 256 * 64];
+        projection[0] = word;
+        Tape::new(projection, vec![], vec![]).load();
         let drawn = LabradorTranscript::new(Playback).generate_projections(128, 1, 1);
-        matrix_words(&drawn.get_projection_matrices()[0])
+        drawn.get_projection_matrices()[0].get_cell(0, 0).coeffs()[0].get_value()
     }
 }

@@ -79,10 +79,9 @@ fn modelled(instance: &Instance) -> Transcript {
     .0
 }
 
-/// Random instances: every small n, r, K, l and every log_q; statements met and not; bounds loose, equal and below;
-/// then random damage to the transcript.
-pub fn random_instances(context: &mut Context, random: &mut Random, count: usize) {
-    let sizes = [
+/// A random instance: its statement met or not, its bounds loose, equal or below; then random damage to the transcript.
+pub fn random_instance(context: &mut Context, random: &mut Random, parameters: Parameters) {
+    let size = random.pick(&[
         Size::Bits(0),
         Size::Bits(3),
         Size::Bits(8),
@@ -91,23 +90,22 @@ pub fn random_instances(context: &mut Context, random: &mut Random, count: usize
         Size::Ends,
         Size::Sixteens,
         Size::Zero,
-    ];
-    for i in 0..count {
-        let parameters = small(random, i);
-        let size = sizes[i / 3 % sizes.len()];
-        let mut instance = Instance::random(random, parameters, size);
-        let off = if i % 2 == 0 { Off::Met } else { random.pick(&Off::ALL) };
-        instance.put_off(random, off);
-        let tight = random.pick(&TIGHT);
-        if tight != Tight::Loose {
-            let figures = instance.figures(&modelled(&instance));
-            tighten(&mut instance.parameters, &figures, tight);
-        }
-        let purpose = if tight == Tight::Loose { off.name() } else { tight.name() };
-        let spare = random.below(4);
-        if let Some(transcript) = context.prover(purpose, &instance, spare) {
-            damage_at_random(context, random, &instance, &transcript);
-        }
+    ]);
+    let mut instance = Instance::random(random, parameters, size);
+    let off = match random.below(2) {
+        0 => Off::Met,
+        _ => random.pick(&Off::ALL),
+    };
+    instance.put_off(random, off);
+    let tight = random.pick(&TIGHT);
+    if tight != Tight::Loose {
+        let figures = instance.figures(&modelled(&instance));
+        tighten(&mut instance.parameters, &figures, tight);
+    }
+    let purpose = if tight == Tight::Loose { off.name() } else { tight.name() };
+    let spare = random.below(4);
+    if let Some(transcript) = context.prover(purpose, &instance, spare) {
+        damage_at_random(context, random, &instance, &transcript);
     }
 }
 
@@ -167,12 +165,17 @@ pub fn limits(context: &mut Context, random: &mut Random) {
     ];
     for (purpose, parameters) in all {
         for size in [Size::Bits(4), Size::Ends] {
-            let mut instance = Instance::random(random, parameters, size);
-            let figures = instance.figures(&modelled(&instance));
-            tighten(&mut instance.parameters, &figures, Tight::Equal);
-            context.prover(purpose, &instance, 1);
+            at_bounds(context, random, purpose, parameters, size);
         }
     }
+}
+
+/// An instance with every bound equal to its figure.
+fn at_bounds(context: &mut Context, random: &mut Random, purpose: &'static str, parameters: Parameters, size: Size) {
+    let mut instance = Instance::random(random, parameters, size);
+    let figures = instance.figures(&modelled(&instance));
+    tighten(&mut instance.parameters, &figures, Tight::Equal);
+    context.prover(purpose, &instance, 1);
 }
 
 /// Every size at its limit at once: about 33 million words.
@@ -217,11 +220,43 @@ pub fn pair_parameters() -> Parameters {
     }
 }
 
-/// Every bound at its figure and just below, for prover and verifier.
-pub fn bounds(context: &mut Context, random: &mut Random, parameters: Parameters) {
-    let instance = Instance::random(random, parameters, Size::Sixteens);
-    let figures = instance.figures(&modelled(&instance));
-    assert_eq!(figures.projection % 128, 0);
+/// A few small instances: log_q from 16 to 32, bases and parts at and inside their limits.
+pub fn few(context: &mut Context, random: &mut Random) {
+    let with = |n, r, log_q: usize, b, t1, t2| Parameters {
+        n,
+        r,
+        log_q,
+        kappa: 128_usize.div_ceil(log_q),
+        b,
+        t1,
+        t2,
+        ..pair_parameters()
+    };
+    let all = [
+        (with(1, 1, 16, 2, 4, 32), Size::Any),
+        (with(1, 1, 19, 4294967294, 1, 1), Size::Ends),
+        (with(1, 1, 22, 3, 2, 3), Size::Bits(16)),
+        (with(1, 1, 25, 10, 3, 2), Size::Any),
+        (with(1, 1, 26, 65537, 2, 2), Size::Ends),
+        (with(1, 1, 31, 2147483648, 1, 2), Size::Zero),
+        (with(2, 1, 32, 256, 4, 4), Size::Bits(8)),
+        (with(1, 3, 32, 16, 2, 8), Size::Bits(0)),
+    ];
+    for (parameters, size) in all {
+        at_bounds(context, random, "log_q, b, t1 and t2 within their limits", parameters, size);
+    }
+}
+
+/// An instance for the families below, whose projection's norm 128 divides.
+pub fn base(random: &mut Random, parameters: Parameters) -> Instance {
+    Instance::random(random, parameters, Size::Sixteens)
+}
+
+/// Every bound at its figure and just below.
+pub fn bounds(context: &mut Context, instance: &Instance) {
+    let r = instance.parameters.r;
+    let figures = instance.figures(&modelled(instance));
+    assert_eq!(figures.projection % 128, 0, "128·beta_sq can equal it");
     for tight in TIGHT {
         let mut instance = instance.clone();
         tighten(&mut instance.parameters, &figures, tight);
@@ -229,11 +264,11 @@ pub fn bounds(context: &mut Context, random: &mut Random, parameters: Parameters
     }
     // the lowest vector above A's bound
     let mut rising = instance.clone();
-    for (i, chunk) in rising.witness.chunks_mut(64 * parameters.n).enumerate() {
+    for (i, chunk) in rising.witness.chunks_mut(64 * instance.parameters.n).enumerate() {
         chunk.fill(0);
         chunk[0] = 1 + i as u32;
     }
-    for i in 0..parameters.r {
+    for i in 0..r {
         rising.parameters.bounds[0] = (1 + i as u128).pow(2) - 1;
         context.prover("A's bound below the norm of each vector in turn", &rising, 0);
     }
@@ -245,24 +280,22 @@ pub fn bounds(context: &mut Context, random: &mut Random, parameters: Parameters
     wide.parameters.bounds = [1 << 64; 4];
     context.prover("bounds of 2^64", &wide, 0);
     // the least limit of check 21 that needs more than three words
-    let mut long = instance;
+    let mut long = instance.clone();
     long.parameters.beta_sq = (1 << 96) - 1;
     context.prover("a limit of check 21 beyond three words", &long, 0);
 }
 
 /// Constraints off, and weights under which an error does not show.
-pub fn statements(context: &mut Context, random: &mut Random, parameters: Parameters) {
+pub fn statements(context: &mut Context, random: &mut Random, instance: &Instance) {
+    let p = &instance.parameters;
+    let (l, rows) = (p.constant, p.aggregations());
     for off in Off::ALL {
-        let mut instance = Instance::random(random, parameters, Size::Bits(4));
-        instance.put_off(random, off);
-        context.prover(off.name(), &instance, 0);
+        let mut unmet = instance.clone();
+        unmet.put_off(random, off);
+        context.prover(off.name(), &unmet, 0);
     }
-    let unmet = {
-        let mut instance = Instance::random(random, parameters, Size::Bits(4));
-        instance.put_off(random, Off::All);
-        instance
-    };
-    let l = parameters.constant;
+    let mut unmet = instance.clone();
+    unmet.put_off(random, Off::All);
 
     let mut hidden = unmet.clone();
     hidden.randomness[1].fill(0);
@@ -270,46 +303,43 @@ pub fn statements(context: &mut Context, random: &mut Random, parameters: Parame
     context.prover("errors under psi and alpha of zero", &hidden, 0);
 
     let mut last = unmet.clone();
-    let rows = parameters.aggregations();
     last.randomness[1][..(rows - 1) * l].fill(0);
     context.prover("errors that only the last psi row shows", &last, 0);
 
+    let mut zero = unmet;
+    zero.witness.fill(0);
+    context.prover("a witness of zeros for another's statement", &zero, 0);
+
     // 65537·65535 = 0 modulo Q
-    let mut divisors = Instance::random(random, parameters, Size::Bits(4));
-    divisors.job[2][0] = add(divisors.job[2][0], 65537);
-    divisors.job[5][0] = add(divisors.job[5][0], 65537);
-    for (at, word) in divisors.randomness[1].iter_mut().enumerate() {
-        if at % l == 0 {
-            *word = 65535;
-        }
+    let mut divisors = instance.clone();
+    let right_sides = [(2, 0), (5, 0)];
+    for (section, at) in right_sides {
+        divisors.job[section][at] = add(divisors.job[section][at], 65537);
+    }
+    for row in 0..rows {
+        divisors.randomness[1][row * l] = 65535;
     }
     divisors.randomness[3][..64].fill(0);
     divisors.randomness[3][0] = 65535;
     context.prover("errors that are zero under their weights", &divisors, 0);
 
-    // two errors that cancel
-    let mut cancel = Instance::random(random, parameters, Size::Bits(4));
-    if l > 1 && parameters.ring > 1 {
+    // opposite errors under equal weights
+    if l > 1 && p.ring > 1 {
+        let mut cancel = instance.clone();
         for row in 0..rows {
             cancel.randomness[1][row * l + 1] = cancel.randomness[1][row * l];
         }
-        cancel.job[2][0] = add(cancel.job[2][0], 5);
-        cancel.job[2][1] = add(cancel.job[2][1], Q - 5);
-        let first: Vec<u32> = cancel.randomness[3][..64].to_vec();
-        cancel.randomness[3][64..128].copy_from_slice(&first);
-        cancel.job[5][7] = add(cancel.job[5][7], 5);
-        cancel.job[5][64 + 7] = add(cancel.job[5][64 + 7], Q - 5);
+        cancel.randomness[3].copy_within(..64, 64);
+        for (section, at, error) in [(2, 0, 5), (2, 1, Q - 5), (5, 7, 5), (5, 64 + 7, Q - 5)] {
+            cancel.job[section][at] = add(cancel.job[section][at], error);
+        }
         context.prover("errors that cancel", &cancel, 0);
     }
 
-    // doubling loses nothing modulo an odd Q
-    let mut half = Instance::random(random, parameters, Size::Bits(4));
+    // check 27 doubles, which loses nothing modulo an odd Q
+    let mut half = instance.clone();
     half.job[5][3] = add(half.job[5][3], 2147483648);
     context.prover("a ring error of half of Q + 1", &half, 0);
-
-    let mut zero = unmet;
-    zero.witness.fill(0);
-    context.prover("a witness of zeros for another's statement", &zero, 0);
 }
 
 /// The verifier's checks and refusals in their order.
@@ -364,8 +394,8 @@ fn break_checks(instance: &Instance, made: &Transcript, broken: &[u32]) -> (Inst
 }
 
 /// Transcripts and jobs on which each check fails alone, and each two together.
-pub fn broken_checks(context: &mut Context, random: &mut Random, parameters: Parameters) {
-    let mut instance = Instance::random(random, parameters, Size::Bits(4));
+pub fn broken_checks(context: &mut Context, instance: &Instance) {
+    let mut instance = instance.clone();
     instance.job[0].fill(0);
     instance.job[3].fill(0);
     instance.meet();
@@ -391,18 +421,17 @@ pub fn broken_checks(context: &mut Context, random: &mut Random, parameters: Par
 }
 
 /// The first and the last word of each section of the transcript changed, and a transcript of zeros.
-pub fn damaged_sections(context: &mut Context, random: &mut Random, parameters: Parameters) {
-    let instance = Instance::random(random, parameters, Size::Bits(4));
-    let sections = modelled(&instance).sections();
+pub fn damaged_sections(context: &mut Context, instance: &Instance) {
+    let sections = modelled(instance).sections();
     for k in 0..sections.len() {
         for at in [0, sections[k].len() - 1] {
             let mut sections = sections.clone();
             sections[k][at] = add(sections[k][at], 1);
-            context.verifier("one end of a section changed", &instance, &join(&sections), 0);
+            context.verifier("one end of a section changed", instance, &join(&sections), 0);
         }
     }
     let zeros: Vec<Vec<u32>> = sections.iter().map(|s| vec![0; s.len()]).collect();
-    context.verifier("a transcript of zeros", &instance, &join(&zeros), 0);
+    context.verifier("a transcript of zeros", instance, &join(&zeros), 0);
 }
 
 /// A fault of the input.
@@ -590,11 +619,10 @@ fn faults(p: &Parameters, call: Call) -> Vec<Fault> {
 
 /// Unfit inputs of a call: each fault alone; then pairs of faults, for every pair of stages as often as asked. The
 /// earlier stage answers, and within a stage the lower place.
-pub fn unfit(context: &mut Context, random: &mut Random, parameters: Parameters, call: Call, pairs: usize) {
-    let p = &parameters;
-    let instance = Instance::random(random, parameters, Size::Bits(4));
+pub fn unfit(context: &mut Context, random: &mut Random, instance: &Instance, call: Call, pairs: usize) {
+    let p = &instance.parameters;
     let third = match call {
-        Call::Verify => join(&modelled(&instance).sections()),
+        Call::Verify => join(&modelled(instance).sections()),
         _ => instance.witness_words(),
     };
     let job = instance.job_words();
@@ -646,8 +674,8 @@ pub fn unfit(context: &mut Context, random: &mut Random, parameters: Parameters,
 }
 
 /// Words that are free: shuffle words and the bounds' words, all 4294967295.
-pub fn free_words(context: &mut Context, random: &mut Random, parameters: Parameters) {
-    let mut instance = Instance::random(random, parameters, Size::Bits(4));
+pub fn free_words(context: &mut Context, instance: &Instance) {
+    let mut instance = instance.clone();
     instance.randomness[6].fill(4294967295);
     context.prover("free words of 4294967295", &instance, 0);
 }

@@ -1,6 +1,7 @@
 //! Document 01 in plain Rust, written from its text alone: the leaves, the refusals in their order, the prover's
 //! formulas, the verifier's checks and demand 3's four conditions. It shares no code with the published Rust.
 
+pub mod calls;
 pub mod checks;
 pub mod conditions;
 pub mod formulas;
@@ -109,4 +110,28 @@ impl Call {
             Call::Verify => (0, 0),
         }
     }
+}
+
+/// A call's answer and, where the work was reached, the first words of its output; scratch is then zero to the length
+/// needed.
+pub fn whole(call: Call, handed: refusals::Handed) -> (Answer, Option<Vec<u32>>) {
+    let p = match refusals::fit(call, handed) {
+        Ok(p) => p,
+        Err(answer) => return (answer, None),
+    };
+    let mut sections = words::split(handed.randomness);
+    // a round does not look at the sections that it is not handed
+    for count in &p.randomness_counts()[sections.len()..] {
+        sections.push(vec![0; *count]);
+    }
+    let drawn = words::Randomness::read(&p, &words::join(&sections));
+    let job = words::Job::read(handed.job);
+    if call == Call::Verify {
+        let sent = words::Transcript::read(&p, handed.third);
+        return (checks::verdict(&job, &drawn, &sent), Some(vec![]));
+    }
+    let s = words::read_witness(&p, handed.third);
+    let (made, answer) = formulas::transcript(&job, &drawn, &s);
+    let (answer, output) = formulas::part(call, &made, answer);
+    (answer, Some(output))
 }
