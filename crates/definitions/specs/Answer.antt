@@ -52,7 +52,7 @@ below limit number place [] = fine
 below limit number place (w ∷ ws) = cond (ltb w limit) (below limit number (place + 1) ws) (refused number place)
 
 -- the value of two u64
-abbrev pub value128 : U128 → ℕ
+unfoldable pub value128 : U128 → ℕ
 value128 x = x .hi * 2 ^ 64 + x .lo
 
 -- a refusal's number and place

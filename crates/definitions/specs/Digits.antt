@@ -3,7 +3,7 @@ use mathlib.Core.Bool.{Bool, true, false, cond, xor}
 use mathlib.Core.List.{List}
 use Prim.Native.Nat.{ℕ, zero, suc, _+_, _-_, _/_, _%_}
 use lib.Dec.{ltb}
-use Rattle.lists.specs.Table.{table}
+use Rattle.lists.specs.Table.{table, padded}
 use Rattle.definitions.specs.Zq.{zneg, isLargerThanHalf, size}
 
 -- "less b if above b/2 rounded down": whether the remainder is below zero
@@ -34,6 +34,10 @@ digit b a k = signed (xor (isLargerThanHalf a) (remBelow b (sizeAfter b k (size 
 -- the digits of a value, lowest first, in a number of parts
 unfoldable pub digits : ℕ → ℕ → ℕ → List ℕ
 digits b parts a = table parts (digit b a)
+
+-- the digits in 32 places, those past the parts zero
+unfoldable pub digitPlaces : ℕ → ℕ → ℕ → List ℕ
+digitPlaces b parts a = padded 32 parts 0 (digit b a)
 
 -- "What is left then is dropped.": the size left over after a number of parts
 unfoldable pub leftover : ℕ → ℕ → ℕ → ℕ

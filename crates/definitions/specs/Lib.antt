@@ -6,3 +6,4 @@ pub mod Projection
 pub mod Challenge
 pub mod Answer
 pub mod Leaf
+pub mod Ring

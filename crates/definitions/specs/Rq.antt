@@ -3,9 +3,9 @@ use mathlib.Core.Path.{_≡_}
 use mathlib.Core.Bool.{cond}
 use mathlib.Core.List.{List}
 use Prim.Native.Nat.{ℕ, _+_, _-_, _*_, _<_}
-use lib.Dec.{ltb, eqb}
+use lib.Dec.{eqb}
 use lib.ListN.{length, getD}
-use Rattle.lists.specs.Table.{table}
+use Rattle.lists.specs.Table.{table, padded}
 use Rattle.lists.specs.Sum.{Σ}
 use Rattle.definitions.specs.Zq.{Canonical, zadd, zsub, zneg, zmul}
 use Rattle.definitions.specs.Digits.{digit}
@@ -50,9 +50,13 @@ rmul a b = table 64 (λ k. zsub (low a b k) (high a b k))
 unfoldable pub rscale : List ℕ → ℕ → List ℕ
 rscale a c = table 64 (λ k. zmul (coeff a k) c)
 
--- "Conj keeps coefficient 0 and puts minus coefficient 64−i at i."
+-- "Conj keeps coefficient 0 and puts minus coefficient 64−i at i.": coefficient i
+abbrev pub conjCoeff : List ℕ → ℕ → ℕ
+conjCoeff a i = cond (eqb i 0) (coeff a 0) (zneg (coeff a (64 - i)))
+
+-- the conjugate of an element
 unfoldable pub rconj : List ℕ → List ℕ
-rconj a = table 64 (λ k. cond (eqb k 0) (coeff a 0) (zneg (coeff a (64 - k))))
+rconj a = table 64 (conjCoeff a)
 
 -- row k of an element's digits: digit k of each coefficient
 unfoldable pub digitRow : ℕ → List ℕ → ℕ → List ℕ
@@ -60,4 +64,4 @@ digitRow b a k = table 64 (λ j. digit b (coeff a j) k)
 
 -- "the digits of one element are 32 rows of 64, rows past the parts zero"
 unfoldable pub digitRows : ℕ → ℕ → List ℕ → List (List ℕ)
-digitRows b parts a = table 32 (λ k. cond (ltb k parts) (digitRow b a k) rzero)
+digitRows b parts a = padded 32 parts rzero (digitRow b a)

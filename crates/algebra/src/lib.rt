@@ -1,0 +1,1 @@
+// Commutative rings: operations and finite sums in specs/, their laws and the ring R[X]/(X^d + 1) in proofs/. No code.

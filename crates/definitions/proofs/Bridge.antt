@@ -1,0 +1,171 @@
+-- The words of an element and the element of a list: the definitions on lists always give elements, and their words are those of the ring's operations.
+use mathlib.Core.Path.{_≡_, sym, ap, ap₂, _∙_}
+use mathlib.Core.Bool.{Bool, true, false, cond}
+use mathlib.Core.List.{List}
+use Prim.Native.Nat.{ℕ, _+_, _-_, _*_, _%_, _<_}
+use native.Mathlib.Nat as Nat
+use native.Mathlib.Omega.{arith}
+use lib.Dec.{eqb}
+use Rattle.lists.specs.Table.{table}
+use Rattle.lists.specs.Sum.{Σ}
+use Rattle.lists.proofs.Table.{is-table, getD-table, table-ext}
+use Rattle.algebra.specs.Ops.{sum, dot}
+use Rattle.algebra.proofs.Sum.{sum-ext, sum-map, sum-add, sum-neg}
+use Rattle.definitions.specs.Zq.{Q, Canonical, zadd, zsub, zneg, zmul}
+use Rattle.definitions.specs.Rq.{coeff, Element, rzero, radd, rsub, low, high, rmul, rscale, rconj}
+use Rattle.definitions.specs.Ring.{residue, canonical-mod, ZqOps, IsElement, words, table-element, element, RqOps, scale, conj}
+use Rattle.definitions.proofs.ZqRing.{zq-ring, residue-Σ, residue-zsub, residue-reduced}
+use Rattle.definitions.proofs.RqRing.{words-path, coefficient, element-path, coefficient-element, coefficient-table, coefficient-radd, coefficient-rsub, coefficient-rzero, coefficient-neg, coefficient-rscale, coefficient-rmul, residue-low, residue-high}
+
+-- zero is an element
+pub rzero-element : IsElement rzero
+unfolding rzero
+rzero-element = table-element (λ k. 0) (λ k. omega arith)
+
+-- a sum is an element, whatever the lists
+pub radd-element : (a b : List ℕ) → IsElement (radd a b)
+unfolding radd
+radd-element a b = table-element (λ k. zadd (coeff a k) (coeff b k)) (λ k. canonical-mod (coeff a k + coeff b k))
+
+-- a difference is an element, whatever the lists
+pub rsub-element : (a b : List ℕ) → IsElement (rsub a b)
+unfolding rsub
+rsub-element a b = table-element (λ k. zsub (coeff a k) (coeff b k)) (λ k. canonical-mod (coeff a k + (Q - coeff b k % Q)))
+
+-- a product is an element, whatever the lists
+pub rmul-element : (a b : List ℕ) → IsElement (rmul a b)
+unfolding rmul
+rmul-element a b = table-element (λ k. zsub (low a b k) (high a b k)) (λ k. canonical-mod (low a b k + (Q - high a b k % Q)))
+
+-- a multiple is an element, whatever the list and the number
+pub rscale-element : (a : List ℕ) (c : ℕ) → IsElement (rscale a c)
+unfolding rscale
+rscale-element a c = table-element (λ k. zmul (coeff a k) c) (λ k. canonical-mod (coeff a k * c))
+
+-- a conjugate is an element where coefficient 0 is canonical
+pub rconj-element : (a : List ℕ) → Canonical (coeff a 0) → IsElement (rconj a)
+unfolding rconj
+rconj-element a h = table-element (λ k. cond (eqb k 0) (coeff a 0) (zneg (coeff a (64 - k)))) (λ k. either (eqb k 0) (canonical-mod (Q - coeff a (64 - k) % Q)))
+  where
+    either : (b : Bool) {y : ℕ} → Canonical y → Canonical (cond b (coeff a 0) y)
+    either true l = h
+    either false l = l
+
+-- coefficient 0 of an element is canonical
+pub coeff-zero-canonical : (a : Element) → Canonical (coeff (words a) 0)
+coeff-zero-canonical a = a .1 .1 0 (rw (a .1 .0) (omega arith))
+
+-- the words of the element of a list that has an element's words
+pub words-element : (l : List ℕ) → IsElement l → words (element l) ≡ l
+unfolding element
+words-element l h = sym (is-table 64 l (λ k. coeff l k % Q) 0 (h .0) (λ k m. sym (Nat.mod-eq-of-lt (h .1 k (rw (h .0) m)))))
+
+-- the element of an element's words
+pub element-words : (a : Element) → element (words a) ≡ a
+element-words a = words-path (element (words a)) a (words-element (words a) (a .1))
+
+-- the words of an element whose coefficients are those of a table
+pub words-table : (a : Element) (f : ℕ → ℕ) → ((k : ℕ) → Canonical (f k)) → ((k : ℕ) → k < 64 → coefficient a k ≡ residue (f k)) → words a ≡ table 64 f
+words-table a f c h = ap words (element-path a (element (table 64 f)) (λ k l. h k l ∙ sym (coefficient-table f k l))) ∙ words-element (table 64 f) (table-element f c)
+
+-- the words of zero
+pub words-nil : words (RqOps .nil) ≡ rzero
+words-nil = words-element rzero rzero-element
+
+-- the words of a sum
+pub words-add : (a b : Element) → words (RqOps .add a b) ≡ radd (words a) (words b)
+words-add a b = words-element (radd (words a) (words b)) (radd-element (words a) (words b))
+
+-- the words of a negative
+pub words-neg : (a : Element) → words (RqOps .neg a) ≡ rsub rzero (words a)
+words-neg a = words-element (rsub rzero (words a)) (rsub-element rzero (words a))
+
+-- 0 − a has each coefficient negated
+pub rsub-rzero : (a : List ℕ) → rsub rzero a ≡ table 64 (λ k. zneg (coeff a k))
+unfolding rsub rzero
+rsub-rzero a =
+    table-ext 64 (λ k. zsub (coeff rzero k) (coeff a k)) (λ k. zneg (coeff a k)) (λ k h. ap (λ x. (x + (Q - coeff a k % Q)) % Q) (getD-table 64 (λ i. 0) k 0 h) ∙ ap (λ x. x % Q) (Nat.zero-add (Q - coeff a k % Q)))
+
+-- the words of a product
+pub words-mul : (a b : Element) → words (RqOps .mul a b) ≡ rmul (words a) (words b)
+words-mul a b = words-element (rmul (words a) (words b)) (rmul-element (words a) (words b))
+
+-- the words of a multiple
+pub words-scale : (a : Element) (c : ℕ) → words (scale a c) ≡ rscale (words a) c
+unfolding scale
+words-scale a c = words-element (rscale (words a) c) (rscale-element (words a) c)
+
+-- the words of a conjugate
+pub words-conj : (a : Element) → words (conj a) ≡ rconj (words a)
+unfolding conj
+words-conj a = words-element (rconj (words a)) (rconj-element (words a) (coeff-zero-canonical a))
+
+-- the element of a sum of lists
+pub element-radd : (a b : List ℕ) → element (radd a b) ≡ RqOps .add (element a) (element b)
+element-radd a b = element-path (element (radd a b)) (RqOps .add (element a) (element b)) (λ k h.
+    coefficient-radd a b k h ∙ ap₂ (ZqOps .add) (sym (coefficient-element a k h)) (sym (coefficient-element b k h)) ∙ sym (coefficient-radd (words (element a)) (words (element b)) k h))
+
+-- the element of a difference of lists
+pub element-rsub : (a b : List ℕ) → element (rsub a b) ≡ RqOps .add (element a) (RqOps .neg (element b))
+element-rsub a b = element-path (element (rsub a b)) (RqOps .add (element a) (RqOps .neg (element b))) (λ k h.
+    coefficient-rsub a b k h
+    ∙ ap₂ (ZqOps .add) (sym (coefficient-element a k h)) (ap (ZqOps .neg) (sym (coefficient-element b k h)) ∙ sym (coefficient-neg (element b) k h))
+    ∙ sym (coefficient-radd (words (element a)) (words (RqOps .neg (element b))) k h))
+
+-- the element of a multiple of a list
+pub element-rscale : (a : List ℕ) (c : ℕ) → element (rscale a c) ≡ scale (element a) c
+unfolding scale
+element-rscale a c = element-path (element (rscale a c)) (scale (element a) c) (λ k h.
+    coefficient-rscale a c k h ∙ ap (λ x. ZqOps .mul x (residue c)) (sym (coefficient-element a k h)) ∙ sym (coefficient-rscale (words (element a)) c k h))
+
+-- the element of a product of lists
+pub element-rmul : (a b : List ℕ) → element (rmul a b) ≡ RqOps .mul (element a) (element b)
+element-rmul a b = element-path (element (rmul a b)) (RqOps .mul (element a) (element b)) (λ k h.
+    coefficient-rmul a b k h
+    ∙ ap₂ (λ x y. ZqOps .add x (ZqOps .neg y)) (residue-low a b k ∙ lows k h ∙ sym (residue-low (words (element a)) (words (element b)) k))
+    (residue-high a b k ∙ highs k h ∙ sym (residue-high (words (element a)) (words (element b)) k))
+    ∙ sym (coefficient-rmul (words (element a)) (words (element b)) k h))
+  where
+    lows : (k : ℕ) → k < 64 → sum ZqOps (k + 1) (λ i. ZqOps .mul (residue (coeff a i)) (residue (coeff b (k - i)))) ≡ sum ZqOps (k + 1) (λ i. ZqOps .mul (coefficient (element a) i) (coefficient (element b) (k - i)))
+    lows k h = sum-ext ZqOps (k + 1) (λ i. ZqOps .mul (residue (coeff a i)) (residue (coeff b (k - i)))) (λ i. ZqOps .mul (coefficient (element a) i) (coefficient (element b) (k - i)))
+        (λ i l. ap₂ (ZqOps .mul) (sym (coefficient-element a i (omega arith))) (sym (coefficient-element b (k - i) (omega arith))))
+
+    highs : (k : ℕ) → k < 64 → sum ZqOps (63 - k) (λ i. ZqOps .mul (residue (coeff a (k + 1 + i))) (residue (coeff b (63 - i)))) ≡ sum ZqOps (63 - k) (λ i. ZqOps .mul (coefficient (element a) (k + 1 + i)) (coefficient (element b) (63 - i)))
+    highs k h = sum-ext ZqOps (63 - k) (λ i. ZqOps .mul (residue (coeff a (k + 1 + i))) (residue (coeff b (63 - i)))) (λ i. ZqOps .mul (coefficient (element a) (k + 1 + i)) (coefficient (element b) (63 - i)))
+        (λ i l. ap₂ (ZqOps .mul) (sym (coefficient-element a (k + 1 + i) (omega arith))) (sym (coefficient-element b (63 - i) (omega arith))))
+
+-- the words of a difference
+pub words-sub : (a b : Element) → words (RqOps .add a (RqOps .neg b)) ≡ rsub (words a) (words b)
+words-sub a b =
+    ap₂ (λ x y. words (RqOps .add x (RqOps .neg y))) (sym (element-words a)) (sym (element-words b))
+    ∙ ap words (sym (element-rsub (words a) (words b)))
+    ∙ words-element (rsub (words a) (words b)) (rsub-element (words a) (words b))
+
+-- the coefficients of a finite sum
+pub coefficient-sum : (n : ℕ) (f : ℕ → Element) (k : ℕ) → k < 64 → coefficient (sum RqOps n f) k ≡ sum ZqOps n (λ i. coefficient (f i) k)
+coefficient-sum n f k h = sum-map RqOps ZqOps (λ a. coefficient a k) (coefficient-rzero k h) (λ a b. coefficient-radd (words a) (words b) k h) n f
+
+-- the words of a finite sum: each coefficient summed over the natural numbers and reduced once
+pub words-sum : (n : ℕ) (f : ℕ → Element) → words (sum RqOps n f) ≡ table 64 (λ k. Σ n (λ i. coeff (words (f i)) k) % Q)
+words-sum n f = words-table (sum RqOps n f) (λ k. Σ n (λ i. coeff (words (f i)) k) % Q) (λ k. canonical-mod (Σ n (λ i. coeff (words (f i)) k)))
+    (λ k h. coefficient-sum n f k h ∙ sym (residue-Σ n (λ i. coeff (words (f i)) k)) ∙ sym (residue-reduced (Σ n (λ i. coeff (words (f i)) k))))
+
+-- the words of an inner product: both sums of each coefficient over the natural numbers, reduced once
+pub words-dot : (n : ℕ) (f g : ℕ → Element)
+    → words (dot RqOps n f g) ≡ table 64 (λ k. zsub (Σ n (λ i. low (words (f i)) (words (g i)) k)) (Σ n (λ i. high (words (f i)) (words (g i)) k)))
+unfolding dot
+words-dot n f g =
+    words-table (dot RqOps n f g) (λ k. zsub (lows k) (highs k)) (λ k. canonical-mod (lows k + (Q - highs k % Q))) (λ k h.
+    coefficient-sum n (λ i. RqOps .mul (f i) (g i)) k h
+    ∙ sum-ext ZqOps n (λ i. coefficient (RqOps .mul (f i) (g i)) k) (λ i. ZqOps .add (residue (low (words (f i)) (words (g i)) k)) (ZqOps .neg (residue (high (words (f i)) (words (g i)) k))))
+    (λ i l. coefficient-rmul (words (f i)) (words (g i)) k h)
+    ∙ sum-add ZqOps zq-ring n (λ i. residue (low (words (f i)) (words (g i)) k)) (λ i. ZqOps .neg (residue (high (words (f i)) (words (g i)) k)))
+    ∙ ap₂ (ZqOps .add) (sym (residue-Σ n (λ i. low (words (f i)) (words (g i)) k)))
+    (sum-neg ZqOps zq-ring n (λ i. residue (high (words (f i)) (words (g i)) k)) ∙ ap (ZqOps .neg) (sym (residue-Σ n (λ i. high (words (f i)) (words (g i)) k))))
+    ∙ sym (residue-zsub (lows k) (highs k)))
+  where
+    lows : ℕ → ℕ
+    lows k = Σ n (λ i. low (words (f i)) (words (g i)) k)
+
+    highs : ℕ → ℕ
+    highs k = Σ n (λ i. high (words (f i)) (words (g i)) k)

@@ -1,0 +1,12 @@
+pub mod Fits
+pub mod Cases
+pub mod Modulo
+pub mod Centre
+pub mod Digits
+pub mod Challenge
+pub mod ZqRing
+pub mod RqRing
+pub mod Bridge
+pub mod Scalar
+pub mod Conjugate
+pub mod Table

@@ -1,0 +1,49 @@
+-- Laws of the remainder by a modulus m: a factor, a term or a sum may be reduced first, and differences modulo m.
+use mathlib.Core.Path.{_≡_, sym, ap, _∙_}
+use Prim.Native.Nat.{ℕ, _+_, _-_, _*_, _/_, _%_, _<_}
+use native.Mathlib.Nat.{mod-add-mod, add-mod-mod, mod-add-div', add-mul-mod-self-right, mul-mod-left, mod-lt, mod-mod, add-assoc, add-right-comm, add-zero, mul-comm}
+use native.Mathlib.Omega.{arith}
+
+-- a factor on the left reduced first
+pub mul-mod-first : (m a b : ℕ) → (a % m * b) % m ≡ (a * b) % m
+mul-mod-first m a b = sym (ap (λ x. x % m) (sym (ap (λ x. x * b) (mod-add-div' a m)) ∙ out (a % m) (a / m)) ∙ add-mul-mod-self-right (a % m * b) (a / m * b) m)
+  where
+    out : (r q : ℕ) → (r + q * m) * b ≡ r * b + q * b * m
+    out r q = omega arith
+
+-- a factor on the right reduced first
+pub mul-mod-second : (m a b : ℕ) → (a * (b % m)) % m ≡ (a * b) % m
+mul-mod-second m a b = ap (λ x. x % m) (mul-comm a (b % m)) ∙ mul-mod-first m b a ∙ ap (λ x. x % m) (mul-comm b a)
+
+-- both factors reduced first
+pub mul-mod-both : (m a b : ℕ) → (a % m * (b % m)) % m ≡ (a * b) % m
+mul-mod-both m a b = mul-mod-first m a (b % m) ∙ mul-mod-second m a b
+
+module _ (m : ℕ) (pos : 0 < m) where
+  -- y and its negative sum to zero modulo m
+  pub add-neg-mod : (y : ℕ) → (y + (m - y % m)) % m ≡ 0
+  add-neg-mod y = ap (λ x. x % m) (whole (y % m) (y / m) (mod-add-div' y m) (mod-lt y pos)) ∙ mul-mod-left (y / m + 1) m
+    where
+      whole : (r q : ℕ) → r + q * m ≡ y → r < m → y + (m - r) ≡ (q + 1) * m
+      whole r q e l = omega arith
+
+  -- a term that is zero modulo m may be left out
+  pub add-zero-mod : (x n : ℕ) → n % m ≡ 0 → (x + n) % m ≡ x % m
+  add-zero-mod x n e = sym (add-mod-mod x n m) ∙ ap (λ k. (x + k) % m) e ∙ ap (λ k. k % m) (add-zero x)
+
+  -- x + y − y is x modulo m
+  pub add-sub-mod : (x y : ℕ) → (x + y + (m - y % m)) % m ≡ x % m
+  add-sub-mod x y = ap (λ k. k % m) (add-assoc x y (m - y % m)) ∙ add-zero-mod x (y + (m - y % m)) (add-neg-mod y)
+
+  -- x − y + y is x modulo m
+  pub sub-add-mod : (x y : ℕ) → ((x + (m - y % m)) % m + y) % m ≡ x % m
+  sub-add-mod x y = mod-add-mod (x + (m - y % m)) m y ∙ ap (λ k. k % m) (add-right-comm x (m - y % m) y) ∙ add-sub-mod x y
+
+  -- numbers that are equal modulo m after y is added to both are equal modulo m
+  pub add-cancel-mod : (x y z : ℕ) → (x + y) % m ≡ (z + y) % m → x % m ≡ z % m
+  add-cancel-mod x y z e =
+      sym (add-sub-mod x y) ∙ sym (mod-add-mod (x + y) m (m - y % m)) ∙ ap (λ k. (k + (m - y % m)) % m) e ∙ mod-add-mod (z + y) m (m - y % m) ∙ add-sub-mod z y
+
+  -- the negative of a reduced number is that of the number
+  pub neg-mod : (y : ℕ) → (m - y % m % m) % m ≡ (m - y % m) % m
+  neg-mod y = ap (λ k. (m - k) % m) (mod-mod y m)

@@ -1,0 +1,66 @@
+-- Demand 3's four conditions, of job, randomness and witness alone (document 01, "What the prover works out", its last two paragraphs).
+use mathlib.Core.List.{List, [], _∷_}
+use Prim.Native.Nat.{ℕ, _+_, _*_, _%_}
+use native.Mathlib.Decide.{decLe, ℕ-discrete}
+use Rattle.lists.specs.Sum.{Σ}
+use Rattle.definitions.specs.Zq.{Q, zsub}
+use Rattle.definitions.specs.Norm.{square, norm}
+use Rattle.definitions.specs.Answer.{Answer, failed, _then_}
+use Rattle.definitions.specs.Rq.{Element, coeff, rzero, rsub, digitRow}
+use Rattle.definitions.specs.Ring.{words, element}
+use mathlib.Core.List.{List-discrete}
+use Rattle.protocol.specs.Checks.{require, first}
+use Rattle.protocol.specs.Parameters.{Parameters}
+use Rattle.protocol.specs.Views.{Public}
+use Rattle.protocol.specs.Formulas.{_⊗_, sum, left, t, g, h, z, p, b″}
+
+-- the norms of an element's digits in a number of parts together
+abbrev pub digits-norm : ℕ → ℕ → Element → ℕ
+digits-norm b parts e = Σ parts (λ q. norm (digitRow b (words e) q))
+
+module _ (X : Public) (s : ℕ → ℕ → Element) where
+  open Public X using (P, a′, φ′, b₀, a, φ, b, psi, omega, alpha)
+  open Parameters P using (n, r, κ, K, l, t₁, t₂, L, beta-sq, beta-prime-sq)
+
+  -- "the norm of p is at most 128·beta_sq"
+  unfoldable pub p-norm : ℕ
+  p-norm = Σ 256 (λ j. square (p X s j))
+
+  -- "of a constant-term one only coefficient 0 of that; its right side is b or b0. The error is left less right": of constant-term constraint x
+  unfoldable pub constant-error : ℕ → ℕ
+  constant-error x = zsub (coeff (words (left P (a′ x) (φ′ x) s)) 0) (b₀ x)
+
+  -- "Σ psi[k][l]·error_l over the constant-term constraints"
+  unfoldable pub psi-error : ℕ → ℕ
+  psi-error k = Σ l (λ x. psi k x * constant-error x) % Q
+
+  -- "the two values of check 22, with b'' and p by the formulas"
+  unfoldable pub sent : ℕ → ℕ
+  sent k = coeff (words (b″ X s k)) 0
+
+  unfoldable pub computed : ℕ → ℕ
+  computed k = (Σ l (λ x. psi k x * b₀ x) + Σ 256 (λ j. omega k j * p X s j)) % Q
+
+  -- "the sum in check 23": each cell of a triangle once
+  unfoldable pub digit-sum : ℕ
+  digit-sum =
+      Σ n (λ m. digits-norm (P .b) 2 (z X s m))
+      + Σ r (λ i. Σ κ (λ k. digits-norm (P .b) t₁ (t X s i k)))
+      + Σ r (λ i. Σ (i + 1) (λ j. digits-norm (P .b) t₂ (g X s i j)))
+      + Σ r (λ i. Σ (i + 1) (λ j. digits-norm (P .b) t₁ (h X s i j)))
+
+  -- the error of ring constraint k
+  unfoldable pub ring-error : ℕ → Element
+  ring-error k = element (rsub (words (left P (a k) (φ k) s)) (words (b k)))
+
+  -- "Σ alpha_k·error_k over the ring constraints"
+  unfoldable pub alpha-error : Element
+  alpha-error = sum K (λ k. alpha k ⊗ ring-error k)
+
+  -- "A breach is named as 21, 22, 23 or 27. 21 gives that norm and 23 that sum, each with its limit. 22 gives the lowest k whose sum isn't 0"
+  unfoldable pub conditions : Answer
+  conditions =
+      require (decLe p-norm (128 * beta-sq)) (failed 21 (p-norm ∷ 128 * beta-sq ∷ []))
+      then first L (λ k. require (ℕ-discrete (psi-error k) 0) (failed 22 (k ∷ sent k ∷ computed k ∷ [])))
+      then require (decLe digit-sum beta-prime-sq) (failed 23 (digit-sum ∷ beta-prime-sq ∷ []))
+      then require (List-discrete ℕ-discrete (words alpha-error) rzero) (failed 27 [])

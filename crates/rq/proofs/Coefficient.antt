@@ -1,0 +1,101 @@
+-- The kernel's sum for coefficient k is the definition's product at k.
+use mathlib.Core.Path.{_≡_, refl, sym, _∙_, ap, ap₂}
+use mathlib.Core.Bool.{cond}
+use mathlib.Core.List.{List}
+use Prim.Native.Nat.{ℕ, _+_, _-_, _*_, _%_, _≤_, _<_, _^_}
+use native.Mathlib.Nat.{mul-comm}
+use native.Mathlib.Decide.{decLt}
+use native.Mathlib.Omega.{arith}
+use borrow.Author.Tests.{lt-ltb, le-ltb}
+use lib.ListN.{length, getD}
+use Rattle.lists.specs.Sum.{Σ}
+use Rattle.lists.proofs.Sum.{Σ-ext, Σ-add, Σ-split, Σ-mul-left}
+use Rattle.lists.proofs.Table.{length-table, getD-table}
+use Rattle.definitions.specs.Zq.{Q, zsub}
+use Rattle.definitions.specs.Rq.{coeff, low, high}
+use Rattle.rq.specs.Product.{AllWords, extended, extendedCoeff, reversed}
+
+-- the kernel's forms are of words
+pub length-extended : (a : List ℕ) → length (extended a) ≡ 128
+unfolding extended
+length-extended a = length-table 128 (extendedCoeff a)
+
+pub length-reversed : (b : List ℕ) → length (reversed b) ≡ 64
+unfolding reversed
+length-reversed b = length-table 64 (λ i. coeff b (63 - i))
+
+-- the first half has the coefficients of −a
+extended-first : (a : List ℕ) (m : ℕ) → m < 64 → getD (extended a) m 0 ≡ 4294967295 - coeff a m
+unfolding extended
+extended-first a m h = getD-table 128 (extendedCoeff a) m 0 (omega arith) ∙ simp (lt-ltb m 64 h)
+
+-- the second half those of a
+extended-second : (a : List ℕ) (m : ℕ) → 64 ≤ m → m < 128 → getD (extended a) m 0 ≡ coeff a (m - 64)
+unfolding extended
+extended-second a m l h = getD-table 128 (extendedCoeff a) m 0 h ∙ simp (le-ltb m 64 l)
+
+at-reversed : (b : List ℕ) (i : ℕ) → i < 64 → getD (reversed b) i 0 ≡ coeff b (63 - i)
+unfolding reversed
+at-reversed b i h = getD-table 64 (λ i. coeff b (63 - i)) i 0 h
+
+-- y·(Q − x) + x·y = Q·y
+term : (x y : ℕ) → x ≤ Q → y * (4294967295 - x) + x * y ≡ 4294967295 * y
+term x y h = let d : 4294967295 - x + x ≡ 4294967295 = omega arith in omega (arith, ap (λ q. q * y) d)
+
+-- a sum whose first part and `high` make a multiple of Q
+split : (total first second high lo y : ℕ) → total ≡ first + second → second ≡ lo → first + high ≡ 4294967295 * y
+    → total % 4294967295 ≡ (lo + (4294967295 - high % 4294967295)) % 4294967295
+split total first second high lo y t s f = omega arith
+
+module _ (a b : List ℕ) (words : (i : ℕ) → i < 64 → coeff a i ≤ Q) (k : ℕ) (h : k < 64) where
+  -- the kernel's term i for coefficient k
+  kernel : ℕ → ℕ
+  kernel i = getD (reversed b) i 0 * getD (extended a) (k + 1 + i) 0
+
+  -- the terms that wrap
+  wrapped : (i : ℕ) → i < 63 - k → kernel i ≡ coeff b (63 - i) * (4294967295 - coeff a (k + 1 + i))
+  unfolding kernel
+  wrapped i l = ap₂ _*_ (at-reversed b i (omega arith)) (extended-first a (k + 1 + i) (omega arith))
+
+  -- the terms that do not
+  plain : (j : ℕ) → j < k + 1 → kernel (63 - k + j) ≡ coeff a j * coeff b (k - j)
+  unfolding kernel
+  plain j l =
+      let x : 63 - (63 - k + j) ≡ k - j = omega arith in
+      let y : k + 1 + (63 - k + j) - 64 ≡ j = omega arith in
+      ap₂ _*_
+      (at-reversed b (63 - k + j) (omega arith) ∙ ap (coeff b) x)
+      (extended-second a (k + 1 + (63 - k + j)) (omega arith) (omega arith) ∙ ap (coeff a) y)
+      ∙ mul-comm (coeff b (k - j)) (coeff a j)
+
+  -- the sum is the product's coefficient
+  pub coefficient : Σ 64 (λ i. getD (reversed b) i 0 * getD (extended a) (k + 1 + i) 0) % Q ≡ zsub (low a b k) (high a b k)
+  unfolding kernel low high
+  coefficient =
+      let n : 63 - k + (k + 1) ≡ 64 = omega arith in
+      split
+      (Σ 64 kernel)
+      (Σ (63 - k) kernel)
+      (Σ (k + 1) (λ j. kernel (63 - k + j)))
+      (high a b k)
+      (low a b k)
+      (Σ (63 - k) (λ i. coeff b (63 - i)))
+      (ap (λ m. Σ m kernel) (sym n) ∙ Σ-split (63 - k) (k + 1) kernel)
+      (Σ-ext (k + 1) (λ j. kernel (63 - k + j)) (λ j. coeff a j * coeff b (k - j)) plain)
+      (sym (Σ-add (63 - k) kernel (λ i. coeff a (k + 1 + i) * coeff b (63 - i)))
+      ∙ Σ-ext (63 - k) (λ i. kernel i + coeff a (k + 1 + i) * coeff b (63 - i)) (λ i. 4294967295 * coeff b (63 - i))
+      (λ i l. ap (λ t. t + coeff a (k + 1 + i) * coeff b (63 - i)) (wrapped i l) ∙ term (coeff a (k + 1 + i)) (coeff b (63 - i)) (words (k + 1 + i) (omega arith)))
+      ∙ Σ-mul-left (63 - k) 4294967295 (λ i. coeff b (63 - i)))
+
+-- both forms hold words
+pub extended-words : (a : List ℕ) → ((i : ℕ) → i < 64 → coeff a i ≤ Q) → AllWords (extended a)
+extended-words a words i h = by i (rw (length-extended a) at h) (decLt i 64)
+  where
+    by : (i : ℕ) → i < 128 → Dec (i < 64) → getD (extended a) i 0 < 2 ^ 32
+    by i h (yes l) = omega (arith, extended-first a i l)
+    by i h (no l) = omega (arith, extended-second a i (omega arith) h, words (i - 64) (omega arith))
+
+pub reversed-words : (b : List ℕ) → ((i : ℕ) → i < 64 → coeff b i ≤ Q) → AllWords (reversed b)
+reversed-words b words i h =
+    let l : i < 64 = rw (length-reversed b) at h in
+    omega (arith, at-reversed b i l, words (63 - i) (omega arith))

@@ -1,0 +1,40 @@
+-- `digit_row` meets its contract. The invariant: the first j entries are the definition's, and the later ones zero.
+use mathlib.Core.Path.{_≡_, _∙_}
+use Prim.Native.Nat.{_-_, _≤_}
+use native.Mathlib.Omega.{arith}
+use Rattle.lists.specs.Table.{padded}
+use Rattle.lists.proofs.Padded.{padded-none, padded-next, padded-done}
+use Rattle.definitions.specs.Rq.{coeff}
+use Rattle.rq.specs.Digits.{digitOf}
+use Rattle.rq.proofs.digits.digit_row.Statement.{statement}
+use Rattle.rq.proofs.digits.digit_row.Tie as tie
+
+abbrev Inv-loop : tie.InvT-loop
+Inv-loop base a sizes row₀ j₀ row j = (j ≤ 64) × (row ≡ padded 64 j 0 (λ i. digitOf base (coeff a i) (coeff sizes i)))
+
+abbrev μ-loop : tie.MeasureT-loop
+μ-loop base a sizes row₀ j₀ row j = 64 - j
+
+loop-again : tie.Need-loop-again Inv-loop μ-loop
+unfolding digitOf
+loop-again c = (omega arith, padded-next 64 0 _ _ _ _ (c .before .before .before .loop .inv .1) (omega arith) (c .digit .ensures ∙ rw (c .before .is-larger-than-half .ensures)))
+
+pub digit-row-spec : {M : Type 1} → statement M
+digit-row-spec =
+    tie.close
+    (tie.spec
+    Inv-loop
+    μ-loop
+    (λ c. (omega arith, padded-none 64 0 _))
+    (λ c. omega arith)
+    (λ c. omega arith)
+    (λ c κs. omega arith)
+    (λ c. omega arith)
+    (λ c. omega arith)
+    (λ c κs. omega arith)
+    (λ c. omega arith)
+    (λ c. omega arith)
+    (λ c. omega arith)
+    (λ c. omega arith)
+    loop-again
+    (λ c. padded-done 64 0 _ _ _ (c .before .loop .inv .1) (omega arith)))

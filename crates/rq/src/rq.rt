@@ -1,0 +1,93 @@
+// A ring element as 64 words, coefficient of X^0 first. No operation asks for canonical words, and each gives some.
+use crate::product;
+use definitions::answers::U128;
+use zq::norm;
+use zq::zq::Zq;
+ghost use mathlib.Core.Path.{_≡_};
+ghost use Rattle.definitions.specs.Answer.{value128};
+ghost use Rattle.definitions.specs.Norm.{norm};
+ghost use Rattle.definitions.specs.Rq.{rzero, radd, rsub, rmul, rscale, rconj};
+
+#[repr(C)]
+pub struct Rq {
+    pub coeffs: [u32; 64],
+}
+
+impl Rq {
+    pub const DEGREE: usize = 64;
+
+    pub fn zero() -> Rq
+        ensures { λ r. ⌜ r .coeffs ≡ rzero ⌝ }
+    {
+        Rq { coeffs: [0u32; 64] }
+    }
+
+    pub fn add(self, rhs: Rq) -> Rq
+        ensures { λ r. ⌜ r .coeffs ≡ radd (self .coeffs) (rhs .coeffs) ⌝ }
+    {
+        let a = self.coeffs;
+        let b = rhs.coeffs;
+        let mut sum = [0u32; 64];
+        for k in 0..64 {
+            sum[k] = Zq(a[k]).add(Zq(b[k])).0;
+        }
+        Rq { coeffs: sum }
+    }
+
+    pub fn sub(self, rhs: Rq) -> Rq
+        ensures { λ r. ⌜ r .coeffs ≡ rsub (self .coeffs) (rhs .coeffs) ⌝ }
+    {
+        let a = self.coeffs;
+        let b = rhs.coeffs;
+        let mut difference = [0u32; 64];
+        for k in 0..64 {
+            difference[k] = Zq(a[k]).sub(Zq(b[k])).0;
+        }
+        Rq { coeffs: difference }
+    }
+
+    pub fn mul(self, rhs: Rq) -> Rq
+        ensures { λ r. ⌜ r .coeffs ≡ rmul (self .coeffs) (rhs .coeffs) ⌝ }
+    {
+        let a = self.coeffs;
+        let b = rhs.coeffs;
+        Rq {
+            coeffs: product::multiply(a, b),
+        }
+    }
+
+    // The product with a number.
+    pub fn scale(self, factor: Zq) -> Rq
+        ensures { λ r. ⌜ r .coeffs ≡ rscale (self .coeffs) (factor .0) ⌝ }
+    {
+        let a = self.coeffs;
+        let mut scaled = [0u32; 64];
+        for k in 0..64 {
+            scaled[k] = Zq(a[k]).mul(factor).0;
+        }
+        Rq { coeffs: scaled }
+    }
+
+    pub fn conjugate_automorphism(self) -> Rq
+        ensures { λ r. ⌜ r .coeffs ≡ rconj (self .coeffs) ⌝ }
+    {
+        let a = self.coeffs;
+        let mut conjugate = [0u32; 64];
+        conjugate[0] = a[0];
+        for k in 1..64 {
+            conjugate[k] = Zq(a[64 - k]).neg().0;
+        }
+        Rq { coeffs: conjugate }
+    }
+
+    pub fn l2_norm_squared(self) -> U128
+        ensures { λ r. ⌜ value128 r ≡ norm (self .coeffs) ⌝ }
+    {
+        let a = self.coeffs;
+        let mut sum = U128 { hi: 0, lo: 0 };
+        for k in 0..64 {
+            sum = norm::add_square(sum, Zq(a[k]).size());
+        }
+        sum
+    }
+}

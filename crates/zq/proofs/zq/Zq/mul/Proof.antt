@@ -1,0 +1,14 @@
+-- `Zq::mul` meets its contract.
+use borrow.Author.Needs.{needs}
+use native.Mathlib.Omega.{arith}
+use Rattle.definitions.proofs.Fits.{product-max}
+use Rattle.zq.proofs.zq.Zq.mul.Statement.{statement}
+use Rattle.zq.proofs.zq.Zq.mul.Tie as tie
+
+mul-product : tie.Need-mul-product
+mul-product c =
+    let s = c .before .before .args in
+    omega (arith, product-max {a = s .self .0} {b = s .rhs .0} (omega arith) (omega arith))
+
+pub mul-spec : {M : Type 1} → statement M
+mul-spec = tie.close (tie.spec (λ c. search needs) (λ c. search needs) mul-product (λ c. search needs) (λ c. search needs))

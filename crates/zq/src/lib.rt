@@ -1,0 +1,4 @@
+// Numbers modulo Q (ring/zq.rs).
+pub mod digits;
+pub mod norm;
+pub mod zq;

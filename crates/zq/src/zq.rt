@@ -1,0 +1,86 @@
+// An element of Z/(2^32 − 1). Document 01: "An element of Zq is never taken for a plain count."
+ghost use mathlib.Core.Path.{_≡_};
+ghost use mathlib.Core.Bool.{cond};
+ghost use Prim.Native.Nat.{_+_, _-_, _*_, _%_, _<_};
+ghost use lib.Dec.{eqb};
+ghost use Rattle.definitions.specs.Zq.{Q, Canonical, zadd, zsub, zneg, zmul, isLargerThanHalf, centre, size};
+
+// A word; canonical below Q. No operation asks for a canonical word, and each gives one.
+pub struct Zq(pub u32);
+
+// Q as a u64.
+const MODULUS: u64 = 4294967295;
+
+impl Zq {
+    pub const Q: u32 = 4294967295;
+
+    pub const ZERO: Zq = Zq(0);
+
+    pub const ONE: Zq = Zq(1);
+
+    pub const TWO: Zq = Zq(2);
+
+    pub const NEG_ONE: Zq = Zq(4294967294);
+
+    pub fn add(self, rhs: Zq) -> Zq
+        ensures { λ r. ⌜ r .0 ≡ zadd (self .0) (rhs .0) ⌝ }
+    {
+        let sum = (self.0 as u64 + rhs.0 as u64) % MODULUS;
+        Zq(sum as u32)
+    }
+
+    pub fn sub(self, rhs: Zq) -> Zq
+        ensures { λ r. ⌜ r .0 ≡ zsub (self .0) (rhs .0) ⌝ }
+    {
+        let difference = (self.0 as u64 + (MODULUS - rhs.0 as u64)) % MODULUS;
+        Zq(difference as u32)
+    }
+
+    pub fn neg(self) -> Zq
+        ensures { λ r. ⌜ r .0 ≡ zneg (self .0) ⌝ }
+    {
+        Zq((Zq::Q - self.0) % Zq::Q)
+    }
+
+    pub fn mul(self, rhs: Zq) -> Zq
+        ensures { λ r. ⌜ r .0 ≡ zmul (self .0) (rhs .0) ⌝ }
+    {
+        let product = self.0 as u64 * rhs.0 as u64 % MODULUS;
+        Zq(product as u32)
+    }
+
+    pub fn is_zero(self) -> bool
+        ensures { λ r. ⌜ r ≡ eqb (self .0) 0 ⌝ }
+    {
+        self.0 == 0
+    }
+
+    pub fn is_larger_than_half(self) -> bool
+        ensures { λ r. ⌜ r ≡ isLargerThanHalf (self .0) ⌝ }
+    {
+        2147483647 < self.0
+    }
+
+    // The centre, as an i64.
+    pub fn centered_mod(self) -> i64
+        ensures { λ r. ⌜ r ≡ centre (self .0) ⌝ }
+    {
+        let value = self.0 as i64;
+        if 2147483647 < self.0 {
+            value - 4294967295
+        } else {
+            value
+        }
+    }
+
+    // The size of the centre.
+    pub fn size(self) -> u32
+        ensures { λ r. ⌜ r ≡ size (self .0) ⌝ }
+    {
+        if 2147483647 < self.0 {
+            Zq::Q - self.0
+        } else {
+            self.0
+        }
+    }
+}
