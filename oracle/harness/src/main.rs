@@ -59,6 +59,10 @@ fn compare(seed: u64, count: u64, largest: bool) -> bool {
     for i in 0..count as usize {
         let parameters = small(&mut random, i);
         whole::random_instance(&mut context, &mut random, parameters);
+        if i % 20 == 0 {
+            let base = whole::base(&mut random, parameters);
+            whole::unfit(&mut context, &mut random, &base, Call::ALL[i / 20 % 7], 1);
+        }
     }
     if largest {
         whole::largest(&mut context, &mut random);

@@ -166,7 +166,7 @@ impl Job {
 }
 
 /// Loads the randomness, all seven sections, for the sponge.
-fn load(randomness: &[u32]) {
+pub fn load(randomness: &[u32]) {
     let s = split(randomness);
     Tape::new(s[..5].concat(), s[5].clone(), s[6].clone()).load();
 }
@@ -193,15 +193,23 @@ pub fn silence_panics() {
     }));
 }
 
-/// `LabradorProver::prove`: the answer, and the transcript's eight sections where it is made.
-pub fn prove(job: &Job, randomness: &[u32], witness: &[u32]) -> (Answer, Vec<Vec<u32>>) {
+/// A witness as the Rust has it.
+pub fn witness(job: &Job, witness: &[u32]) -> Witness {
+    Witness {
+        s: vectors(&witness[1..], job.parameters.rank),
+    }
+}
+
+/// `LabradorProver::prove`, over the randomness that is loaded.
+pub fn run_prover(job: &Job, witness: &Witness) -> Result<LabradorTranscript<Playback>, ProverError> {
+    LabradorProver::new(&job.parameters, &job.crs, witness, &job.statement).prove()
+}
+
+/// The prover's answer, and the transcript's eight sections where it is made.
+pub fn prove(job: &Job, randomness: &[u32], witness_words: &[u32]) -> (Answer, Vec<Vec<u32>>) {
     load(randomness);
-    let p = &job.parameters;
-    let witness = Witness {
-        s: vectors(&witness[1..], p.rank),
-    };
-    let mut prover = LabradorProver::new(p, &job.crs, &witness, &job.statement);
-    match caught(|| prover.prove::<Playback>()) {
+    let witness = witness(job, witness_words);
+    match caught(|| run_prover(job, &witness)) {
         Ok(Ok(made)) => {
             assert_eq!(Tape::left(), (0, 0, 0), "the prover reads all randomness");
             let p_words = made.vector_p.iter().map(Zq::get_value).collect();
@@ -233,9 +241,8 @@ pub fn prove(job: &Job, randomness: &[u32], witness: &[u32]) -> (Answer, Vec<Vec
     }
 }
 
-/// `LabradorVerifier::verify`.
-pub fn verify(job: &Job, randomness: &[u32], transcript: &[u32]) -> Answer {
-    load(randomness);
+/// A transcript as the Rust has it.
+pub fn proof(job: &Job, transcript: &[u32]) -> LabradorTranscript<Playback> {
     let p = &job.parameters;
     let s = split(transcript);
     let mut proof = LabradorTranscript::new(Playback);
@@ -247,9 +254,19 @@ pub fn verify(job: &Job, randomness: &[u32], transcript: &[u32]) -> Answer {
     proof.t = RqMatrix::new(vectors(&s[5], p.kappa), false);
     proof.g = triangle(&s[6], p.multiplicity);
     proof.h = triangle(&s[7], p.multiplicity);
+    proof
+}
 
-    let mut verifier = LabradorVerifier::new(p, &job.crs, &job.statement);
-    match caught(|| verifier.verify(&proof)) {
+/// `LabradorVerifier::verify`, over the randomness that is loaded.
+pub fn run_verifier(job: &Job, proof: &LabradorTranscript<Playback>) -> Result<bool, VerifierError> {
+    LabradorVerifier::new(&job.parameters, &job.crs, &job.statement).verify(proof)
+}
+
+/// The verifier's answer.
+pub fn verify(job: &Job, randomness: &[u32], transcript: &[u32]) -> Answer {
+    load(randomness);
+    let proof = proof(job, transcript);
+    match caught(|| run_verifier(job, &proof)) {
         Ok(Ok(accepted)) => {
             assert!(accepted, "the Rust's verifier has no other verdict");
             assert_eq!(Tape::left(), (0, 0, 0), "the verifier reads all randomness");

@@ -6,13 +6,12 @@ use std::collections::BTreeMap;
 pub struct Tally {
     /// How often each row occurred, under its heading; rows that must occur start at 0.
     rows: BTreeMap<(&'static str, String), u64>,
-    /// How often each comparison was made.
-    compared: BTreeMap<&'static str, u64>,
-    differences: u64,
+    /// How often each comparison was made, and how often the two differed.
+    compared: BTreeMap<&'static str, (u64, u64)>,
 }
 
-/// Differences beyond this many are counted and not printed.
-const SHOWN: u64 = 20;
+/// Differences of a comparison beyond this many are counted and not printed.
+const SHOWN: u64 = 10;
 
 impl Tally {
     pub fn must_occur(&mut self, heading: &'static str, row: impl ToString) {
@@ -31,10 +30,11 @@ impl Tally {
         theirs: &T,
         case: impl FnOnce() -> String,
     ) {
-        *self.compared.entry(kind).or_default() += 1;
+        let (count, differences) = self.compared.entry(kind).or_default();
+        *count += 1;
         if ours != theirs {
-            self.differences += 1;
-            if self.differences <= SHOWN {
+            *differences += 1;
+            if *differences <= SHOWN {
                 let cut = |text: String| text.chars().take(400).collect::<String>();
                 println!("differs: {kind}: {}", case());
                 println!("  {}", cut(format!("{ours:?}")));
@@ -57,10 +57,16 @@ impl Tally {
             empty += u64::from(*count == 0);
         }
         println!("\ncompared");
-        for (kind, count) in &self.compared {
-            println!("  {count:>8}  {kind}");
+        let mut all = 0;
+        for (kind, (count, differences)) in &self.compared {
+            let mark = match differences {
+                0 => String::new(),
+                _ => format!("  {differences} differ"),
+            };
+            println!("  {count:>8}  {kind}{mark}");
+            all += differences;
         }
-        println!("\n{} differences, {empty} empty rows", self.differences);
-        self.differences == 0 && empty == 0
+        println!("\n{all} differences, {empty} empty rows");
+        all == 0 && empty == 0
     }
 }
