@@ -43,7 +43,11 @@ fn all(elements: &[Element]) -> Vec<Rq> {
     elements.iter().map(of).collect()
 }
 
-fn leaf(name: &'static str, ours: impl FnMut() + 'static, theirs: impl FnMut() + 'static) -> Kernel {
+fn leaf(
+    name: &'static str,
+    ours: impl FnMut() + 'static,
+    theirs: impl FnMut() + 'static,
+) -> Kernel {
     Kernel {
         name,
         calls: BATCH,
@@ -106,7 +110,9 @@ fn digits(random: &mut Random, name: &'static str, base: u32, parts: u32) -> Ker
         name,
         move || {
             for a in &a {
-                let answer = unsafe { labrador_rq_digits(base, parts, *black_box(a), rows.as_mut_ptr(), rows.len()) };
+                let answer = unsafe {
+                    labrador_rq_digits(base, parts, *black_box(a), rows.as_mut_ptr(), rows.len())
+                };
                 black_box((answer.number, &rows));
             }
         },
@@ -182,17 +188,22 @@ fn whole(random: &mut Random, names: [&'static str; 2], n: usize, r: usize) -> V
         .zip(names)
         .map(|((call, third), name)| {
             let rust_job = rust::Job::new(&job);
-            let (job, ours_randomness, randomness) = (job.clone(), randomness.clone(), randomness.clone());
+            let (job, ours_randomness, randomness) =
+                (job.clone(), randomness.clone(), randomness.clone());
             let mut scratch = vec![0; p.scratch_need()];
             let mut output = vec![0; output_need(&p, call)];
             let theirs: Box<dyn FnMut()> = match call {
                 Call::Verify => {
                     let proof = rust::proof(&rust_job, &third);
-                    Box::new(move || assert!(rust::run_verifier(&rust_job, black_box(&proof)).is_ok()))
+                    Box::new(move || {
+                        assert!(rust::run_verifier(&rust_job, black_box(&proof)).is_ok())
+                    })
                 }
                 _ => {
                     let witness = rust::witness(&rust_job, &third);
-                    Box::new(move || assert!(rust::run_prover(&rust_job, black_box(&witness)).is_ok()))
+                    Box::new(move || {
+                        assert!(rust::run_prover(&rust_job, black_box(&witness)).is_ok())
+                    })
                 }
             };
             Kernel {
@@ -222,10 +233,20 @@ pub fn kernels() -> Vec<Kernel> {
         product(random),
         multiply_add(random),
         digits(random, "digits of an element, base 16, 8 parts", 16, 8),
-        digits(random, "digits of an element, base 65536, 2 parts", 65536, 2),
+        digits(
+            random,
+            "digits of an element, base 65536, 2 parts",
+            65536,
+            2,
+        ),
         challenge(random),
     ];
     kernels.extend(whole(random, ["prove, n 4, r 2", "verify, n 4, r 2"], 4, 2));
-    kernels.extend(whole(random, ["prove, n 16, r 4", "verify, n 16, r 4"], 16, 4));
+    kernels.extend(whole(
+        random,
+        ["prove, n 16, r 4", "verify, n 16, r 4"],
+        16,
+        4,
+    ));
     kernels
 }

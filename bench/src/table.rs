@@ -51,18 +51,30 @@ fn collected(name: &str, side: &str, batches: usize) -> Option<u64> {
 /// The instructions of a call: what further batches add.
 fn instructions(kernel: &Kernel, side: &str) -> Option<f64> {
     let (few, many) = if kernel.calls == 1 { (1, 2) } else { (4, 12) };
-    let more = collected(kernel.name, side, many)?.checked_sub(collected(kernel.name, side, few)?)?;
+    let more =
+        collected(kernel.name, side, many)?.checked_sub(collected(kernel.name, side, few)?)?;
     Some(more as f64 / ((many - few) * kernel.calls) as f64)
 }
 
 pub fn print() {
-    println!("| call | ours, ns | Rust, ns | ratio | ours, instructions | Rust, instructions | ratio |");
+    println!(
+        "| call | ours, ns | Rust, ns | ratio | ours, instructions | Rust, instructions | ratio |"
+    );
     println!("|---|---:|---:|---:|---:|---:|---:|");
     for mut kernel in kernels() {
         let (ours, theirs) = time(&mut kernel);
-        print!("| {} | {ours:.0} | {theirs:.0} | {:.2} |", kernel.name, ours / theirs);
-        match (instructions(&kernel, "ours"), instructions(&kernel, "theirs")) {
-            (Some(ours), Some(theirs)) => println!(" {ours:.0} | {theirs:.0} | {:.2} |", ours / theirs),
+        print!(
+            "| {} | {ours:.0} | {theirs:.0} | {:.2} |",
+            kernel.name,
+            ours / theirs
+        );
+        match (
+            instructions(&kernel, "ours"),
+            instructions(&kernel, "theirs"),
+        ) {
+            (Some(ours), Some(theirs)) => {
+                println!(" {ours:.0} | {theirs:.0} | {:.2} |", ours / theirs)
+            }
             _ => println!(" not counted | not counted | |"),
         }
     }

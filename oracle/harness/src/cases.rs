@@ -88,8 +88,7 @@ impl Context {
 
     /// Counts a case, compares the library's answer with the expected one, and records it.
     pub fn take(&mut self, case: Case) {
-        self.tally
-            .occurred(CALLS, row(case.call, case.expected.answer.number));
+        self.tally.occurred(CALLS, row(case.call, case.expected.answer.number));
         self.tally.occurred(PURPOSES, case.purpose);
         self.tally.library(&case);
         if let Some(recorder) = &mut self.recorder {
@@ -113,10 +112,7 @@ impl Context {
             &Answer::refused(aim.0, aim.1),
             || case.describe(),
         );
-        let expected = Expected {
-            answer,
-            worked: None,
-        };
+        let expected = Expected { answer, worked: None };
         self.take(Case { expected, ..case });
     }
 
@@ -143,8 +139,12 @@ impl Context {
             .compare("model's prover with the Rust's, answer", &modelled, &answer, described);
         if !sections.is_empty() {
             let ours = made.sections();
-            self.tally
-                .compare("model's prover with the Rust's, transcript", &ours, &sections, described);
+            self.tally.compare(
+                "model's prover with the Rust's, transcript",
+                &ours,
+                &sections,
+                described,
+            );
         }
 
         for call in Call::ALL {
@@ -190,13 +190,7 @@ impl Context {
     }
 
     /// The verifier on a transcript: the Rust's verdict.
-    pub fn verifier(
-        &mut self,
-        purpose: &'static str,
-        instance: &Instance,
-        transcript: &[u32],
-        spare: usize,
-    ) -> Answer {
+    pub fn verifier(&mut self, purpose: &'static str, instance: &Instance, transcript: &[u32], spare: usize) -> Answer {
         let p = &instance.parameters;
         let job = instance.job_words();
         let randomness = instance.randomness_words();

@@ -100,18 +100,12 @@ impl Instance {
     /// Random values everywhere, the witness meeting every constraint, the bounds loose.
     pub fn random(random: &mut Random, parameters: Parameters, size: Size) -> Self {
         let p = &parameters;
-        let job = p.job_counts()[1..]
-            .iter()
-            .map(|&count| random.numbers(count))
-            .collect();
+        let job = p.job_counts()[1..].iter().map(|&count| random.numbers(count)).collect();
         let counts = p.randomness_counts();
-        let mut randomness: Vec<Vec<u32>> =
-            counts[..5].iter().map(|&c| random.numbers(c)).collect();
+        let mut randomness: Vec<Vec<u32>> = counts[..5].iter().map(|&c| random.numbers(c)).collect();
         randomness.push((0..counts[5]).map(|_| random.word() & 1).collect());
         randomness.push((0..counts[6]).map(|_| random.word()).collect());
-        let witness = (0..p.witness_counts()[0])
-            .map(|_| coefficient(random, size))
-            .collect();
+        let witness = (0..p.witness_counts()[0]).map(|_| coefficient(random, size)).collect();
         let mut instance = Instance {
             parameters,
             job,
@@ -134,7 +128,7 @@ impl Instance {
 
     /// Adds errors to the right sides.
     pub fn put_off(&mut self, random: &mut Random, off: Off) {
-        let mut error = || 1 + random.next() as u32 % 4294967294;
+        let mut error = || 1 + random.next_u64() as u32 % 4294967294;
         let (constant, ring) = (self.parameters.constant, self.parameters.ring);
         let mut constant_off = vec![];
         let mut ring_off = vec![];

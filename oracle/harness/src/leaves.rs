@@ -6,7 +6,7 @@ use crate::record::Recorder;
 use crate::rust;
 use crate::tally::Tally;
 use model::calls::{self, Leaf};
-use model::leaves::{Q, DEGREE};
+use model::leaves::{DEGREE, Q};
 use model::words::{SHUFFLES, SIGNS};
 
 /// Heading of the tally.
@@ -98,16 +98,16 @@ impl Leaves<'_> {
     fn digits(&mut self, random: &mut Random, count: usize, step: usize) {
         let bases = [&BASES[..], &[0, 1, Q]].concat();
         let parts = [0, 1, 2, 3, 5, 16, 20, 21, 30, 31, 32, 33, Q];
-        let mut taken = 0;
+        let mut taken: usize = 0;
         for &base in &bases {
             for part in parts {
                 for a in WORDS {
                     taken += 1;
-                    if taken % step == 0 {
+                    if taken.is_multiple_of(step) {
                         self.take(Leaf::ZqDigits, &[base, part, a]);
                     }
                 }
-                if taken / WORDS.len() % step == 0 {
+                if (taken / WORDS.len()).is_multiple_of(step) {
                     let element = boundary_element(random);
                     self.take(Leaf::RqDigits, &[&[base, part], &element[..]].concat());
                 }
@@ -117,7 +117,7 @@ impl Leaves<'_> {
             let base = match random.below(3) {
                 0 => random.pick(&BASES),
                 1 => 2 + random.below(100) as u32,
-                _ => (2 + random.next() % 4294967293) as u32,
+                _ => (2 + random.next_u64() % 4294967293) as u32,
             };
             let part = 1 + random.below(32) as u32;
             self.take(Leaf::ZqDigits, &[base, part, random.number()]);
@@ -217,9 +217,9 @@ fn row(leaf: Leaf, number: u32) -> String {
 
 /// Words about the ends of each range that document 01 names.
 const WORDS: [u32; 30] = [
-    0, 1, 2, 3, 4, 5, 6, 7, 10, 255, 256, 65535, 65536, 65537, 1073741823, 1073741824, 1073741825, 2147483646, 2147483647,
-    2147483648, 2147483649, 3221225471, 4294901760, 4294967285, 4294967288, 4294967290, 4294967292, 4294967293, 4294967294,
-    Q,
+    0, 1, 2, 3, 4, 5, 6, 7, 10, 255, 256, 65535, 65536, 65537, 1073741823, 1073741824, 1073741825, 2147483646,
+    2147483647, 2147483648, 2147483649, 3221225471, 4294901760, 4294967285, 4294967288, 4294967290, 4294967292,
+    4294967293, 4294967294, Q,
 ];
 
 /// Places of a word in an element.

@@ -8,4 +8,5 @@ pub mod record;
 pub mod replay;
 pub mod rust;
 pub mod tally;
+pub mod unfit;
 pub mod whole;

@@ -9,7 +9,7 @@ use harness::cases::Context;
 use harness::instances::{small, Instance};
 use harness::random::Random;
 use harness::record::Recorder;
-use harness::{replay, rust, whole};
+use harness::{replay, rust, unfit, whole};
 use model::Call;
 use std::path::Path;
 use std::process::ExitCode;
@@ -44,7 +44,7 @@ fn families(context: &mut Context, random: &mut Random, instance: &Instance, pai
     whole::damaged_sections(context, instance);
     whole::free_words(context, instance);
     for call in Call::ALL {
-        whole::unfit(context, random, instance, call, pairs);
+        unfit::unfit(context, random, instance, call, pairs);
     }
 }
 
@@ -61,7 +61,7 @@ fn compare(seed: u64, count: u64, largest: bool) -> bool {
         whole::random_instance(&mut context, &mut random, parameters);
         if i % 20 == 0 {
             let base = whole::base(&mut random, parameters);
-            whole::unfit(&mut context, &mut random, &base, Call::ALL[i / 20 % 7], 1);
+            unfit::unfit(&mut context, &mut random, &base, Call::ALL[i / 20 % 7], 1);
         }
     }
     if largest {
@@ -76,7 +76,7 @@ fn compare(seed: u64, count: u64, largest: bool) -> bool {
 }
 
 fn record(folder: &Path) -> bool {
-    let mut context = Context::new(Some(Recorder::new()));
+    let mut context = Context::new(Some(Recorder::default()));
     let mut random = Random::new(1);
     context.leaves().all(&mut random, 20, 7);
     let base = whole::base(&mut random, whole::pair_parameters());

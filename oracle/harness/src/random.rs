@@ -7,7 +7,7 @@ impl Random {
         Random(seed)
     }
 
-    pub fn next(&mut self) -> u64 {
+    pub fn next_u64(&mut self) -> u64 {
         self.0 = self.0.wrapping_add(0x9e37_79b9_7f4a_7c15);
         let mut z = self.0;
         z = (z ^ (z >> 30)).wrapping_mul(0xbf58_476d_1ce4_e5b9);
@@ -16,16 +16,16 @@ impl Random {
     }
 
     pub fn below(&mut self, count: usize) -> usize {
-        (self.next() % count as u64) as usize
+        (self.next_u64() % count as u64) as usize
     }
 
     pub fn word(&mut self) -> u32 {
-        self.next() as u32
+        self.next_u64() as u32
     }
 
     /// A number below Q.
     pub fn number(&mut self) -> u32 {
-        (self.next() % 4294967295) as u32
+        (self.next_u64() % 4294967295) as u32
     }
 
     pub fn pick<T: Copy>(&mut self, from: &[T]) -> T {

@@ -64,8 +64,8 @@ pub struct Recorder {
     slices: [Slice; 4],
 }
 
-impl Recorder {
-    pub fn new() -> Self {
+impl Default for Recorder {
+    fn default() -> Self {
         Recorder {
             leaves: File::default(),
             calls: File::default(),
@@ -75,7 +75,9 @@ impl Recorder {
             }),
         }
     }
+}
 
+impl Recorder {
     pub fn write(self, folder: &Path) -> std::io::Result<()> {
         self.leaves.write(&folder.join("leaves"))?;
         self.calls.write(&folder.join("calls"))
@@ -153,7 +155,13 @@ impl Recorder {
             Call::Verify => 6,
         };
         assert!(case.scratch <= SCRATCH_CAPACITY);
-        let mut body = vec![call, case.scratch as u32, case.output as u32, answer.number, answer.index];
+        let mut body = vec![
+            call,
+            case.scratch as u32,
+            case.output as u32,
+            answer.number,
+            answer.index,
+        ];
         body.extend([answer.place as u32, (answer.place >> 32) as u32]);
         for figure in [answer.first, answer.second] {
             body.extend((0..4).map(|k| (figure >> (32 * k)) as u32));

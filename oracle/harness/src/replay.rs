@@ -105,6 +105,8 @@ fn call(tally: &mut Tally, slices: &[(Vec<u32>, usize); 4], body: &[u32]) {
     };
     let (answer, worked) = model::whole(call, handed);
     let modelled = Expected { answer, worked };
-    tally.compare("model's call with the recorded one", &modelled, &case.expected, || case.describe());
+    tally.compare("model's call with the recorded one", &modelled, &case.expected, || {
+        case.describe()
+    });
     tally.library(&case);
 }

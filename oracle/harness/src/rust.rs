@@ -229,7 +229,10 @@ pub fn prove(job: &Job, randomness: &[u32], witness_words: &[u32]) -> (Answer, V
         Ok(Err(ProverError::CommitError(_))) => {
             let scheme = &job.crs.commitment_scheme_a;
             let first = witness.s.iter().position(|s| scheme.commit(s).is_err());
-            (Answer::refused(13, first.expect("a vector that does not commit")), vec![])
+            (
+                Answer::refused(13, first.expect("a vector that does not commit")),
+                vec![],
+            )
         }
         Ok(Err(other)) => panic!("the Rust's prover answers otherwise: {other}"),
         Err(()) => {

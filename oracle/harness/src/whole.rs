@@ -1,13 +1,11 @@
 //! The cases of the calls on whole slices, family after family.
 
-use crate::cases::{Case, Context, Expected};
+use crate::cases::Context;
 use crate::instances::*;
 use crate::random::Random;
 use model::formulas::{outer_u1, outer_u2};
 use model::leaves::{add, Q};
-use model::refusals::{output_need, LIMITS};
 use model::words::*;
-use model::{Answer, Call};
 
 /// Which bound stands just at its figure or just below.
 #[derive(Clone, Copy, Debug, PartialEq, Eq)]
@@ -69,7 +67,7 @@ fn tighten(p: &mut Parameters, figures: &Figures, tight: Tight) {
 }
 
 /// The transcript of an instance by the model.
-fn modelled(instance: &Instance) -> Transcript {
+pub fn modelled(instance: &Instance) -> Transcript {
     let p = &instance.parameters;
     model::formulas::transcript(
         &Job::read(&instance.job_words()),
@@ -102,7 +100,11 @@ pub fn random_instance(context: &mut Context, random: &mut Random, parameters: P
         let figures = instance.figures(&modelled(&instance));
         tighten(&mut instance.parameters, &figures, tight);
     }
-    let purpose = if tight == Tight::Loose { off.name() } else { tight.name() };
+    let purpose = if tight == Tight::Loose {
+        off.name()
+    } else {
+        tight.name()
+    };
     let spare = random.below(4);
     if let Some(transcript) = context.prover(purpose, &instance, spare) {
         damage_at_random(context, random, &instance, &transcript);
@@ -151,17 +153,63 @@ pub fn limits(context: &mut Context, random: &mut Random) {
     let all = [
         ("n at its limit", Parameters { n: 64, ..base }),
         ("r at its limit", Parameters { r: 16, ..base }),
-        ("κ1 and κ2 at their limits", Parameters { kappa1: 16, kappa2: 16, ..base }),
+        (
+            "κ1 and κ2 at their limits",
+            Parameters {
+                kappa1: 16,
+                kappa2: 16,
+                ..base
+            },
+        ),
         ("K at its limit", Parameters { ring: 64, ..base }),
         ("l at its limit", Parameters { constant: 64, ..base }),
         ("log_q at its least", eight),
-        ("log_q 31", Parameters { log_q: 31, kappa: 5, ..base }),
+        (
+            "log_q 31",
+            Parameters {
+                log_q: 31,
+                kappa: 5,
+                ..base
+            },
+        ),
         ("log_q 32", base),
-        ("b at its least, t1 and t2 at their limits", Parameters { b: 2, t1: 32, t2: 32, ..base }),
+        (
+            "b at its least, t1 and t2 at their limits",
+            Parameters {
+                b: 2,
+                t1: 32,
+                t2: 32,
+                ..base
+            },
+        ),
         ("b at its limit", Parameters { b: 4294967294, ..base }),
-        ("t1 and t2 at their least", Parameters { t1: 1, t2: 1, r: 2, ..base }),
-        ("t1 at its limit", Parameters { t1: 32, r: 2, b: 3, ..eight }),
-        ("t2 at its limit", Parameters { t2: 32, r: 2, b: 3, ..base }),
+        (
+            "t1 and t2 at their least",
+            Parameters {
+                t1: 1,
+                t2: 1,
+                r: 2,
+                ..base
+            },
+        ),
+        (
+            "t1 at its limit",
+            Parameters {
+                t1: 32,
+                r: 2,
+                b: 3,
+                ..eight
+            },
+        ),
+        (
+            "t2 at its limit",
+            Parameters {
+                t2: 32,
+                r: 2,
+                b: 3,
+                ..base
+            },
+        ),
     ];
     for (purpose, parameters) in all {
         for size in [Size::Bits(4), Size::Ends] {
@@ -243,7 +291,13 @@ pub fn few(context: &mut Context, random: &mut Random) {
         (with(1, 3, 32, 16, 2, 8), Size::Bits(0)),
     ];
     for (parameters, size) in all {
-        at_bounds(context, random, "log_q, b, t1 and t2 within their limits", parameters, size);
+        at_bounds(
+            context,
+            random,
+            "log_q, b, t1 and t2 within their limits",
+            parameters,
+            size,
+        );
     }
 }
 
@@ -432,245 +486,6 @@ pub fn damaged_sections(context: &mut Context, instance: &Instance) {
     }
     let zeros: Vec<Vec<u32>> = sections.iter().map(|s| vec![0; s.len()]).collect();
     context.verifier("a transcript of zeros", instance, &join(&zeros), 0);
-}
-
-/// A fault of the input.
-struct Fault {
-    /// When it is looked for: the tests of document 01's order, numbered.
-    stage: usize,
-    /// The number and the place of its refusal.
-    aim: (u32, usize),
-    kind: Kind,
-}
-
-#[derive(Clone, Copy)]
-enum Kind {
-    /// A word of a slice takes a value.
-    Word(Slice, usize, u32),
-    /// A word of a slice goes up by this, modulo 2^32.
-    Change(Slice, usize, u32),
-    /// A slice ends at this length.
-    Cut(Slice, usize),
-    /// A slice has a word too many.
-    Surplus(Slice),
-    Scratch(usize),
-    Output(usize),
-}
-
-#[derive(Clone, Copy, PartialEq, Eq)]
-enum Slice {
-    Job,
-    Randomness,
-    Third,
-}
-
-impl Slice {
-    fn of(self, case: &mut Case) -> &mut Vec<u32> {
-        match self {
-            Slice::Job => &mut case.job,
-            Slice::Randomness => &mut case.randomness,
-            Slice::Third => &mut case.third,
-        }
-    }
-}
-
-impl Fault {
-    fn make(&self, case: &mut Case) {
-        match self.kind {
-            Kind::Word(slice, at, word) => slice.of(case)[at] = word,
-            Kind::Change(slice, at, by) => {
-                let word = &mut slice.of(case)[at];
-                *word = word.wrapping_add(by);
-            }
-            Kind::Cut(slice, length) => slice.of(case).truncate(length),
-            Kind::Surplus(slice) => slice.of(case).push(0),
-            Kind::Scratch(length) => case.scratch = length,
-            Kind::Output(length) => case.output = length,
-        }
-    }
-
-    /// The word that it sets.
-    fn word(&self) -> Option<(Slice, usize)> {
-        match self.kind {
-            Kind::Word(slice, at, _) | Kind::Change(slice, at, _) => Some((slice, at)),
-            _ => None,
-        }
-    }
-
-    /// Whether it shortens a slice, and so comes after a fault that sets a word.
-    fn is_cut(&self) -> bool {
-        matches!(self.kind, Kind::Cut(..))
-    }
-}
-
-/// Where each section's count stands, and the slice's length.
-fn starts(counts: &[usize]) -> (Vec<usize>, usize) {
-    let mut at = 0;
-    let starts = counts
-        .iter()
-        .map(|count| {
-            at += 1 + count;
-            at - 1 - count
-        })
-        .collect();
-    (starts, at)
-}
-
-/// The faults of a slice from one of its sections on: a count one off; the slice ending before and after a count and
-/// before a section's last word; a word too many.
-fn layout_faults(slice: Slice, stage: usize, number: u32, counts: &[usize], from: usize) -> Vec<Fault> {
-    let (starts, length) = starts(counts);
-    let fault = |place: usize, kind: Kind| Fault {
-        stage,
-        aim: (number, place),
-        kind,
-    };
-    let mut faults = vec![fault(length, Kind::Surplus(slice))];
-    for (&at, count) in starts.iter().zip(counts).skip(from) {
-        faults.push(fault(at, Kind::Change(slice, at, 1)));
-        faults.push(fault(at, Kind::Change(slice, at, u32::MAX)));
-        for length in [at, at + 1, at + count] {
-            faults.push(fault(length, Kind::Cut(slice, length)));
-        }
-    }
-    faults
-}
-
-/// The first and the last word of a section out of range.
-fn word_faults(slice: Slice, stage: usize, number: u32, start: usize, count: usize, word: u32) -> [Fault; 2] {
-    [start + 1, start + count].map(|at| Fault {
-        stage,
-        aim: (number, at),
-        kind: Kind::Word(slice, at, word),
-    })
-}
-
-/// Every fault of a call on a fit input, by stages in document 01's order.
-fn faults(p: &Parameters, call: Call) -> Vec<Fault> {
-    let mut faults = vec![];
-    // 0: section one's layout; 1: a parameter outside its limits; 2: κ is not L
-    faults.extend(layout_faults(Slice::Job, 0, 3, &[PARAMETERS], 0).into_iter().skip(1));
-    for (k, (least, greatest)) in LIMITS.iter().enumerate() {
-        for word in [least - 1, greatest + 1, 0, Q] {
-            faults.push(Fault {
-                stage: 1,
-                aim: (4, 1 + k),
-                kind: Kind::Word(Slice::Job, 1 + k, word),
-            });
-        }
-    }
-    for kappa in [p.kappa - 1, p.kappa + 1, 1, 16] {
-        faults.push(Fault {
-            stage: 2,
-            aim: (5, 3),
-            kind: Kind::Word(Slice::Job, 3, kappa as u32),
-        });
-    }
-    // 3: the other sections' layout; 4: their words
-    let counts = p.job_counts();
-    faults.extend(layout_faults(Slice::Job, 3, 3, &counts, 1));
-    let (at, _) = starts(&counts);
-    for k in 1..counts.len() {
-        faults.extend(word_faults(Slice::Job, 4, 6, at[k], counts[k], Q));
-    }
-    // 5: the randomness's layout; 6: its words
-    let counts = &p.randomness_counts()[..call.randomness_sections()];
-    faults.extend(layout_faults(Slice::Randomness, 5, 7, counts, 0));
-    let (at, _) = starts(counts);
-    for k in 0..counts.len().min(5) {
-        faults.extend(word_faults(Slice::Randomness, 6, 8, at[k], counts[k], Q));
-    }
-    for word in [2, Q] {
-        if counts.len() > 5 {
-            faults.extend(word_faults(Slice::Randomness, 6, 8, at[5], counts[5], word));
-        }
-    }
-    // 7: the third slice's layout; 8: its words
-    let (number, counts) = match call {
-        Call::Verify => (9, p.transcript_counts()),
-        _ => (11, p.witness_counts()),
-    };
-    faults.extend(layout_faults(Slice::Third, 7, number, &counts, 0));
-    let (at, _) = starts(&counts);
-    for k in 0..counts.len() {
-        faults.extend(word_faults(Slice::Third, 8, number + 1, at[k], counts[k], Q));
-    }
-    // 9: scratch; 10: output
-    let need = p.scratch_need();
-    for length in [need - 1, 0] {
-        faults.push(Fault {
-            stage: 9,
-            aim: (1, need),
-            kind: Kind::Scratch(length),
-        });
-    }
-    if call != Call::Verify {
-        let need = output_need(p, call);
-        for length in [need - 1, 0] {
-            faults.push(Fault {
-                stage: 10,
-                aim: (2, need),
-                kind: Kind::Output(length),
-            });
-        }
-    }
-    faults
-}
-
-/// Unfit inputs of a call: each fault alone; then pairs of faults, for every pair of stages as often as asked. The
-/// earlier stage answers, and within a stage the lower place.
-pub fn unfit(context: &mut Context, random: &mut Random, instance: &Instance, call: Call, pairs: usize) {
-    let p = &instance.parameters;
-    let third = match call {
-        Call::Verify => join(&modelled(instance).sections()),
-        _ => instance.witness_words(),
-    };
-    let job = instance.job_words();
-    let randomness = join(&instance.randomness[..call.randomness_sections()]);
-    let case = |purpose: &'static str| Case {
-        purpose,
-        call,
-        job: job.clone(),
-        randomness: randomness.clone(),
-        third: third.clone(),
-        scratch: p.scratch_need(),
-        output: output_need(p, call),
-        expected: Expected {
-            answer: Answer::FINE,
-            worked: None,
-        },
-    };
-    let faults = faults(p, call);
-    for fault in &faults {
-        let mut case = case("one fault in the input");
-        fault.make(&mut case);
-        context.unfit(case, fault.aim);
-    }
-    let stages: Vec<Vec<&Fault>> = (0..=10)
-        .map(|stage| faults.iter().filter(|f| f.stage == stage).collect())
-        .collect();
-    for (k, earlier) in stages.iter().enumerate() {
-        for later in &stages[k..] {
-            if earlier.is_empty() || later.is_empty() {
-                continue;
-            }
-            for _ in 0..pairs {
-                let mut two = [random.pick(earlier), random.pick(later)];
-                if two[0].word().is_some() && two[0].word() == two[1].word() {
-                    // the second would undo the first
-                    continue;
-                }
-                let first = two.iter().min_by_key(|f| (f.stage, f.aim.1)).expect("two faults");
-                let aim = first.aim;
-                two.sort_by_key(|f| f.is_cut());
-                let mut case = case("two faults in the input");
-                for fault in two {
-                    fault.make(&mut case);
-                }
-                context.unfit(case, aim);
-            }
-        }
-    }
 }
 
 /// Words that are free: shuffle words and the bounds' words, all 4294967295.

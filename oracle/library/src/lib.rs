@@ -116,10 +116,14 @@ pub mod whole_calls {
 
     extern "C" {
         pub fn labrador_verify(
-            job: *const u32, job_length: usize,
-            randomness: *const u32, randomness_length: usize,
-            transcript: *const u32, transcript_length: usize,
-            scratch: *mut u32, scratch_length: usize,
+            job: *const u32,
+            job_length: usize,
+            randomness: *const u32,
+            randomness_length: usize,
+            transcript: *const u32,
+            transcript_length: usize,
+            scratch: *mut u32,
+            scratch_length: usize,
         ) -> Verdict;
     }
 }
@@ -181,11 +185,7 @@ pub fn leaf(leaf: Leaf, w: &[u32]) -> Option<LeafAnswer> {
             }
         }
     };
-    Some(LeafAnswer {
-        number,
-        place,
-        result,
-    })
+    Some(LeafAnswer { number, place, result })
 }
 
 /// The slices of a call on whole slices, and its lent buffers.
@@ -224,10 +224,14 @@ pub fn whole(call: Call, handed: Handed) -> Option<Answer> {
             // The call takes slices of any length and any words.
             let a = unsafe {
                 labrador_verify(
-                    job.as_ptr(), job.len(),
-                    randomness.as_ptr(), randomness.len(),
-                    third.as_ptr(), third.len(),
-                    scratch.as_mut_ptr(), scratch.len(),
+                    job.as_ptr(),
+                    job.len(),
+                    randomness.as_ptr(),
+                    randomness.len(),
+                    third.as_ptr(),
+                    third.len(),
+                    scratch.as_mut_ptr(),
+                    scratch.len(),
                 )
             };
             return Some(Answer {
@@ -241,11 +245,16 @@ pub fn whole(call: Call, handed: Handed) -> Option<Answer> {
     };
     let a = unsafe {
         prover(
-            job.as_ptr(), job.len(),
-            randomness.as_ptr(), randomness.len(),
-            third.as_ptr(), third.len(),
-            scratch.as_mut_ptr(), scratch.len(),
-            output.as_mut_ptr(), output.len(),
+            job.as_ptr(),
+            job.len(),
+            randomness.as_ptr(),
+            randomness.len(),
+            third.as_ptr(),
+            third.len(),
+            scratch.as_mut_ptr(),
+            scratch.len(),
+            output.as_mut_ptr(),
+            output.len(),
         )
     };
     Some(Answer {

@@ -7,12 +7,8 @@ use crate::Answer;
 
 /// Both values of check 22 for row k: the constant coefficient of b''_k, and Σ psi[k][l]·b0[l] + Σ omega[k][j]·p[j].
 pub fn row_values(job: &Job, x: &Randomness, k: usize, b2: &[Element], p: &[u32]) -> (u32, u32) {
-    let weighted = |weights: &[u32], values: &[u32]| {
-        weights
-            .iter()
-            .zip(values)
-            .fold(0, |sum, (&w, &v)| add(sum, mul(w, v)))
-    };
+    let weighted =
+        |weights: &[u32], values: &[u32]| weights.iter().zip(values).fold(0, |sum, (&w, &v)| add(sum, mul(w, v)));
     let computed = add(weighted(&x.psi[k], &job.b0), weighted(&x.omega[k], p));
     (b2[k][0], computed)
 }

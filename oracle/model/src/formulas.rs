@@ -11,10 +11,7 @@ pub fn apply(rows: &[Vec<Element>], vector: &[Element]) -> Vec<Element> {
 
 /// The digits of each cell, lowest first, cell after cell.
 pub fn cell_digits(base: u32, parts: usize, cells: &[Element]) -> Vec<Element> {
-    cells
-        .iter()
-        .flat_map(|cell| rdigits(base, parts, cell))
-        .collect()
+    cells.iter().flat_map(|cell| rdigits(base, parts, cell)).collect()
 }
 
 pub fn elements_norm(elements: &[Element]) -> u128 {
@@ -52,9 +49,7 @@ pub fn over_pairs(r: usize, a: &[Element], x: &[Element]) -> Element {
 /// The triangle of f(i, j).
 pub fn triangle(r: usize, f: impl Fn(usize, usize) -> Element) -> Vec<Element> {
     let f = &f;
-    (0..r)
-        .flat_map(|i| (0..=i).map(move |j| f(i, j)))
-        .collect()
+    (0..r).flat_map(|i| (0..=i).map(move |j| f(i, j))).collect()
 }
 
 /// Σ a_ij·g_ij + Σ⟨φ_i, s_i⟩, where g_ij = ⟨s_i, s_j⟩.
@@ -62,9 +57,7 @@ pub fn left_side(c: &Constraint, s: &[Vec<Element>], g: &[Element]) -> Element {
     c.phi
         .iter()
         .zip(s)
-        .fold(over_pairs(s.len(), &c.a, g), |sum, (phi, s)| {
-            radd(&sum, &dot(phi, s))
-        })
+        .fold(over_pairs(s.len(), &c.a, g), |sum, (phi, s)| radd(&sum, &dot(phi, s)))
 }
 
 /// g_ij = ⟨s_i, s_j⟩.
@@ -108,10 +101,7 @@ pub fn aggregated_row(job: &Job, x: &Randomness, k: usize) -> Constraint {
                         // Σ omega[k][j]·(row j of Π_i), coefficient by coefficient, then conjugated
                         let row_sum = element(|c| {
                             let sum: i128 = (0..ROWS)
-                                .map(|j| {
-                                    i128::from(x.projection[i][j][m * DEGREE + c])
-                                        * i128::from(x.omega[k][j])
-                                })
+                                .map(|j| i128::from(x.projection[i][j][m * DEGREE + c]) * i128::from(x.omega[k][j]))
                                 .sum();
                             sum.rem_euclid(i128::from(Q)) as u32
                         });
@@ -141,9 +131,7 @@ pub fn aggregated(job: &Job, x: &Randomness, rows: &[Constraint]) -> Constraint 
     };
     Constraint {
         a: weighted(&|c| c.a.clone(), p.cells()),
-        phi: (0..p.r)
-            .map(|i| weighted(&|c| c.phi[i].clone(), p.n))
-            .collect(),
+        phi: (0..p.r).map(|i| weighted(&|c| c.phi[i].clone(), p.n)).collect(),
     }
 }
 

@@ -70,10 +70,7 @@ pub fn entry(word: u32) -> i64 {
 
 /// The sum of centred squares.
 pub fn norm(words: &[u32]) -> u128 {
-    words
-        .iter()
-        .map(|&a| u128::from(centre(a).unsigned_abs()).pow(2))
-        .sum()
+    words.iter().map(|&a| u128::from(centre(a).unsigned_abs()).pow(2)).sum()
 }
 
 pub fn element(f: impl FnMut(usize) -> u32) -> Element {
@@ -127,9 +124,7 @@ pub fn challenge(signs: &[u32], shuffles: &[u32]) -> Element {
 
 /// ⟨a, b⟩ of two vectors.
 pub fn dot(a: &[Element], b: &[Element]) -> Element {
-    a.iter()
-        .zip(b)
-        .fold(ZERO, |sum, (x, y)| radd(&sum, &rmul(x, y)))
+    a.iter().zip(b).fold(ZERO, |sum, (x, y)| radd(&sum, &rmul(x, y)))
 }
 
 /// The first word at or above a limit is refused with the number; the first word is at the place.

@@ -41,10 +41,7 @@ impl Answer {
 
     /// A failed check with no values.
     pub fn failed(number: u32) -> Answer {
-        Answer {
-            number,
-            ..Answer::FINE
-        }
+        Answer { number, ..Answer::FINE }
     }
 
     pub fn over(number: u32, first: u128, limit: u128) -> Answer {

@@ -95,10 +95,7 @@ pub struct Handed<'a> {
 /// The length of output that a call needs.
 pub fn output_need(p: &Parameters, call: Call) -> usize {
     let (first, past) = call.output_sections();
-    p.transcript_counts()[first..past]
-        .iter()
-        .map(|count| 1 + count)
-        .sum()
+    p.transcript_counts()[first..past].iter().map(|count| 1 + count).sum()
 }
 
 /// The parameters of an input that is fit for the work, or its refusal.

@@ -221,12 +221,7 @@ impl Job {
     pub fn read(words: &[u32]) -> Self {
         let s = split(words);
         let p = Parameters::read(&s[0]);
-        let widths = [
-            p.n,
-            p.r * p.kappa * p.t1,
-            p.cells() * p.t2,
-            p.cells() * p.t1,
-        ];
+        let widths = [p.n, p.r * p.kappa * p.t1, p.cells() * p.t2, p.cells() * p.t1];
         Job {
             parameters: p,
             constant: constraints(&p, &s[1], &s[2]),

@@ -6,10 +6,7 @@ use proc_macro::{Delimiter, Group, TokenStream, TokenTree};
 #[proc_macro_derive(Error, attributes(error, from))]
 pub fn derive_error(input: TokenStream) -> TokenStream {
     let tokens: Vec<TokenTree> = input.into_iter().collect();
-    let at = tokens
-        .iter()
-        .position(|t| t.to_string() == "enum")
-        .expect("an enum");
+    let at = tokens.iter().position(|t| t.to_string() == "enum").expect("an enum");
     let name = tokens[at + 1].to_string();
     let TokenTree::Group(variants) = &tokens[at + 2] else {
         panic!("an enum with no parameters");
