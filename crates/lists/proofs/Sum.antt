@@ -1,6 +1,6 @@
 -- Laws of finite sums of natural numbers.
 use mathlib.Core.Path.{_≡_, refl, sym, ap, ap₂, _∙_}
-use Prim.Native.Nat.{ℕ, zero, suc, _+_, _-_, _*_, _%_, _≤_, _<_}
+use Prim.Native.Nat.{ℕ, zero, suc, _+_, _-_, _*_, _/_, _%_, _≤_, _<_}
 use native.Mathlib.Nat.{add-zero, add-suc, add-comm, add-assoc, add-sub-of-le, zero-mul, mul-zero, le-refl, add-mod-mod, mod-add-mod}
 use native.Mathlib.Numerals.{add-one}
 use native.Mathlib.Omega.{arith}
@@ -28,6 +28,16 @@ pub Σ-const : (n c : ℕ) → Σ n (λ i. c) ≡ n * c
 unfolding Σ
 Σ-const zero c = sym (zero-mul c)
 Σ-const (suc n) c = ap (λ s. s + c) (Σ-const n c) ∙ omega arith
+
+-- twice 1 + 2 + … + n
+twice-triangle : (n : ℕ) → 2 * Σ n (λ i. i + 1) ≡ n * (n + 1)
+unfolding Σ
+twice-triangle zero = refl
+twice-triangle (suc n) = omega (arith, twice-triangle n)
+
+-- 1 + 2 + … + n
+pub Σ-triangle : (n : ℕ) → Σ n (λ i. i + 1) ≡ n * (n + 1) / 2
+Σ-triangle n = omega (arith, twice-triangle n)
 
 -- a sum of sums
 pub Σ-add : (n : ℕ) (f g : ℕ → ℕ) → Σ n (λ i. f i + g i) ≡ Σ n f + Σ n g
@@ -95,6 +105,10 @@ pub Σ-mono : (m n : ℕ) (f : ℕ → ℕ) → m ≤ n → Σ m f ≤ Σ n f
 -- one term is at most the sum
 pub Σ-term : (n : ℕ) (f : ℕ → ℕ) (i : ℕ) → i < n → f i ≤ Σ n f
 Σ-term n f i h = omega (arith, Σ-suc i f, Σ-mono (i + 1) n f (omega arith))
+
+-- a place within term i, counted from the first term on, is below the sum
+pub Σ-within : (n : ℕ) (f : ℕ → ℕ) (i j : ℕ) → i < n → j < f i → Σ i f + j < Σ n f
+Σ-within n f i j h l = omega (arith, Σ-suc i f, Σ-mono (i + 1) n f (omega arith))
 
 -- terms reduced modulo q leave the sum the same modulo q
 pub Σ-mod : (n q : ℕ) (f : ℕ → ℕ) → Σ n (λ i. f i % q) % q ≡ Σ n f % q

@@ -66,7 +66,7 @@ impl Zq {
         ensures { λ r. ⌜ r ≡ centre (self .0) ⌝ }
     {
         let value = self.0 as i64;
-        if 2147483647 < self.0 {
+        if self.is_larger_than_half() {
             value - 4294967295
         } else {
             value
@@ -77,7 +77,7 @@ impl Zq {
     pub fn size(self) -> u32
         ensures { λ r. ⌜ r ≡ size (self .0) ⌝ }
     {
-        if 2147483647 < self.0 {
+        if self.is_larger_than_half() {
             Zq::Q - self.0
         } else {
             self.0

@@ -1,8 +1,8 @@
 -- `Zq::centered_mod` meets its contract.
-use borrow.Author.Needs.{needs}
-use borrow.Author.Tests.{lt-ltb, le-ltb}
-use native.Mathlib.Omega.{arith}
+use mathlib.Core.Path.{sym, _∙_}
 use Prim.Native.Nat.{_<_, _^_}
+use native.Mathlib.Omega.{arith}
+use borrow.Author.Needs.{needs}
 use mir.Syntax.{w64}
 use mir.ValLaws.{toZ-ofZ}
 use Rattle.zq.proofs.Signed.{toZ-word, less-fits}
@@ -19,13 +19,13 @@ returns : tie.Need-returns
 returns c =
     let a = c .before .before .before .args .self .0 in
     let h : a < 2 ^ 32 = omega arith in
-    rw (toZ-word a h, toZ-ofZ w64 _ (less-fits a h)) (simp (lt-ltb _ _ (c .if1 .taken)))
+    rw (toZ-word a h, toZ-ofZ w64 _ (less-fits a h)) (simp (sym (c .before .is-larger-than-half .ensures) ∙ c .if1 .taken))
 
 returns-2 : tie.Need-returns-2
 returns-2 c =
     let a = c .before .before .before .args .self .0 in
     let h : a < 2 ^ 32 = omega arith in
-    rw (toZ-word a h) (simp (le-ltb _ _ (c .if1 .left)))
+    rw (toZ-word a h) (simp (sym (c .before .is-larger-than-half .ensures) ∙ c .if1 .left))
 
 pub centered-mod-spec : {M : Type 1} → statement M
-centered-mod-spec = tie.close (tie.spec (λ c. search needs) sub-result returns returns-2)
+centered-mod-spec = tie.close (tie.spec (λ c. search needs) (λ c κs. search needs) sub-result returns returns-2)

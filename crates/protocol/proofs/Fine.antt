@@ -1,0 +1,57 @@
+-- When an answer is fine.
+use mathlib.Core.Path.{_≡_, refl, ap, _∙_}
+use mathlib.Core.List.{List, [], _∷_}
+use Prim.Native.Nat.{ℕ, suc, _+_, _<_}
+use native.Mathlib.Omega.{arith}
+use borrow.Author.Tests.{lt-ltb}
+use lib.ListN.{length, getD}
+use Rattle.definitions.specs.Answer.{Answer, fine, refused, failed, below, _then_}
+use Rattle.protocol.specs.Checks.{require}
+
+-- a fact that holds is not complained of
+pub require-holds {ℓ} : {A : Type ℓ} (d : Dec A) (answer : Answer) → A → require d answer ≡ fine
+require-holds (yes a) answer h = refl
+require-holds (no n) answer h = absurd (n h)
+
+-- a fact whose test is fine holds, where the answer given is not fine
+pub required {ℓ} : {A : Type ℓ} (d : Dec A) (answer : Answer) → (answer ≡ fine → ⊥) → require d answer ≡ fine → A
+required (yes a) answer bad e = a
+required (no n) answer bad e = absurd (bad e)
+
+-- a refusal is not fine
+pub refused-not-fine : (number place : ℕ) → refused number place ≡ fine → ⊥
+refused-not-fine number place e = let z : _≡_ {A = ℕ} 0 1 = cc in omega arith
+
+-- a failed check is not fine
+pub failed-not-fine : (number : ℕ) (values : List ℕ) → failed number values ≡ fine → ⊥
+failed-not-fine number values e = let z : _≡_ {A = ℕ} 0 1 = cc in omega arith
+
+-- two fine answers
+pub then-both-fine : {a b : Answer} → a ≡ fine → b ≡ fine → a then b ≡ fine
+then-both-fine {b = b} e f = ap (λ x. x then b) e ∙ f
+
+-- the first of two answers that are fine together
+pub then-fine-left : (a b : Answer) → a then b ≡ fine → a ≡ fine
+then-fine-left fine b e = refl
+then-fine-left (refused n p) b e = e
+then-fine-left (failed n vs) b e = e
+
+-- the second of two answers that are fine together
+pub then-fine-right : (a b : Answer) → a then b ≡ fine → b ≡ fine
+then-fine-right fine b e = e
+then-fine-right (refused n p) b e = absurd (refused-not-fine n p e)
+then-fine-right (failed n vs) b e = absurd (failed-not-fine n vs e)
+
+-- five answers that are fine together
+pub then-fine-each : (a b c d e : Answer) → a then b then c then d then e ≡ fine → (a ≡ fine) × (b ≡ fine) × (c ≡ fine) × (d ≡ fine) × (e ≡ fine)
+then-fine-each a b c d e h =
+    let four : a then b then c then d ≡ fine = then-fine-left (a then b then c then d) e h in
+    let three : a then b then c ≡ fine = then-fine-left (a then b then c) d four in
+    let two : a then b ≡ fine = then-fine-left (a then b) c three in
+    (then-fine-left a b two, then-fine-right a b two, then-fine-right (a then b) c three, then-fine-right (a then b then c) d four, then-fine-right (a then b then c then d) e h)
+
+-- words below a limit are in range
+pub below-fine : (limit number place : ℕ) (ws : List ℕ) → ((k : ℕ) → k < length ws → getD ws k 0 < limit) → below limit number place ws ≡ fine
+unfolding below
+below-fine limit number place [] h = refl
+below-fine limit number place (w ∷ ws) h = rw (lt-ltb w limit (h 0 (omega arith))) (below-fine limit number (place + 1) ws (λ k l. h (suc k) (omega arith)))
