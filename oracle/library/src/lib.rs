@@ -178,9 +178,11 @@ pub fn leaf(leaf: Leaf, w: &[u32]) -> Option<LeafAnswer> {
                 (a.number, a.place, norm_words(norm))
             }
             Leaf::RqDigits => {
-                // words that the call must overwrite
-                let mut rows = vec![0xc0de_c0de; 32 * 64];
-                let a = labrador_rq_digits(w[0], w[1], at(2), rows.as_mut_ptr(), rows.len());
+                // words that the call must overwrite, and some behind them that it must not
+                let mut rows = vec![0xc0de_c0de; 32 * 64 + 16];
+                let a = labrador_rq_digits(w[0], w[1], at(2), rows.as_mut_ptr(), 32 * 64);
+                let guard = rows.split_off(32 * 64);
+                assert_eq!(guard, [0xc0de_c0de; 16], "words behind the lent rows");
                 (a.number, a.place, rows)
             }
         }
