@@ -9,13 +9,12 @@ use labrador::transcript::sponges::shake::{Playback, Tape};
 use labrador::transcript::LabradorTranscript;
 use library::leaf_calls::*;
 use model::refusals::output_need;
-use model::words::Parameters;
+use model::words::{join, Parameters};
 use model::Call;
 use std::hint::black_box;
 
 pub struct Kernel {
-    pub name: &'static str,
-    /// Calls in a batch, and batches in a round of timing.
+    /// Calls in a batch, and rounds of timing.
     pub calls: usize,
     pub rounds: usize,
     pub ours: Box<dyn FnMut()>,
@@ -43,13 +42,8 @@ fn all(elements: &[Element]) -> Vec<Rq> {
     elements.iter().map(of).collect()
 }
 
-fn leaf(
-    name: &'static str,
-    ours: impl FnMut() + 'static,
-    theirs: impl FnMut() + 'static,
-) -> Kernel {
+fn leaf(ours: impl FnMut() + 'static, theirs: impl FnMut() + 'static) -> Kernel {
     Kernel {
-        name,
         calls: BATCH,
         rounds: 2000,
         ours: Box::new(ours),
@@ -62,7 +56,6 @@ fn product(random: &mut Random) -> Kernel {
     let (a, b) = (elements(random), elements(random));
     let (x, y) = (all(&a), all(&b));
     leaf(
-        "element product",
         move || {
             for (a, b) in a.iter().zip(&b) {
                 black_box(unsafe { labrador_rq_mul(*black_box(a), *b) });
@@ -82,7 +75,6 @@ fn multiply_add(random: &mut Random) -> Kernel {
     let x = all(&a);
     let y: Vec<Zq> = numbers.iter().map(|&c| Zq::new(c)).collect();
     leaf(
-        "product with a number, added to an accumulator",
         move || {
             let mut sum = Element { coeffs: [0; 64] };
             for (a, c) in a.iter().zip(&numbers) {
@@ -102,17 +94,14 @@ fn multiply_add(random: &mut Random) -> Kernel {
     )
 }
 
-fn digits(random: &mut Random, name: &'static str, base: u32, parts: u32) -> Kernel {
+fn digits(random: &mut Random, base: u32, parts: u32) -> Kernel {
     let a = elements(random);
     let x = all(&a);
     let mut rows = vec![0; 32 * 64];
     leaf(
-        name,
         move || {
             for a in &a {
-                let answer = unsafe {
-                    labrador_rq_digits(base, parts, *black_box(a), rows.as_mut_ptr(), rows.len())
-                };
+                let answer = unsafe { labrador_rq_digits(base, parts, *black_box(a), rows.as_mut_ptr(), rows.len()) };
                 black_box((answer.number, &rows));
             }
         },
@@ -136,7 +125,6 @@ fn challenge(random: &mut Random) -> Kernel {
         .collect();
     let tape = Tape::new(vec![], signs, shuffles);
     let kernel = leaf(
-        "challenge",
         move || {
             for words in &words {
                 black_box(unsafe { labrador_challenge(*black_box(words)) });
@@ -155,11 +143,8 @@ fn challenge(random: &mut Random) -> Kernel {
     }
 }
 
-/// The whole calls on a statement that is met; none where the library lacks them.
-fn whole(random: &mut Random, names: [&'static str; 2], n: usize, r: usize) -> Vec<Kernel> {
-    if !library::HAS_WHOLE_CALLS {
-        return vec![];
-    }
+/// A whole call on a statement that is met.
+fn whole(random: &mut Random, call: Call, n: usize, r: usize) -> Kernel {
     let p = Parameters {
         n,
         r,
@@ -178,75 +163,67 @@ fn whole(random: &mut Random, names: [&'static str; 2], n: usize, r: usize) -> V
     };
     let instance = Instance::random(random, p, Size::Bits(8));
     let (job, randomness) = (instance.job_words(), instance.randomness_words());
+    let rust_job = rust::Job::new(&job);
     let witness = instance.witness_words();
-    let transcript = {
-        let sections = rust::prove(&rust::Job::new(&job), &randomness, &witness).1;
-        model::words::join(&sections)
+    let third = match call {
+        Call::Verify => join(&rust::prove(&rust_job, &randomness, &witness).1),
+        _ => witness,
     };
-    [(Call::Prove, witness), (Call::Verify, transcript)]
-        .into_iter()
-        .zip(names)
-        .map(|((call, third), name)| {
-            let rust_job = rust::Job::new(&job);
-            let (job, ours_randomness, randomness) =
-                (job.clone(), randomness.clone(), randomness.clone());
-            let mut scratch = vec![0; p.scratch_need()];
-            let mut output = vec![0; output_need(&p, call)];
-            let theirs: Box<dyn FnMut()> = match call {
-                Call::Verify => {
-                    let proof = rust::proof(&rust_job, &third);
-                    Box::new(move || {
-                        assert!(rust::run_verifier(&rust_job, black_box(&proof)).is_ok())
-                    })
-                }
-                _ => {
-                    let witness = rust::witness(&rust_job, &third);
-                    Box::new(move || {
-                        assert!(rust::run_prover(&rust_job, black_box(&witness)).is_ok())
-                    })
-                }
+    let theirs: Box<dyn FnMut()> = match call {
+        Call::Verify => {
+            let proof = rust::proof(&rust_job, &third);
+            Box::new(move || assert!(rust::run_verifier(&rust_job, black_box(&proof)).is_ok()))
+        }
+        _ => {
+            let witness = rust::witness(&rust_job, &third);
+            Box::new(move || assert!(rust::run_prover(&rust_job, black_box(&witness)).is_ok()))
+        }
+    };
+    let loaded = randomness.clone();
+    let mut scratch = vec![0; p.scratch_need()];
+    let mut output = vec![0; output_need(&p, call)];
+    Kernel {
+        calls: 1,
+        rounds: 30,
+        ours: Box::new(move || {
+            let handed = library::Handed {
+                job: &job,
+                randomness: &randomness,
+                third: black_box(&third),
+                scratch: &mut scratch,
+                output: &mut output,
             };
-            Kernel {
-                name,
-                calls: 1,
-                rounds: 30,
-                ours: Box::new(move || {
-                    let handed = library::Handed {
-                        job: &job,
-                        randomness: &ours_randomness,
-                        third: black_box(&third),
-                        scratch: &mut scratch,
-                        output: &mut output,
-                    };
-                    assert!(library::whole(call, handed).is_some_and(|answer| answer.is_fine()));
-                }),
-                prepare: Box::new(move || rust::load(&randomness)),
-                theirs,
-            }
-        })
-        .collect()
+            assert!(library::whole(call, handed).is_some_and(|answer| answer.is_fine()));
+        }),
+        prepare: Box::new(move || rust::load(&loaded)),
+        theirs,
+    }
 }
 
-pub fn kernels() -> Vec<Kernel> {
-    let random = &mut Random::new(1);
-    let mut kernels = vec![
-        product(random),
-        multiply_add(random),
-        digits(random, "digits of an element, base 16, 8 parts", 16, 8),
-        digits(
-            random,
-            "digits of an element, base 65536, 2 parts",
-            65536,
-            2,
-        ),
-        challenge(random),
+/// A kernel's name and how its inputs are made.
+pub type Entry = (&'static str, fn(&mut Random) -> Kernel);
+
+/// Every kernel; the calls on whole slices where the library has them.
+pub fn kernels() -> Vec<Entry> {
+    let mut all: Vec<Entry> = vec![
+        ("element product", product),
+        ("product with a number, added to an accumulator", multiply_add),
+        ("digits of an element, base 16, 8 parts", |random| digits(random, 16, 8)),
+        ("digits of an element, base 65536, 2 parts", |random| {
+            digits(random, 65536, 2)
+        }),
+        ("challenge", challenge),
     ];
-    kernels.extend(whole(random, ["prove, n 4, r 2", "verify, n 4, r 2"], 4, 2));
-    kernels.extend(whole(
-        random,
-        ["prove, n 16, r 4", "verify, n 16, r 4"],
-        16,
-        4,
-    ));
-    kernels
+    if library::HAS_WHOLE_CALLS {
+        all.extend([
+            (
+                "prove, n 4, r 2",
+                (|random| whole(random, Call::Prove, 4, 2)) as fn(&mut Random) -> Kernel,
+            ),
+            ("verify, n 4, r 2", |random| whole(random, Call::Verify, 4, 2)),
+            ("prove, n 16, r 4", |random| whole(random, Call::Prove, 16, 4)),
+            ("verify, n 16, r 4", |random| whole(random, Call::Verify, 16, 4)),
+        ]);
+    }
+    all
 }

@@ -14,9 +14,7 @@ fn main() {
     let words: Vec<&str> = words.iter().map(String::as_str).collect();
     match words[..] {
         [] => table::print(),
-        ["count", kernel, side, batches] => {
-            table::run_batches(kernel, side, batches.parse().expect("a number"))
-        }
+        ["count", kernel, side, batches] => table::run_batches(kernel, side, batches.parse().expect("a number")),
         _ => panic!("usage: bench [count KERNEL SIDE BATCHES]"),
     }
 }

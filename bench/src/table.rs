@@ -1,6 +1,7 @@
 //! The measurements and their table.
 
 use crate::kernels::{kernels, Kernel};
+use harness::random::Random;
 use std::process::Command;
 use std::time::Instant;
 
@@ -22,8 +23,9 @@ fn time(kernel: &mut Kernel) -> (f64, f64) {
 
 /// Runs batches of one side.
 pub fn run_batches(name: &str, side: &str, batches: usize) {
-    let mut all = kernels();
-    let kernel = all.iter_mut().find(|k| k.name == name).expect("a kernel");
+    let all = kernels();
+    let (_, make) = all.iter().find(|entry| entry.0 == name).expect("a kernel");
+    let mut kernel = make(&mut Random::new(1));
     for _ in 0..batches {
         if side == "ours" {
             (kernel.ours)();
@@ -49,32 +51,22 @@ fn collected(name: &str, side: &str, batches: usize) -> Option<u64> {
 }
 
 /// The instructions of a call: what further batches add.
-fn instructions(kernel: &Kernel, side: &str) -> Option<f64> {
-    let (few, many) = if kernel.calls == 1 { (1, 2) } else { (4, 12) };
-    let more =
-        collected(kernel.name, side, many)?.checked_sub(collected(kernel.name, side, few)?)?;
-    Some(more as f64 / ((many - few) * kernel.calls) as f64)
+fn instructions(name: &str, calls: usize, side: &str) -> Option<f64> {
+    let (few, many) = if calls == 1 { (1, 2) } else { (4, 12) };
+    let more = collected(name, side, many)?.checked_sub(collected(name, side, few)?)?;
+    Some(more as f64 / ((many - few) * calls) as f64)
 }
 
 pub fn print() {
-    println!(
-        "| call | ours, ns | Rust, ns | ratio | ours, instructions | Rust, instructions | ratio |"
-    );
+    println!("| call | ours, ns | Rust, ns | ratio | ours, instructions | Rust, instructions | ratio |");
     println!("|---|---:|---:|---:|---:|---:|---:|");
-    for mut kernel in kernels() {
+    for (name, make) in kernels() {
+        let mut kernel = make(&mut Random::new(1));
         let (ours, theirs) = time(&mut kernel);
-        print!(
-            "| {} | {ours:.0} | {theirs:.0} | {:.2} |",
-            kernel.name,
-            ours / theirs
-        );
-        match (
-            instructions(&kernel, "ours"),
-            instructions(&kernel, "theirs"),
-        ) {
-            (Some(ours), Some(theirs)) => {
-                println!(" {ours:.0} | {theirs:.0} | {:.2} |", ours / theirs)
-            }
+        print!("| {name} | {ours:.0} | {theirs:.0} | {:.2} |", ours / theirs);
+        let count = |side: &str| instructions(name, kernel.calls, side);
+        match (count("ours"), count("theirs")) {
+            (Some(ours), Some(theirs)) => println!(" {ours:.0} | {theirs:.0} | {:.2} |", ours / theirs),
             _ => println!(" not counted | not counted | |"),
         }
     }
