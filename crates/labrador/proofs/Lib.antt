@@ -1,5 +1,3 @@
-mod Scan
 mod Result
-mod Limits
-mod Store
 mod Owned
+pub mod Rows

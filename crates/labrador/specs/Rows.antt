@@ -1,10 +1,11 @@
 -- The digits of an element as rows and as words of a lent slice.
 use mathlib.Core.Bool.{cond}
-use mathlib.Core.List.{List, [], _++_}
+use mathlib.Core.List.{List, []}
 use Prim.Native.Nat.{ℕ}
 use lib.Dec.{ltb}
-use lib.ListN.{length, getD, drop, replicate}
+use lib.ListN.{length, getD, replicate}
 use Rattle.lists.specs.Table.{cat}
+use Rattle.lists.specs.Part.{splice}
 use Rattle.definitions.specs.Answer.{Answer, fine, refused, result, _then_}
 use Rattle.definitions.specs.Rq.{rzero, digitRows}
 use Rattle.definitions.specs.Leaf.{digitOperands}
@@ -27,4 +28,4 @@ wordsFound base parts a n = digitOperands base parts a then roomFor2048 n
 
 -- the slice at the end: its first 2048 words are the rows', and those beyond are as they were; one that is too short is as it was
 abbrev pub wordsWritten : (base parts : ℕ) → List ℕ → List ℕ → List ℕ
-wordsWritten base parts a out = cond (ltb (length out) 2048) out (rowWords (rowsOrZero base parts a) ++ drop 2048 out)
+wordsWritten base parts a out = cond (ltb (length out) 2048) out (splice out 0 (rowWords (rowsOrZero base parts a)))

@@ -1,15 +1,14 @@
 // The digits of an element: 32 rows of 64, rows past the parts zero, and all zero where the operands are refused.
 use crate::answers;
 use crate::answers::Status;
-use crate::operands;
 use definitions::answers::Operands;
+use operands::leaf;
 use rq::digits;
 use rq::rq::Rq;
 ghost use mathlib.Core.Path.{_≡_};
-ghost use mathlib.Core.List.{_++_};
-ghost use Prim.Native.Nat.{_+_, _≤_};
-ghost use lib.ListN.{length, drop};
-ghost use lib.Seq.{paste};
+ghost use Prim.Native.Nat.{_≤_};
+ghost use lib.ListN.{length};
+ghost use Rattle.lists.specs.Part.{splice};
 ghost use Rattle.definitions.specs.Answer.{ofOperands};
 ghost use Rattle.definitions.specs.Leaf.{digitOperands};
 ghost use Rattle.labrador.specs.Answers.{statusOf};
@@ -19,8 +18,8 @@ ghost use Rattle.labrador.specs.Rows.{rowsOrZero, rowWords, wordsFound, 
 pub fn rq_digit_operands(base: u32, parts: u32, a: Rq) -> Operands
     ensures { λ r. ⌜ ofOperands r ≡ digitOperands base parts (a .coeffs) ⌝ }
 {
-    let words = a.coeffs;
-    operands::digit_operands(base, parts, &words)
+    let coeffs = a.coeffs;
+    leaf::digit_operands(base, parts, &coeffs)
 }
 
 // The rows by value. `rq_digit_operands` tells a refusal.
@@ -35,24 +34,14 @@ pub fn rq_digit_rows(base: u32, parts: u32, a: Rq) -> [[u32; 64]; 32]
     }
 }
 
-// Stores a row at a place.
-fn store_row(row: [u32; 64], out: &mut [u32], at: usize)
-    requires { ⌜ at + 64 ≤ length (now out) ⌝ }
-    ensures { λ _. ⌜ now (out .exit) ≡ paste (now (out .entry)) at row 64 ⌝ }
-{
-    for j in 0..64 {
-        out[at + j] = row[j];
-    }
-}
-
 // Stores the rows one after the other.
 fn store_rows(rows: [[u32; 64]; 32], out: &mut [u32])
     requires { ⌜ 2048 ≤ length (now out) ⌝ }
-    ensures { λ _. ⌜ now (out .exit) ≡ rowWords rows ++ drop 2048 (now (out .entry)) ⌝ }
+    ensures { λ _. ⌜ now (out .exit) ≡ splice (now (out .entry)) 0 (rowWords rows) ⌝ }
 {
     for k in 0..32 {
         let row = rows[k];
-        store_row(row, out, 64 * k);
+        words::store(out, 64 * k, Rq { coeffs: row });
     }
 }
 

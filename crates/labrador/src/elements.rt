@@ -2,7 +2,8 @@
 use crate::answers;
 use crate::answers::ElementAnswer;
 use crate::answers::NormAnswer;
-use crate::operands;
+use operands::leaf;
+use operands::scan;
 use rq::rq::Rq;
 use transcript::challenge;
 use zq::zq::Zq;
@@ -19,7 +20,7 @@ ghost use Rattle.labrador.specs.Answers.{elementAnswer, normAnswer, chal
 pub extern "C" fn labrador_rq_add(a: Rq, b: Rq) -> ElementAnswer
     ensures { λ r. ⌜ r ≡ elementAnswer (canonicalWords (a .coeffs ++ b .coeffs)) (radd (a .coeffs) (b .coeffs)) ⌝ }
 {
-    answers::element_of(operands::elements(a, b), a.add(b))
+    answers::element_of(leaf::elements(a, b), a.add(b))
 }
 
 // The difference of two elements.
@@ -27,7 +28,7 @@ pub extern "C" fn labrador_rq_add(a: Rq, b: Rq) -> ElementAnswer
 pub extern "C" fn labrador_rq_sub(a: Rq, b: Rq) -> ElementAnswer
     ensures { λ r. ⌜ r ≡ elementAnswer (canonicalWords (a .coeffs ++ b .coeffs)) (rsub (a .coeffs) (b .coeffs)) ⌝ }
 {
-    answers::element_of(operands::elements(a, b), a.sub(b))
+    answers::element_of(leaf::elements(a, b), a.sub(b))
 }
 
 // The product of two elements.
@@ -35,7 +36,7 @@ pub extern "C" fn labrador_rq_sub(a: Rq, b: Rq) -> ElementAnswer
 pub extern "C" fn labrador_rq_mul(a: Rq, b: Rq) -> ElementAnswer
     ensures { λ r. ⌜ r ≡ elementAnswer (canonicalWords (a .coeffs ++ b .coeffs)) (rmul (a .coeffs) (b .coeffs)) ⌝ }
 {
-    answers::element_of(operands::elements(a, b), a.mul(b))
+    answers::element_of(leaf::elements(a, b), a.mul(b))
 }
 
 // The product of an element with a number.
@@ -43,7 +44,7 @@ pub extern "C" fn labrador_rq_mul(a: Rq, b: Rq) -> ElementAnswer
 pub extern "C" fn labrador_rq_scale(a: Rq, c: u32) -> ElementAnswer
     ensures { λ r. ⌜ r ≡ elementAnswer (canonicalWords (a .coeffs ++ (c ∷ []))) (rscale (a .coeffs) c) ⌝ }
 {
-    answers::element_of(operands::element_and_number(a, c), a.scale(Zq(c)))
+    answers::element_of(leaf::element_and_number(a, c), a.scale(Zq(c)))
 }
 
 // The conjugate of an element.
@@ -51,7 +52,7 @@ pub extern "C" fn labrador_rq_scale(a: Rq, c: u32) -> ElementAnswer
 pub extern "C" fn labrador_rq_conj(a: Rq) -> ElementAnswer
     ensures { λ r. ⌜ r ≡ elementAnswer (canonicalWords (a .coeffs)) (rconj (a .coeffs)) ⌝ }
 {
-    answers::element_of(operands::element(a), a.conjugate_automorphism())
+    answers::element_of(leaf::element(a), a.conjugate_automorphism())
 }
 
 // The squared norm of an element.
@@ -59,7 +60,7 @@ pub extern "C" fn labrador_rq_conj(a: Rq) -> ElementAnswer
 pub extern "C" fn labrador_rq_norm(a: Rq) -> NormAnswer
     ensures { λ r. ⌜ r ≡ normAnswer (canonicalWords (a .coeffs)) (norm (a .coeffs)) ⌝ }
 {
-    answers::norm_of(operands::element(a), a.l2_norm_squared())
+    answers::norm_of(leaf::element(a), a.l2_norm_squared())
 }
 
 // 41 sign words, then 63 shuffle words.
@@ -76,7 +77,7 @@ fn challenge_of(words: &[u32]) -> ElementAnswer
     let signs = &words[..41];
     let shuffle = &words[41..];
     answers::element_of(
-        operands::sign_words(signs),
+        scan::sign_words(signs),
         challenge::sample_challenge(signs, shuffle),
     )
 }

@@ -3,4 +3,3 @@ pub mod answers;
 pub mod digits;
 pub mod elements;
 pub mod numbers;
-pub mod operands;

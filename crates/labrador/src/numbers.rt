@@ -3,7 +3,7 @@ use crate::answers;
 use crate::answers::CentreAnswer;
 use crate::answers::DigitsAnswer;
 use crate::answers::WordAnswer;
-use crate::operands;
+use operands::leaf;
 use transcript::projection;
 use zq::digits;
 use zq::zq::Zq;
@@ -20,7 +20,7 @@ ghost use Rattle.labrador.specs.Answers.{wordAnswer, centreAnswer, digit
 pub extern "C" fn labrador_zq_add(a: u32, b: u32) -> WordAnswer
     ensures { λ r. ⌜ r ≡ wordAnswer (canonicalWords (a ∷ b ∷ [])) (zadd a b) ⌝ }
 {
-    answers::word_of(operands::numbers(a, b), Zq(a).add(Zq(b)).0)
+    answers::word_of(leaf::numbers(a, b), Zq(a).add(Zq(b)).0)
 }
 
 // The difference of two numbers.
@@ -28,7 +28,7 @@ pub extern "C" fn labrador_zq_add(a: u32, b: u32) -> WordAnswer
 pub extern "C" fn labrador_zq_sub(a: u32, b: u32) -> WordAnswer
     ensures { λ r. ⌜ r ≡ wordAnswer (canonicalWords (a ∷ b ∷ [])) (zsub a b) ⌝ }
 {
-    answers::word_of(operands::numbers(a, b), Zq(a).sub(Zq(b)).0)
+    answers::word_of(leaf::numbers(a, b), Zq(a).sub(Zq(b)).0)
 }
 
 // The product of two numbers.
@@ -36,7 +36,7 @@ pub extern "C" fn labrador_zq_sub(a: u32, b: u32) -> WordAnswer
 pub extern "C" fn labrador_zq_mul(a: u32, b: u32) -> WordAnswer
     ensures { λ r. ⌜ r ≡ wordAnswer (canonicalWords (a ∷ b ∷ [])) (zmul a b) ⌝ }
 {
-    answers::word_of(operands::numbers(a, b), Zq(a).mul(Zq(b)).0)
+    answers::word_of(leaf::numbers(a, b), Zq(a).mul(Zq(b)).0)
 }
 
 // The negative of a number.
@@ -44,7 +44,7 @@ pub extern "C" fn labrador_zq_mul(a: u32, b: u32) -> WordAnswer
 pub extern "C" fn labrador_zq_neg(a: u32) -> WordAnswer
     ensures { λ r. ⌜ r ≡ wordAnswer (canonicalWords (a ∷ [])) (zneg a) ⌝ }
 {
-    answers::word_of(operands::number(a), Zq(a).neg().0)
+    answers::word_of(leaf::number(a), Zq(a).neg().0)
 }
 
 // The centre of a number.
@@ -52,7 +52,7 @@ pub extern "C" fn labrador_zq_neg(a: u32) -> WordAnswer
 pub extern "C" fn labrador_zq_centre(a: u32) -> CentreAnswer
     ensures { λ r. ⌜ r ≡ centreAnswer (canonicalWords (a ∷ [])) (centre a) ⌝ }
 {
-    answers::centre_of(operands::number(a), Zq(a).centered_mod())
+    answers::centre_of(leaf::number(a), Zq(a).centered_mod())
 }
 
 // The digits of a number in 32 places.
@@ -61,7 +61,7 @@ pub extern "C" fn labrador_zq_digits(base: u32, parts: u32, a: u32) -> DigitsAns
     ensures { λ r. ⌜ r ≡ digitsAnswer (digitOperands base parts (a ∷ [])) (digitPlaces base parts a) ⌝ }
 {
     let words = [a];
-    let s = answers::status_of(operands::digit_operands(base, parts, &words));
+    let s = answers::status_of(leaf::digit_operands(base, parts, &words));
     if s.number == 0 {
         DigitsAnswer {
             number: s.number,
@@ -82,5 +82,5 @@ pub extern "C" fn labrador_zq_digits(base: u32, parts: u32, a: u32) -> DigitsAns
 pub extern "C" fn labrador_projection_entry(word: u32) -> WordAnswer
     ensures { λ r. ⌜ r ≡ wordAnswer (canonicalWords (word ∷ [])) (entry word) ⌝ }
 {
-    answers::word_of(operands::number(word), projection::projection_entry(word).0)
+    answers::word_of(leaf::number(word), projection::projection_entry(word).0)
 }

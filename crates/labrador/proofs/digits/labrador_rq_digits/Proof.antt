@@ -1,15 +1,14 @@
 -- `labrador_rq_digits` meets its contract: the slice is too short and the operands fit, it is too short and they are refused, or there is room.
-use mathlib.Core.Path.{_≡_, refl, sym, _∙_, ap, ap₂}
+use mathlib.Core.Path.{_≡_, sym, _∙_, ap, ap₂}
 use mathlib.Core.Bool.{cond}
-use mathlib.Core.List.{List, _++_}
+use mathlib.Core.List.{List}
 use Prim.Native.Nat.{ℕ, _≤_, _<_}
 use native.Mathlib.Omega.{arith}
 use borrow.Author.Needs.{needs}
 use borrow.Author.Tests.{lt-ltb, le-ltb}
-use lib.ListN.{length, drop}
-use Rattle.definitions.specs.declared.answers.Operands.{Operands}
-use Rattle.definitions.specs.Answer.{Answer, fine, refused, _then_, ofOperands}
-use Rattle.labrador.specs.declared.answers.Status.{Status}
+use lib.ListN.{length}
+use Rattle.lists.specs.Part.{splice}
+use Rattle.definitions.specs.Answer.{fine, refused, _then_, ofOperands}
 use Rattle.labrador.specs.Answers.{statusOf}
 use Rattle.labrador.specs.Rows.{roomFor2048, rowsOrZero, rowWords, wordsWritten}
 use Rattle.labrador.proofs.Result.{is-fine, refused-first, then-fine}
@@ -25,15 +24,15 @@ roomy n h = ap (λ t. cond t (refused 2 2048) fine) (sym (le-ltb n 2048 h))
 
 -- a slice that is too short is not written
 unwritten : (base parts : ℕ) (a out : List ℕ) → length out < 2048 → out ≡ wordsWritten base parts a out
-unwritten base parts a out h = ap (λ t. cond t out (rowWords (rowsOrZero base parts a) ++ drop 2048 out)) (sym (lt-ltb (length out) 2048 h))
+unwritten base parts a out h = ap (λ t. cond t out (splice out 0 (rowWords (rowsOrZero base parts a)))) (sym (lt-ltb (length out) 2048 h))
 
 -- the rows of a roomy slice
 written : (base parts : ℕ) (a out last : List ℕ) (rows : List (List ℕ)) → 2048 ≤ length out → rows ≡ rowsOrZero base parts a
-    → last ≡ rowWords rows ++ drop 2048 out → last ≡ wordsWritten base parts a out
+    → last ≡ splice out 0 (rowWords rows) → last ≡ wordsWritten base parts a out
 written base parts a out last rows h r e =
     e
-    ∙ ap (λ l. rowWords l ++ drop 2048 out) r
-    ∙ ap (λ t. cond t out (rowWords (rowsOrZero base parts a) ++ drop 2048 out)) (sym (le-ltb (length out) 2048 h))
+    ∙ ap (λ l. splice out 0 (rowWords l)) r
+    ∙ ap (λ t. cond t out (splice out 0 (rowWords (rowsOrZero base parts a)))) (sym (le-ltb (length out) 2048 h))
 
 returns : tie.Need-returns
 returns c =

@@ -1,12 +1,12 @@
 -- `rq_digit_rows` meets its contract.
-use mathlib.Core.Path.{_≡_, sym, _∙_, ap}
+use mathlib.Core.Path.{sym, _∙_, ap}
 use lib.ListN.{replicate}
 use borrow.Author.Needs.{needs}
 use Rattle.lists.specs.Table.{table}
 use Rattle.definitions.specs.Answer.{result}
 use Rattle.definitions.specs.Rq.{rzero, digitRows}
 use Rattle.labrador.proofs.Result.{is-fine, kept, dropped}
-use Rattle.labrador.proofs.Limits.{digit-limits}
+use Rattle.operands.proofs.Limits.{digit-limits}
 use Rattle.labrador.proofs.digits.rq_digit_rows.Statement.{statement}
 use Rattle.labrador.proofs.digits.rq_digit_rows.Tie as tie
 

@@ -11,7 +11,7 @@ use Rattle.labrador.specs.declared.answers.Status.{Status}
 use Rattle.labrador.specs.declared.answers.DigitsAnswer.{DigitsAnswer}
 use Rattle.labrador.specs.Answers.{statusOf, digitsAnswer}
 use Rattle.labrador.proofs.Result.{is-fine, kept, dropped}
-use Rattle.labrador.proofs.Limits.{digit-limits}
+use Rattle.operands.proofs.Limits.{digit-limits}
 use Rattle.labrador.proofs.numbers.labrador_zq_digits.Statement.{statement}
 use Rattle.labrador.proofs.numbers.labrador_zq_digits.Tie as tie
 
