@@ -15,7 +15,7 @@ const RADIX: u64 = 4294967296;
 fn canonical(word: u32) -> Zq
     ensures { λ r. ⌜ r .0 ≡ word % Q ⌝ }
 {
-    if word == 4294967295 { Zq(0) } else { Zq(word) }
+    if word == Zq::Q { Zq(0) } else { Zq(word) }
 }
 
 impl Zq {

@@ -29,7 +29,7 @@ unfolding sizesAfter sizeAfter
 sizes-next b a sizes next k e n =
     n ∙ rw (e, add-one k) (table-ext 64 _ _ (λ j h. ap (nextSize b) (getD-table 64 (λ j. sizeAfter b k (size (coeff a j))) j 0 h)))
 
--- what `digit_row` gives of the sizes after k digits is row k
+-- what `take_row` gives of the sizes after k digits is row k
 row-is : (b : ℕ) (a sizes row : List ℕ) (k : ℕ) → sizes ≡ sizesAfter b a k → row ≡ table 64 (λ j. digitOf b (coeff a j) (coeff sizes j))
     → row ≡ digitRow b a k
 unfolding sizesAfter digitOf digit digitRow
@@ -49,11 +49,12 @@ loop-holds c = (omega arith, sizes-first _ _ _ (c .sizes-of .ensures), padded-no
 
 loop-again : tie.Need-loop-again Inv-loop μ-loop
 loop-again c =
-    let l = c .before .before .before .loop in
+    let l = c .before .before .before .before .loop in
+    let taken = c .before .before .take-row .ensures in
     let at : l .k < 32 = omega arith in (
       omega arith,
-      sizes-next _ _ _ _ _ (l .inv .1) (c .next-sizes .ensures),
-      padded-next 32 rzero _ _ (l .k) _ (l .inv .2) at (row-is _ _ _ _ _ (l .inv .1) (c .before .digit-row .ensures)),
+      sizes-next _ _ _ _ _ (l .inv .1) (taken .1),
+      padded-next 32 rzero _ _ (l .k) _ (l .inv .2) at (row-is _ _ _ _ _ (l .inv .1) (taken .0)),
     )
 
 returns : tie.Need-returns Inv-loop μ-loop
@@ -75,7 +76,6 @@ decompose-spec =
     (λ c κs. omega arith)
     (λ c. omega arith)
     (λ c. omega arith)
-    (λ c κs. omega arith)
     (λ c. omega arith)
     (λ c. omega arith)
     loop-again
