@@ -1,6 +1,6 @@
 -- Laws of `cat`: its length, equal joins, and the elements of one list joined.
 use mathlib.Core.Path.{_≡_, refl, sym, ap, ap₂, _∙_}
-use mathlib.Core.List.{List, [], _∷_, _++_}
+use mathlib.Core.List.{List, _++_}
 use mathlib.Core.Logic.{_⊎_, inl, inr}
 use Prim.Native.Nat.{ℕ, zero, suc, _+_, _<_}
 use native.Mathlib.Nat.{not-suc-le-zero, eq-or-lt-of-le}
@@ -10,6 +10,7 @@ use lib.ListN.{length, getD, length-append, List·getD-append}
 use lib.Seq.{getD-append-add}
 use Rattle.lists.specs.Table.{table, cat}
 use Rattle.lists.specs.Sum.{Σ}
+use Rattle.lists.proofs.Additive.{additive-cat}
 use Rattle.lists.proofs.Table.{length-table, getD-table}
 use Rattle.lists.proofs.Sum.{Σ-ext, Σ-within}
 
@@ -27,9 +28,7 @@ module _ {ℓ} {A : Type ℓ} where
 
   -- the lengths add up
   pub length-cat : (n : ℕ) (f : ℕ → List A) → length (cat n f) ≡ Σ n (λ i. length (f i))
-  unfolding cat Σ
-  length-cat zero f = refl
-  length-cat (suc n) f = length-append (cat n f) (f n) ∙ ap (λ k. k + length (f n)) (length-cat n f)
+  length-cat = additive-cat length (record { empty = refl; joined = length-append })
 
   -- element j of list i stands after the elements of the lists before it
   pub getD-cat : (n : ℕ) (f : ℕ → List A) (i j : ℕ) (d : A) → i < n → j < length (f i) → getD (cat n f) (Σ i (λ k. length (f k)) + j) d ≡ getD (f i) j d

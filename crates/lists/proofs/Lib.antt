@@ -4,3 +4,4 @@ pub mod Sum
 pub mod Part
 pub mod Splice
 pub mod Cat
+pub mod Additive

@@ -1,4 +1,14 @@
 pub mod Agrees
+pub mod Checks
+pub mod Constraints
+pub mod PsiRows
 pub mod Fine
 pub mod Sections
 pub mod Flat
+pub mod Norms
+pub mod Relations
+pub mod ChecksAreConditions
+pub mod Corollary
+pub mod ReadBack
+pub mod Accepted
+pub mod Demand3
