@@ -5,3 +5,4 @@ pub mod Part
 pub mod Splice
 pub mod Cat
 pub mod Additive
+pub mod Fill

@@ -1,0 +1,2 @@
+// The projection (core/jl.rs).
+pub mod projection;
