@@ -1,0 +1,5 @@
+mod Scan
+mod Result
+mod Limits
+mod Store
+mod Owned
