@@ -23,11 +23,12 @@ loop-holds c = (omega arith, sizes-first _ _ _ (c .sizes-of .ensures), padded-no
 
 loop-again : tie.Need-loop-again Inv-loop μ-loop
 loop-again c =
-    let l = c .before .before .before .loop in
+    let l = c .before .before .before .before .loop in
+    let taken = c .before .before .take-row .ensures in
     let at : l .k < 32 = omega arith in (
       omega arith,
-      sizes-next _ _ _ _ _ (l .inv .1) (c .next-sizes .ensures),
-      padded-next 32 rzero _ _ (l .k) _ (l .inv .2) at (row-is _ _ _ _ _ (l .inv .1) (c .before .digit-row .ensures)),
+      sizes-next _ _ _ _ _ (l .inv .1) (taken .1),
+      padded-next 32 rzero _ _ (l .k) _ (l .inv .2) at (row-is _ _ _ _ _ (l .inv .1) (taken .0)),
     )
 
 returns : tie.Need-returns Inv-loop μ-loop
@@ -49,7 +50,6 @@ decompose-spec =
     (λ c κs. omega arith)
     (λ c. omega arith)
     (λ c. omega arith)
-    (λ c κs. omega arith)
     (λ c. omega arith)
     (λ c. omega arith)
     loop-again

@@ -1,0 +1,22 @@
+-- Elements of constraints that stand one constraint after the other, weighed by numbers or by elements.
+use mathlib.Core.List.{List}
+use Prim.Native.Nat.{ℕ, _+_, _*_, _≤_, _^_}
+use lib.ListN.{length, getD}
+use Rattle.algebra.specs.Ops.{sum, dot}
+use Rattle.definitions.specs.Rq.{Element}
+use Rattle.definitions.specs.Ring.{RqOps, scale}
+use Rattle.inner_product.specs.Run.{run}
+
+-- so many constraints of so many elements each lie within the slice
+pub record Grid (words : List ℕ) (at width count : ℕ) : Type 0 where
+  pub within : at + 64 * (width * count) ≤ length words
+  pub narrow : width ≤ 2 ^ 20
+  pub few : count ≤ 2 ^ 10
+
+-- element c of the constraints: x ↦ that of constraint x
+abbrev pub column : List ℕ → (at width c : ℕ) → ℕ → Element
+column words at width c = run words (at + 64 * c) (64 * width)
+
+-- element c weighed by the numbers of a row
+unfoldable pub weighed : List ℕ → (at width count : ℕ) → List ℕ → ℕ → ℕ → Element
+weighed words at width count numbers row c = sum RqOps count (λ x. scale (column words at width c x) (getD numbers (row + x) 0))
