@@ -20,3 +20,8 @@ column words at width c = run words (at + 64 * c) (64 * width)
 -- element c weighed by the numbers of a row
 unfoldable pub weighed : List ℕ → (at width count : ℕ) → List ℕ → ℕ → ℕ → Element
 weighed words at width count numbers row c = sum RqOps count (λ x. scale (column words at width c x) (getD numbers (row + x) 0))
+
+-- elements weighed by elements alpha, and others weighed by elements beta, together
+unfoldable pub mixed : List ℕ → (at step count : ℕ) → List ℕ → (alpha beta : ℕ) → List ℕ → (from pace number : ℕ) → Element
+mixed constraints at step count weights alpha beta aggregated from pace number =
+    RqOps .add (dot RqOps count (run weights alpha 64) (run constraints at step)) (dot RqOps number (run weights beta 64) (run aggregated from pace))
