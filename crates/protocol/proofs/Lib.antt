@@ -13,4 +13,4 @@ pub mod ReadBack
 pub mod Accepted
 pub mod Demand3
 pub mod Stored
-pub mod Holds
+pub mod Region
