@@ -4,4 +4,5 @@ pub mod Sum
 pub mod Part
 pub mod Splice
 pub mod Cat
+pub mod Prefix
 pub mod Additive

@@ -1,7 +1,8 @@
 // Elements and runs of words in lent slices. A slice is passed whole, with the place of what is read or written.
 use rq::rq::Rq;
 ghost use mathlib.Core.Path.{_≡_};
-ghost use Prim.Native.Nat.{_+_, _≤_};
+ghost use mathlib.Core.List.{_∷_};
+ghost use Prim.Native.Nat.{_+_, _≤_, _<_, _^_};
 ghost use lib.ListN.{length, replicate};
 ghost use Rattle.lists.specs.Part.{part, splice};
 
@@ -50,4 +51,13 @@ pub fn clear(words: &mut [u32], count: usize)
         words[k] = 0;
         k += 1;
     }
+}
+
+// A section: its count, then its words, `count` words of `from` from `start` on.
+pub fn put_section(to: &mut [u32], at: usize, from: &[u32], start: usize, count: usize)
+    requires { ⌜ (at + 1 + count ≤ length (now to)) × (start + count ≤ length (now from)) × (count < 2 ^ 32) ⌝ }
+    ensures { λ _. ⌜ now (to .exit) ≡ splice (now (to .entry)) at (count ∷ part (now (from .entry)) start count) ⌝ }
+{
+    to[at] = count as u32;
+    copy(to, at + 1, from, start, count);
 }
