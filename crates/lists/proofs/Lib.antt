@@ -6,3 +6,4 @@ pub mod Splice
 pub mod Cat
 pub mod Prefix
 pub mod Additive
+pub mod Fill

@@ -41,16 +41,24 @@ pub fn copy(to: &mut [u32], at: usize, from: &[u32], start: usize, count: usize)
     }
 }
 
+// `count` words from `at` on set to zero.
+pub fn clear_run(words: &mut [u32], at: usize, count: usize)
+    requires { ⌜ at + count ≤ length (now words) ⌝ }
+    ensures { λ _. ⌜ now (words .exit) ≡ splice (now (words .entry)) at (replicate count 0) ⌝ }
+{
+    let mut k = 0;
+    while k < count {
+        words[at + k] = 0;
+        k += 1;
+    }
+}
+
 // The first `count` words set to zero.
 pub fn clear(words: &mut [u32], count: usize)
     requires { ⌜ count ≤ length (now words) ⌝ }
     ensures { λ _. ⌜ now (words .exit) ≡ splice (now (words .entry)) 0 (replicate count 0) ⌝ }
 {
-    let mut k = 0;
-    while k < count {
-        words[k] = 0;
-        k += 1;
-    }
+    clear_run(words, 0, count)
 }
 
 // A section: its count, then its words, `count` words of `from` from `start` on.

@@ -1,28 +1,25 @@
--- `clear` meets its contract. The invariant: the first k words are zero.
+-- `clear_run` meets its contract. The invariant: the first k words are zero.
 use mathlib.Core.Path.{_≡_, refl, sym, _∙_, ap}
 use Prim.Native.Nat.{_+_, _-_, _≤_}
-use native.Mathlib.Nat.{zero-add}
 use native.Mathlib.Omega.{arith}
 use lib.ListN.{length, set, replicate, length-set}
 use Rattle.lists.specs.Part.{splice}
 use Rattle.lists.proofs.Splice.{splice-nil, splice-replicate-next}
-use Rattle.words.proofs.clear.Statement.{statement}
-use Rattle.words.proofs.clear.Tie as tie
+use Rattle.words.proofs.clear_run.Statement.{statement}
+use Rattle.words.proofs.clear_run.Tie as tie
 
 abbrev Inv-loop : tie.InvT-loop
-Inv-loop words₀ count k₀ words k = (k ≤ count) × (words ≡ splice words₀ 0 (replicate k 0)) × (length words ≡ length words₀)
+Inv-loop words₀ at count k₀ words k = (k ≤ count) × (words ≡ splice words₀ at (replicate k 0)) × (length words ≡ length words₀)
 
 abbrev μ-loop : tie.MeasureT-loop
-μ-loop words₀ count k₀ words k = count - k
+μ-loop words₀ at count k₀ words k = count - k
 
 loop-again : tie.Need-loop-again Inv-loop μ-loop
 loop-again c =
     let s = c .before .before .args in
     let l = c .before .loop in (
       omega arith,
-      ap (λ w. set w (l .k) 0) (l .inv .1)
-          ∙ ap (λ j. set (splice (s .words .now) 0 (replicate (l .k) 0)) j 0) (sym (zero-add (l .k)))
-          ∙ splice-replicate-next 0 (s .words .now) 0 (l .k),
+      ap (λ w. set w (s .at + l .k) 0) (l .inv .1) ∙ splice-replicate-next 0 (s .words .now) (s .at) (l .k),
       simp length-set (l .inv .2),
     )
 
@@ -31,15 +28,16 @@ returns c =
     let s = c .before .before .args in
     let l = c .before .loop in
     let n : l .k ≡ s .count = omega arith in
-    l .inv .1 ∙ ap (λ k. splice (s .words .now) 0 (replicate k 0)) n
+    l .inv .1 ∙ ap (λ k. splice (s .words .now) (s .at) (replicate k 0)) n
 
-pub clear-spec : {M : Type 1} → statement M
-clear-spec =
+pub clear-run-spec : {M : Type 1} → statement M
+clear-run-spec =
     tie.close
     (tie.spec
     Inv-loop
     μ-loop
     (λ c. (omega arith, sym (splice-nil _ _), refl))
+    (λ c. omega arith)
     (λ c. omega arith)
     (λ c. omega arith)
     (λ c. omega arith)
