@@ -4,20 +4,25 @@ use mathlib.Core.List.{List}
 use Prim.Native.Nat.{ℕ, _+_, _*_, _≤_, _<_}
 use native.Mathlib.Omega.{arith}
 use lib.ListN.{length, getD}
-use Rattle.lists.specs.Table.{table}
+use Rattle.lists.specs.Table.{table, cat}
 use Rattle.lists.specs.Part.{part, splice}
 use Rattle.algebra.specs.Ops as Ops
+use Rattle.algebra.proofs.Ring.{add-comm}
 use Rattle.algebra.proofs.Sum.{sum-ext}
 use Rattle.algebra.proofs.Dot.{dot-ext}
 use Rattle.definitions.specs.Rq.{Element}
 use Rattle.definitions.specs.Ring.{RqOps, element, scale}
+use Rattle.definitions.proofs.RqRing.{rq-ring}
 use Rattle.inner_product.specs.Run.{run}
+use Rattle.jl.specs.Omega.{omega-element}
+use Rattle.jl.proofs.Formula.{φ″-parts}
 use Rattle.protocol.specs.Parameters.{Parameters, parameters, T}
 use Rattle.protocol.specs.Layout.{start, job-sections, randomness-sections}
 use Rattle.protocol.specs.Views.{Public, public, element-at, cell}
 use Rattle.protocol.specs.Formulas.{flat, rows, sum, _⊕_, _⊗_, a″, φ″, a-sum, φ-sum, b-sum}
-use Rattle.protocol.proofs.Region.{Elements, Triangle, Vectors, elements-stored, elements-row, triangle-of, vectors-of}
-use Rattle.aggregate.specs.Weighed.{weighed, mixed}
+use Rattle.protocol.proofs.Flat.{length-rows, row-cell}
+use Rattle.protocol.proofs.Region.{elements-list, Elements, Triangle, Vectors, elements-stored, elements-row, triangle-of, vectors-of}
+use Rattle.aggregate.specs.Weighed.{weighed, both, mixed}
 
 -- the place of element c of constraint x, constraints having so many elements
 constraint-place : (at c width x : ℕ) → at + 64 * c + 64 * width * x ≡ at + 64 * (x * width + c)
@@ -73,6 +78,25 @@ module _ (J R : List ℕ) where
   psi-is k i m =
       sum-ext RqOps (P .l) (λ x. scale (run J (job-at J 1 + 64 * (i * P .n + m)) (64 * (P .r * P .n)) x) (getD R (randomness-at J 1 + k * P .l + x) 0)) (λ x. scale (X .φ′ x i m) (X .psi k x))
       (λ x h. ap₂ (λ place number. scale (element (part J place 64)) (getD R number 0)) (vector-place (job-at J 1) i m (P .r) (P .n) x) (number-place (randomness-at J 1) (P .l) k x))
+
+  -- element m of vector i of both parts of φ''
+  pub φ″-is : (k i m : ℕ) → both J (job-at J 1) (P .r) (P .n) (P .l) R (randomness-at J 0) (randomness-at J 1 + k * P .l) (randomness-at J 2 + k * 256) i m ≡ φ″ X k i m
+  unfolding both
+  φ″-is k i m =
+      ap (λ e. omega-element R (randomness-at J 0 + i * 256 * (64 * P .n)) (randomness-at J 2 + k * 256) (P .n) m ⊕ e) (psi-is k i m)
+      ∙ add-comm RqOps rq-ring (omega-element R (randomness-at J 0 + i * 256 * (64 * P .n)) (randomness-at J 2 + k * 256) (P .n) m) (sum (P .l) (λ x. scale (X .φ′ x i m) (X .psi k x)))
+      ∙ sym (φ″-parts J R i k m)
+
+  -- the vectors k of the region that `phi_double_prime` fills are φ''_k
+  pub φ″-stored : (S : List ℕ) (to : ℕ) → to + 64 * (P .L * (P .r * P .n)) ≤ length S → (k : ℕ) → k < P .L
+      → Vectors (splice S to (flat (cat (P .L) (λ k. rows (P .r) (P .n) (both J (job-at J 1) (P .r) (P .n) (P .l) R (randomness-at J 0) (randomness-at J 1 + k * P .l) (randomness-at J 2 + k * 256)))))) (to + 64 * (k * (P .r * P .n))) (P .r) (P .n) (φ″ X k)
+  φ″-stored S to h k l =
+      vectors-of (splice S to (flat (cat (P .L) (λ k. rows (P .r) (P .n) (B k))))) (to + 64 * (k * (P .r * P .n))) (P .r) (P .n) (λ m. getD (rows (P .r) (P .n) (B k)) m (B 0 0 0)) (φ″ X k)
+      (elements-list S to (P .L) (P .r * P .n) (λ k. rows (P .r) (P .n) (B k)) (λ k. length-rows (P .r) (B k) (P .n)) h (B 0 0 0) k l)
+      (λ i m p q. row-cell (P .r) (B k) (P .n) i m (B 0 0 0) p q ∙ φ″-is k i m)
+    where
+      B : ℕ → ℕ → ℕ → Element
+      B k = both J (job-at J 1) (P .r) (P .n) (P .l) R (randomness-at J 0) (randomness-at J 1 + k * P .l) (randomness-at J 2 + k * 256)
 
   -- triangle k of the region that `a_double_prime` fills is a''_k
   pub a″-stored : (S : List ℕ) (to : ℕ) → to + 64 * (P .L * T P) ≤ length S → (k : ℕ) → k < P .L

@@ -62,6 +62,10 @@ lists-next l before at m n f b k =
     ∙ splice-append l at (flat (cat m f)) (flat (f m))
     ∙ ap (splice l at) (sym (flat-append (cat m f) (f m)) ∙ ap flat (sym (cat-suc m f)))
 
+-- all lists of elements stored
+pub lists-all : (l after : List ℕ) (at m n : ℕ) (f : ℕ → List Element) → after ≡ splice l at (flat (cat m f)) → m ≡ n → after ≡ splice l at (flat (cat n f))
+lists-all l after at m n f b e = b ∙ ap (λ k. splice l at (flat (cat k f))) e
+
 -- nothing stored of rows of elements
 pub rows-none : (l : List ℕ) (at n : ℕ) (f : ℕ → ℕ → Element) → l ≡ splice l at (flat (rows 0 n f))
 unfolding rows
@@ -75,4 +79,5 @@ rows-next l before at m n f b = lists-next l before at m (m * n) (λ i. table n 
 
 -- all rows stored
 pub rows-all : (l after : List ℕ) (at m r n : ℕ) (f : ℕ → ℕ → Element) → after ≡ splice l at (flat (rows m n f)) → m ≡ r → after ≡ splice l at (flat (rows r n f))
-rows-all l after at m r n f b e = b ∙ ap (λ k. splice l at (flat (rows k n f))) e
+unfolding rows
+rows-all l after at m r n f b e = lists-all l after at m r (λ i. table n (f i)) b e
