@@ -19,4 +19,5 @@ pub mod Rounds
 pub mod Total
 pub mod Demand3
 pub mod Stored
+pub mod Region
 pub mod Examples

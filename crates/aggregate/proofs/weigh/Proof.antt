@@ -7,7 +7,7 @@ use Rattle.lists.specs.Table.{table}
 use Rattle.lists.specs.Part.{splice}
 use Rattle.lists.proofs.Splice.{length-splice}
 use Rattle.protocol.specs.Formulas.{flat}
-use Rattle.protocol.proofs.Stored.{stored-none, stored-next}
+use Rattle.protocol.proofs.Stored.{stored-none, stored-next, stored-all}
 use Rattle.aggregate.specs.Weighed.{weighed}
 use Rattle.aggregate.proofs.Grid.{grid-run}
 use Rattle.aggregate.proofs.weigh.Statement.{statement}
@@ -34,11 +34,7 @@ loop-again c =
     (omega arith, w, ap length w ∙ length-splice _ _ _)
 
 returns : tie.Need-returns Inv-loop μ-loop
-returns c =
-    let s = c .before .before .before .before .before .args in
-    let l = c .before .loop in
-    let n : l .c ≡ s .width = omega arith in
-    l .inv .1 ∙ ap (λ m. splice (s .out .now) (s .to) (flat (table m (weighed (s .job .now) (s .at) (s .width) (s .count) (s .numbers .now) (s .row))))) n
+returns c = stored-all _ _ _ _ _ _ (c .before .loop .inv .1) (omega arith)
 
 pub weigh-spec : {M : Type 1} → statement M
 weigh-spec =
