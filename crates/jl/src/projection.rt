@@ -11,17 +11,12 @@ ghost use Rattle.jl.specs.Run.{run-row, run, Within};
 // Q as a u64.
 const MODULUS: u64 = 4294967295;
 
-// The word, its negative or 0, as the projection word's entry is 1, −1 or 0.
+// The word, its negative or 0, as the projection word's entry is 1, −1 or 0. Q less a word is the word with each bit changed.
 pub fn term(code: u32, word: u32) -> u32
     ensures { λ r. ⌜ r ≡ term code word ⌝ }
 {
-    if code < 1073741824 {
-        4294967295 - word
-    } else if code < 2147483648 {
-        word
-    } else {
-        0
-    }
+    let mask = if code < 1073741824 { 4294967295 } else { 0 };
+    if code < 2147483648 { word ^ mask } else { 0 }
 }
 
 // The sum of `count` terms. Their lower and upper halves are summed in 32 bits.
