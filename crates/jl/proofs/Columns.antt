@@ -6,13 +6,12 @@ use Prim.Native.Nat.{ℕ, zero, suc, _+_, _-_, _*_, _%_, _≤_, _<_}
 use native.Mathlib.Nat.{add-zero}
 use native.Mathlib.Numerals.{add-one}
 use native.Mathlib.Omega.{arith}
-use lib.Dec.{ltb}
 use lib.ListN.{length, getD, replicate, length-replicate, getD-replicate}
 use Rattle.lists.specs.Sum.{Σ}
 use Rattle.lists.specs.Table.{table}
 use Rattle.lists.specs.Part.{part, splice}
 use Rattle.lists.proofs.Table.{length-table, getD-table, table-ext, is-table}
-use Rattle.lists.proofs.Splice.{length-splice, splice-again, length-part, getD-part, getD-splice-within, part-splice-after, part-splice-within}
+use Rattle.lists.proofs.Splice.{splice-again, length-part, getD-part, getD-splice-within, part-splice-after, part-splice-within}
 use Rattle.lists.proofs.Fill.{getD-splice-table}
 use Rattle.algebra.specs.Ops.{sum}
 use Rattle.algebra.proofs.Sum.{sum-ext}

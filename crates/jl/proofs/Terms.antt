@@ -1,18 +1,16 @@
 -- Terms of the projection's sums: entries times words, modulo Q.
-use mathlib.Core.Path.{_≡_, refl, sym, ap, _∙_}
+use mathlib.Core.Path.{_≡_, sym, ap, _∙_}
 use mathlib.Core.Bool.{cond}
-use mathlib.Core.List.{List}
-use Prim.Native.Nat.{ℕ, zero, suc, _+_, _-_, _*_, _/_, _%_, _≤_, _<_}
+use Prim.Native.Nat.{ℕ, _+_, _-_, _*_, _%_, _≤_, _<_}
 use native.Mathlib.Nat.{one-mul, zero-mul, add-mul-mod-self-right}
 use native.Mathlib.Omega.{arith}
 use lib.Dec.{ltb}
-use lib.ListN.{length, getD}
 use Rattle.lists.specs.Sum.{Σ}
 use Rattle.lists.proofs.Sum.{Σ-ext, Σ-mod}
 use Rattle.definitions.specs.Zq.{Q, zneg}
 use Rattle.definitions.specs.Projection.{entry}
 use Rattle.definitions.proofs.Cases.{ltb-cases}
-use Rattle.jl.specs.Rows.{term, row-sum}
+use Rattle.jl.specs.Rows.{term}
 
 -- (Q − 1)·x is Q − x modulo Q
 negative : (x : ℕ) → x ≤ Q → (4294967295 - x) % 4294967295 ≡ (4294967294 * x) % 4294967295

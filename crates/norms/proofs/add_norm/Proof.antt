@@ -1,13 +1,13 @@
 -- `add_norm` meets its contract. The invariant: the total is the sum and the first k squares, and the carries are at most k.
-use mathlib.Core.Path.{_≡_, refl, sym, _∙_, ap, ap₂}
+use mathlib.Core.Path.{_≡_, sym, _∙_, ap, ap₂}
 use Prim.Native.Nat.{ℕ, _+_, _-_, _*_, _≤_}
 use native.Mathlib.Nat.{add-zero, add-assoc}
 use native.Mathlib.Omega.{arith}
-use lib.ListN.{length, getD}
+use lib.ListN.{getD}
 use Rattle.lists.specs.Sum.{Σ}
 use Rattle.lists.proofs.Sum.{Σ-suc}
 use Rattle.definitions.specs.Zq.{size}
-use Rattle.definitions.specs.Norm.{square, norm}
+use Rattle.definitions.specs.Norm.{square}
 use Rattle.definitions.specs.Answer.{value128}
 use Rattle.norms.proofs.Part.{norm-part}
 use Rattle.norms.proofs.add_norm.Statement.{statement}

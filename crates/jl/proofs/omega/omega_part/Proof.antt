@@ -1,10 +1,6 @@
 -- `omega_part` meets its contract.
-use mathlib.Core.Path.{_≡_, _∙_, ap}
-use Prim.Native.Nat.{_+_, _*_, _≤_}
+use mathlib.Core.Path.{_∙_}
 use native.Mathlib.Omega.{arith}
-use borrow.Author.Needs.{needs}
-use lib.ListN.{length}
-use Rattle.lists.proofs.Splice.{length-splice}
 use Rattle.jl.proofs.Columns.{omega-region}
 use Rattle.jl.proofs.omega.omega_part.Statement.{statement}
 use Rattle.jl.proofs.omega.omega_part.Tie as tie
