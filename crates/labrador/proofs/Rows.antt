@@ -1,15 +1,14 @@
 -- The words of an element's digit rows: 2048 of them, and a lent slice keeps those beyond.
-use mathlib.Core.Path.{_≡_, refl, sym, _∙_, ap}
+use mathlib.Core.Path.{_≡_, refl, _∙_, ap}
 use mathlib.Core.Bool.{Bool, true, false, cond}
-use mathlib.Core.List.{List, [], _++_}
-use Prim.Native.Nat.{ℕ, _+_, _≤_, _<_}
+use mathlib.Core.List.{List, []}
+use Prim.Native.Nat.{ℕ, _+_, _<_}
 use native.Mathlib.Nat.{zero-add}
 use native.Mathlib.Omega.{arith}
 use lib.Dec.{ltb}
 use lib.ListN.{length, getD, drop, replicate, getD-replicate}
 use lib.Seq.{drop-at}
-use Rattle.lists.specs.Table.{table, padded, cat}
-use Rattle.lists.specs.Sum.{Σ}
+use Rattle.lists.specs.Table.{padded}
 use Rattle.lists.specs.Part.{splice}
 use Rattle.lists.proofs.Table.{length-table, getD-table}
 use Rattle.lists.proofs.Sum.{Σ-ext, Σ-const}

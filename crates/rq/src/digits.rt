@@ -45,6 +45,26 @@ pub fn digit_row(a: [u32; 64], base: u32, sizes: [u32; 64]) -> [u32; 64]
     row
 }
 
+// A row of digits and the sizes that go on after it.
+pub struct Row {
+    pub digits: [u32; 64],
+    pub next: [u32; 64],
+}
+
+// Both at once, with one division for each coefficient.
+pub fn take_row(a: [u32; 64], base: u32, sizes: [u32; 64]) -> Row
+    requires { ⌜ 1 < base ⌝ }
+    ensures { λ r. ⌜ (r .digits ≡ table 64 (λ j. digitOf base (coeff a j) (coeff sizes j))) × (r .next ≡ table 64 (λ j. nextSize base (coeff sizes j))) ⌝ }
+{
+    let mut row = [0u32; 64];
+    let mut next = [0u32; 64];
+    for j in 0..64 {
+        row[j] = digits::digit(Zq(a[j]).is_larger_than_half(), base, sizes[j]);
+        next[j] = digits::next_size(base, sizes[j]);
+    }
+    Row { digits: row, next }
+}
+
 // Document 01: "the digits of one element are 32 rows of 64, rows past the parts zero".
 pub fn decompose(a: Rq, base: u32, parts: usize) -> [[u32; 64]; 32]
     requires { ⌜ (1 < base) × (parts ≤ 32) ⌝ }
@@ -55,9 +75,10 @@ pub fn decompose(a: Rq, base: u32, parts: usize) -> [[u32; 64]; 32]
     let mut rows = [[0u32; 64]; 32];
     let mut k = 0;
     while k < parts {
-        let row = digit_row(coeffs, base, sizes);
+        let taken = take_row(coeffs, base, sizes);
+        let row = taken.digits;
+        let next = taken.next;
         rows[k] = row;
-        let next = next_sizes(base, sizes);
         sizes = next;
         k += 1;
     }

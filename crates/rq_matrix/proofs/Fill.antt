@@ -1,7 +1,8 @@
 -- Regions of a slice that are filled with elements from their start on.
 use mathlib.Core.Path.{_≡_, sym, ap, _∙_}
 use mathlib.Core.List.{List, [], _∷_, _++_, flatMap, append-nil}
-use Prim.Native.Nat.{ℕ, _+_, _*_}
+use Prim.Native.Nat.{ℕ, _+_, _*_, _≤_}
+use native.Mathlib.Omega.{arith}
 use lib.ListN.{length}
 use Rattle.lists.specs.Table.{table, cat}
 use Rattle.lists.specs.Part.{splice}
@@ -14,6 +15,8 @@ use Rattle.definitions.specs.Ring.{words}
 use Rattle.protocol.specs.Parameters.{triangular}
 use Rattle.protocol.specs.Formulas.{flat, triangle}
 use Rattle.protocol.proofs.Flat.{length-flat, length-triangle}
+use Rattle.rq_matrix.specs.Region.{Apart}
+use Rattle.rq_matrix.proofs.Place.{apart-part}
 
 -- the words of two lists of elements joined
 pub flat-append : (a b : List Element) → flat (a ++ b) ≡ flat a ++ flat b
@@ -64,3 +67,7 @@ module _ (start : List ℕ) (at : ℕ) where
   fill-triangle-next out next i place f e p h =
       fill-append out next place (triangle i f) (table (i + 1) (f i)) e (p ∙ ap (λ k. at + 64 * k) (sym (length-triangle i f))) h
       ∙ ap (λ l. splice start at (flat l)) (sym (cat-suc i (λ k. table (k + 1) (f k))))
+
+-- a region that is apart from another is apart from the elements that fill a part of it
+pub apart-filled : (at count place size : ℕ) (es : List Element) → Apart at count place size → 64 * length es ≤ size → Apart at count place (length (flat es))
+apart-filled at count place size es apart h = apart-part at count place size at count place (length (flat es)) apart (omega arith) (omega arith) (omega arith) (omega (arith, length-flat es))

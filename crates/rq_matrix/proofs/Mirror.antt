@@ -1,11 +1,12 @@
 -- Sums over a symmetric matrix by the rows of its triangle.
-use mathlib.Core.Path.{_≡_, ap, ap₂, _∙_}
+use mathlib.Core.Path.{_≡_, refl, ap, ap₂, _∙_}
 use Prim.Native.Nat.{ℕ, _+_, _<_}
 use native.Mathlib.Nat.{le-refl}
 use native.Mathlib.Omega.{arith}
 use Rattle.algebra.specs.Ops.{Ops, sum, dot, pairs}
 use Rattle.algebra.proofs.Ring.{CRing, ring}
 use Rattle.algebra.proofs.Sum.{sum-ext, sum-add, sum-mul-right}
+use Rattle.algebra.proofs.Dot.{dot-ext}
 use Rattle.algebra.proofs.Form.{pairs-triangle}
 use Rattle.protocol.specs.Parameters.{triangular}
 use Rattle.protocol.specs.Views.{cell}
@@ -24,20 +25,30 @@ module _ (O : Ops) (R : CRing O) where
       ∙ sum-ext O r (λ i. sum O i (λ j. f i j ⊕ f j i) ⊕ f i i) (λ i. sum O i (f i) ⊕ sum O i (f i) ⊕ f i i)
       (λ i l. ap (λ x. x ⊕ f i i) (sum-add O R i (f i) (λ j. f j i) ∙ ap (λ x. sum O i (f i) ⊕ x) (sum-ext O i (λ j. f j i) (f i) (λ j m. mirrored j i))))
 
+  -- Σ x_ij·y_ij of a triangle and of what is the same mirrored
+  pub triangle-by-rows : (r : ℕ) (x : ℕ → Carrier) (y : ℕ → ℕ → Carrier) → ((i j : ℕ) → y i j ≡ y j i) → pairs O r (λ i j. x (cell i j) ⊗ y i j)
+      ≡ sum O r (λ i. dot O i (λ j. x (triangular i + j)) (y i) ⊕ dot O i (λ j. x (triangular i + j)) (y i) ⊕ x (triangular i + i) ⊗ y i i)
+  unfolding dot
+  triangle-by-rows r x y mirrored =
+      pairs-mirrored r (λ i j. x (cell i j) ⊗ y i j) (λ i j. ap₂ _⊗_ (ap x (cell-mirrored i j)) (mirrored i j))
+      ∙ sum-ext O r (λ i. sum O i (λ j. x (cell i j) ⊗ y i j) ⊕ sum O i (λ j. x (cell i j) ⊗ y i j) ⊕ x (cell i i) ⊗ y i i)
+      (λ i. sum O i (λ j. x (triangular i + j) ⊗ y i j) ⊕ sum O i (λ j. x (triangular i + j) ⊗ y i j) ⊕ x (triangular i + i) ⊗ y i i)
+      (λ i l. ap₂ (λ s d. s ⊕ s ⊕ d)
+      (sum-ext O i (λ j. x (cell i j) ⊗ y i j) (λ j. x (triangular i + j) ⊗ y i j) (λ j m. ap (λ k. x k ⊗ y i j) (cell-lower i j (omega arith))))
+      (ap (λ k. x k ⊗ y i i) (cell-lower i i (le-refl i))))
+
   -- Σ x_ij·y_ij of two triangles
   pub products-by-rows : (r : ℕ) (x y : ℕ → Carrier) → pairs O r (λ i j. x (cell i j) ⊗ y (cell i j))
       ≡ sum O r (λ i. dot O i (λ j. x (triangular i + j)) (λ j. y (triangular i + j)) ⊕ dot O i (λ j. x (triangular i + j)) (λ j. y (triangular i + j)) ⊕ x (triangular i + i) ⊗ y (triangular i + i))
-  unfolding dot
   products-by-rows r x y =
-      pairs-mirrored r term (λ i j. ap at (cell-mirrored i j))
-      ∙ sum-ext O r (λ i. sum O i (term i) ⊕ sum O i (term i) ⊕ term i i) (λ i. sum O i (λ j. at (triangular i + j)) ⊕ sum O i (λ j. at (triangular i + j)) ⊕ at (triangular i + i))
-      (λ i l. ap₂ (λ s d. s ⊕ s ⊕ d) (sum-ext O i (term i) (λ j. at (triangular i + j)) (λ j m. ap at (cell-lower i j (omega arith)))) (ap at (cell-lower i i (le-refl i))))
+      triangle-by-rows r x (λ i j. y (cell i j)) (λ i j. ap y (cell-mirrored i j))
+      ∙ sum-ext O r (λ i. row i (λ j. y (cell i j)) ⊕ x (triangular i + i) ⊗ y (cell i i)) (λ i. row i (λ j. y (triangular i + j)) ⊕ x (triangular i + i) ⊗ y (triangular i + i))
+      (λ i l. ap₂ _⊕_
+      (ap (λ s. s ⊕ s) (dot-ext O i (λ j. x (triangular i + j)) (λ j. x (triangular i + j)) (λ j. y (cell i j)) (λ j. y (triangular i + j)) (λ j m. refl) (λ j m. ap y (cell-lower i j (omega arith)))))
+      (ap (λ k. x (triangular i + i) ⊗ y k) (cell-lower i i (le-refl i))))
     where
-      at : ℕ → Carrier
-      at k = x k ⊗ y k
-
-      term : ℕ → ℕ → Carrier
-      term i j = at (cell i j)
+      row : ℕ → (ℕ → Carrier) → Carrier
+      row i f = dot O i (λ j. x (triangular i + j)) f ⊕ dot O i (λ j. x (triangular i + j)) f
 
   -- Σ x_ij·c_i·c_j of a triangle and factors
   pub weighted-by-rows : (r : ℕ) (x c : ℕ → Carrier) → pairs O r (λ i j. x (cell i j) ⊗ c i ⊗ c j)

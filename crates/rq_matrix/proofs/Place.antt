@@ -13,6 +13,7 @@ use Rattle.definitions.specs.Ring.{element}
 use Rattle.inner_product.specs.Run.{Run, run}
 use Rattle.protocol.specs.Parameters.{triangular}
 use Rattle.protocol.specs.Views.{cell}
+use Rattle.protocol.specs.Formulas.{dot}
 use Rattle.rq_matrix.specs.Region.{vector, Apart}
 
 -- row i of r rows of n elements ends within them
@@ -71,3 +72,12 @@ apart-part at count place size at′ count′ place′ size′ (inr h) a b p q =
 pub run-apart : (ws : List ℕ) (place : ℕ) (new : List ℕ) (at n : ℕ) → Apart at (64 * n) place (length new) → (m : ℕ) → m < n → run (splice ws place new) at 64 m ≡ run ws at 64 m
 run-apart ws place new at n (inl h) m l = ap element (part-splice-before 0 ws place new (at + 64 * m) 64 (omega arith))
 run-apart ws place new at n (inr h) m l = ap element (part-splice-after 0 ws place new (at + 64 * m) 64 (omega arith))
+
+-- the vectors of a region are the same after a store apart from it
+pub vector-apart : (now ws : List ℕ) (place : ℕ) (new : List ℕ) (at r n : ℕ) → now ≡ splice ws place new → Apart at (64 * (r * n)) place (length new) → (i m : ℕ) → i < r → m < n
+    → vector now at n i m ≡ vector ws at n i m
+vector-apart now ws place new at r n e apart i m h l = ap (λ w. vector w at n i m) e ∙ run-apart ws place new at (r * n) apart (i * n + m) (omega (arith, rows-within i r n h))
+
+-- an inner product of two vectors, from the places where they stand
+pub dot-vectors : (x : List ℕ) (x-at i p : ℕ) (y : List ℕ) (y-at j q n : ℕ) → p ≡ x-at + 64 * (i * n) → q ≡ y-at + 64 * (j * n) → dot n (run x p 64) (run y q 64) ≡ dot n (vector x x-at n i) (vector y y-at n j)
+dot-vectors x x-at i p y y-at j q n e f = ap₂ (dot n) (run-vector x x-at n i p e) (run-vector y y-at n j q f)

@@ -10,7 +10,7 @@ use Rattle.definitions.proofs.Bridge.{words-element, element-words, radd-elemen
 use Rattle.inner_product.specs.Run.{run}
 use Rattle.protocol.specs.Formulas.{_⊕_, _⊗_, sum, dot}
 use Rattle.rq_matrix.specs.Region.{vector}
-use Rattle.rq_matrix.proofs.Place.{run-vector, run-column}
+use Rattle.rq_matrix.proofs.Place.{run-vector, run-column, dot-vectors}
 
 -- the words of an element stand for it
 pub stands-for : (l : List ℕ) (e : Element) → l ≡ words e → element l ≡ e
@@ -41,6 +41,11 @@ total-product-next l t e a b i f g h m p x y = total-next l t e i (λ k. f k ⊗
 -- the words of an inner product with vector i, from the place where it stands
 pub words-of-vector : (l ws : List ℕ) (at n i place : ℕ) (y : ℕ → Element) → l ≡ words (dot n (run ws place 64) y) → place ≡ at + 64 * (i * n) → l ≡ words (dot n (vector ws at n i) y)
 words-of-vector l ws at n i place y h p = h ∙ ap (λ f. words (dot n f y)) (run-vector ws at n i place p)
+
+-- the words of an inner product of two vectors, from the places where they stand
+pub words-of-vectors : (l x : List ℕ) (x-at i p : ℕ) (y : List ℕ) (y-at j q n : ℕ) → l ≡ words (dot n (run x p 64) (run y q 64)) → p ≡ x-at + 64 * (i * n) → q ≡ y-at + 64 * (j * n)
+    → l ≡ words (dot n (vector x x-at n i) (vector y y-at n j))
+words-of-vectors l x x-at i p y y-at j q n h e f = h ∙ ap words (dot-vectors x x-at i p y y-at j q n e f)
 
 -- the words of an inner product with element k of each vector
 pub words-of-column : (l ws : List ℕ) (at n k r : ℕ) (y : ℕ → Element) → l ≡ words (dot r (run ws (at + 64 * k) (64 * n)) y) → l ≡ words (sum r (λ i. vector ws at n i k ⊗ y i))
