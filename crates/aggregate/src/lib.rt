@@ -5,7 +5,7 @@ use jl::omega;
 use rq::rq::Rq;
 use rq_matrix;
 ghost use mathlib.Core.Path.{_≡_};
-ghost use Prim.Native.Nat.{_+_, _*_, _≤_, _^_};
+ghost use Prim.Native.Nat.{_+_, _*_, _≤_};
 ghost use lib.ListN.{length};
 ghost use Rattle.lists.specs.Table.{table, cat};
 ghost use Rattle.lists.specs.Part.{splice};
