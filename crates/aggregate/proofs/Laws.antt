@@ -21,7 +21,7 @@ use Rattle.protocol.specs.Layout.{start, job-sections, randomness-sections}
 use Rattle.protocol.specs.Views.{Public, public, element-at, cell}
 use Rattle.protocol.specs.Formulas.{flat, rows, sum, _⊕_, _⊗_, a″, φ″, a-sum, φ-sum, b-sum}
 use Rattle.protocol.proofs.Flat.{length-rows, row-cell}
-use Rattle.protocol.proofs.Region.{elements-list, Elements, Triangle, Vectors, elements-stored, elements-row, triangle-of, vectors-of}
+use Rattle.protocol.proofs.Region.{elements-list, Triangle, Vectors, elements-stored, elements-row, triangle-of, vectors-of}
 use Rattle.aggregate.specs.Weighed.{weighed, both, mixed}
 
 -- the place of element c of constraint x, constraints having so many elements

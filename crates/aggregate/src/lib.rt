@@ -5,7 +5,7 @@ use jl::omega;
 use rq::rq::Rq;
 use rq_matrix;
 ghost use mathlib.Core.Path.{_≡_};
-ghost use Prim.Native.Nat.{_+_, _*_, _≤_, _^_};
+ghost use Prim.Native.Nat.{_+_, _*_, _≤_};
 ghost use lib.ListN.{length};
 ghost use Rattle.lists.specs.Table.{table, cat};
 ghost use Rattle.lists.specs.Part.{splice};
@@ -16,7 +16,7 @@ ghost use Rattle.protocol.specs.Parameters.{triangular};
 ghost use Rattle.protocol.specs.Formulas.{flat, rows, _⊕_};
 ghost use Rattle.aggregate.specs.Weighed.{Grid, weighed, both, mixed, Formed, formed};
 
-// a'' or the first part of φ'' for one row of psi: the weighed elements into a region.
+// Weighed elements into a region: a'' for one row of psi.
 pub fn weigh(
     job: &[u32],
     at: usize,
@@ -45,7 +45,7 @@ pub fn weigh(
     }
 }
 
-// a'' for each row of psi: so many rows of weighed elements into a region.
+// a'' for each row of psi, one after the other into a region.
 pub fn a_double_prime(
     job: &[u32],
     at: usize,

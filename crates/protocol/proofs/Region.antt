@@ -6,7 +6,6 @@ use native.Mathlib.Nat.{mul-le-mul-right}
 use native.Mathlib.Omega.{arith}
 use lib.ListN.{length, getD}
 use Rattle.lists.specs.Table.{table, cat}
-use Rattle.lists.specs.Sum.{Σ}
 use Rattle.lists.specs.Part.{part, splice}
 use Rattle.lists.proofs.Sum.{Σ-ext, Σ-const}
 use Rattle.lists.proofs.Table.{length-table, getD-table, table-ext}

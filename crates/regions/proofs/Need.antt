@@ -1,5 +1,5 @@
 -- The regions fit the scratch that document 01 asks for.
-use Prim.Native.Nat.{ℕ, _+_, _*_, _≤_, _<_}
+use Prim.Native.Nat.{ℕ, _+_, _*_, _≤_}
 use native.Mathlib.Nat.{mul-le-mul-left, mul-le-mul-right}
 use native.Mathlib.Omega.{arith}
 use Rattle.protocol.specs.Parameters.{Parameters, triangular}

@@ -21,40 +21,16 @@ pub fn sizes_of(a: [u32; 64]) -> [u32; 64]
     sizes
 }
 
-// The sizes that go on after a row of digits is taken.
-pub fn next_sizes(base: u32, sizes: [u32; 64]) -> [u32; 64]
-    requires { ⌜ 1 < base ⌝ }
-    ensures { λ r. ⌜ r ≡ table 64 (λ j. nextSize base (coeff sizes j)) ⌝ }
-{
-    let mut next = [0u32; 64];
-    for j in 0..64 {
-        next[j] = digits::next_size(base, sizes[j]);
-    }
-    next
+// A row of digits, and the sizes that go on.
+pub struct Taken {
+    pub row: [u32; 64],
+    pub sizes: [u32; 64],
 }
 
-// The row of digits that the sizes give, with the coefficients' signs.
-pub fn digit_row(a: [u32; 64], base: u32, sizes: [u32; 64]) -> [u32; 64]
+// The row of digits that the sizes give, with the coefficients' signs: one division a digit.
+pub fn take_row(a: [u32; 64], base: u32, sizes: [u32; 64]) -> Taken
     requires { ⌜ 1 < base ⌝ }
-    ensures { λ r. ⌜ r ≡ table 64 (λ j. digitOf base (coeff a j) (coeff sizes j)) ⌝ }
-{
-    let mut row = [0u32; 64];
-    for j in 0..64 {
-        row[j] = digits::digit(Zq(a[j]).is_larger_than_half(), base, sizes[j]);
-    }
-    row
-}
-
-// A row of digits and the sizes that go on after it.
-pub struct Row {
-    pub digits: [u32; 64],
-    pub next: [u32; 64],
-}
-
-// Both at once, with one division for each coefficient.
-pub fn take_row(a: [u32; 64], base: u32, sizes: [u32; 64]) -> Row
-    requires { ⌜ 1 < base ⌝ }
-    ensures { λ r. ⌜ (r .digits ≡ table 64 (λ j. digitOf base (coeff a j) (coeff sizes j))) × (r .next ≡ table 64 (λ j. nextSize base (coeff sizes j))) ⌝ }
+    ensures { λ r. ⌜ (r .row ≡ table 64 (λ j. digitOf base (coeff a j) (coeff sizes j))) × (r .sizes ≡ table 64 (λ j. nextSize base (coeff sizes j))) ⌝ }
 {
     let mut row = [0u32; 64];
     let mut next = [0u32; 64];
@@ -62,7 +38,7 @@ pub fn take_row(a: [u32; 64], base: u32, sizes: [u32; 64]) -> Row
         row[j] = digits::digit(Zq(a[j]).is_larger_than_half(), base, sizes[j]);
         next[j] = digits::next_size(base, sizes[j]);
     }
-    Row { digits: row, next }
+    Taken { row, sizes: next }
 }
 
 // Document 01: "the digits of one element are 32 rows of 64, rows past the parts zero".
@@ -76,8 +52,8 @@ pub fn decompose(a: Rq, base: u32, parts: usize) -> [[u32; 64]; 32]
     let mut k = 0;
     while k < parts {
         let taken = take_row(coeffs, base, sizes);
-        let row = taken.digits;
-        let next = taken.next;
+        let row = taken.row;
+        let next = taken.sizes;
         rows[k] = row;
         sizes = next;
         k += 1;

@@ -1,7 +1,7 @@
 // Squared norms of runs of elements, and of their digits, which are not stored.
-use crate::digits;
 use definitions::answers::U128;
 use rq::digits::sizes_of;
+use rq::digits::take_row;
 ghost use mathlib.Core.Path.{_≡_};
 ghost use Prim.Native.Nat.{_+_, _*_, _≤_, _<_, _^_};
 ghost use lib.ListN.{length};
@@ -30,7 +30,7 @@ pub fn add_digits_norm(sum: U128, a: [u32; 64], base: u32, parts: usize) -> U128
     let mut sizes = sizes_of(a);
     let mut k = 0;
     while k < parts {
-        let taken = digits::take_row(a, base, sizes);
+        let taken = take_row(a, base, sizes);
         let row = taken.row;
         let next = taken.sizes;
         total = norms::add_norm(total, &row, 0, 64);

@@ -1,6 +1,6 @@
 -- `aggregate` meets its contract. The invariant: the first c elements are stored, and what they are made of is as it was.
-use mathlib.Core.Path.{_≡_, refl, sym, _∙_, ap}
-use Prim.Native.Nat.{_+_, _-_, _*_, _≤_, _<_, _^_}
+use mathlib.Core.Path.{_≡_, refl, _∙_, ap}
+use Prim.Native.Nat.{_+_, _-_, _*_, _≤_}
 use native.Mathlib.Nat.{mul-le-mul-left}
 use native.Mathlib.Omega.{arith}
 use lib.ListN.{length}
@@ -10,7 +10,7 @@ use Rattle.lists.proofs.Splice.{length-splice}
 use Rattle.definitions.specs.Ring.{words}
 use Rattle.protocol.specs.Formulas.{flat}
 use Rattle.protocol.proofs.Stored.{stored-none, stored-next, stored-all}
-use Rattle.aggregate.specs.Weighed.{Grid, mixed}
+use Rattle.aggregate.specs.Weighed.{mixed}
 use Rattle.aggregate.proofs.Grid.{grid-run, grid-same, mixed-before}
 use Rattle.aggregate.proofs.aggregate.Statement.{statement}
 use Rattle.aggregate.proofs.aggregate.Tie as tie

@@ -1,6 +1,6 @@
 -- `b_double_prime` meets its contract. The invariant: the first k elements are stored, and what they are made of is as it was.
 use mathlib.Core.Path.{_≡_, refl, _∙_, ap, ap₂}
-use Prim.Native.Nat.{_+_, _-_, _*_, _/_, _≤_, _<_, _^_}
+use Prim.Native.Nat.{_+_, _-_, _*_, _≤_, _<_}
 use native.Mathlib.Nat.{mul-le-mul}
 use native.Mathlib.Omega.{arith}
 use lib.ListN.{length}

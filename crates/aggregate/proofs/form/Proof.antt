@@ -1,6 +1,6 @@
 -- `form` meets its contract.
 use mathlib.Core.Path.{_∙_, sym, ap₂}
-use Prim.Native.Nat.{_+_, _*_, _≤_, _<_, _^_}
+use Prim.Native.Nat.{_*_, _≤_}
 use native.Mathlib.Nat.{mul-le-mul}
 use native.Mathlib.Omega.{arith}
 use borrow.Author.Needs.{needs}
