@@ -1,2 +1,3 @@
-pub mod Products
+pub mod Added
 pub mod Answers
+pub mod Products

@@ -1,20 +1,20 @@
--- Matrices and cells in slices, and where they lie.
+-- The digits of cells in slices, and where cells and matrices lie.
 use mathlib.Core.List.{List}
 use Prim.Native.Nat.{ℕ, _+_, _*_, _≤_, _<_, _^_}
-use lib.ListN.{length}
+use lib.ListN.{length, getD}
 use Rattle.lists.specs.Table.{table}
+use Rattle.definitions.specs.Zq.{Canonical}
 use Rattle.definitions.specs.Rq.{Element}
 use Rattle.inner_product.specs.Run.{run}
-use Rattle.protocol.specs.Views.{element-at}
 use Rattle.protocol.specs.Formulas.{digits-of}
-
--- entry m of row k of a matrix with rows of `width` elements
-abbrev pub entry-of : List ℕ → ℕ → ℕ → ℕ → ℕ → Element
-entry-of words place width k m = element-at words place (k * width + m)
 
 -- the digits of the cells from a place on, cell after cell
 abbrev pub digits-at : List ℕ → ℕ → ℕ → ℕ → ℕ → List Element
 digits-at words place cells b parts = digits-of b parts (table cells (run words place 64))
+
+-- n words from a place on are canonical
+abbrev pub CanonicalFrom : List ℕ → ℕ → ℕ → Type 0
+CanonicalFrom words at n = (i : ℕ) → i < n → Canonical (getD words (at + i) 0)
 
 -- blocks of `size` words at equal steps lie within the slice
 pub record Blocks (words : List ℕ) (at step size n : ℕ) : Type 0 where

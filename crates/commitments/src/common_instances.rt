@@ -14,7 +14,8 @@ ghost use Rattle.definitions.specs.Answer.{refused, ofProved};
 ghost use Rattle.protocol.specs.Checks.{require, first};
 ghost use Rattle.protocol.specs.Parameters.{parameters};
 ghost use Rattle.protocol.specs.Formulas.{norm-of};
-ghost use Rattle.commitments.specs.Cells.{entry-of, digits-at};
+ghost use Rattle.rq_matrix.specs.Region.{vector};
+ghost use Rattle.commitments.specs.Cells.{digits-at};
 
 // The places of the bounds of A, B, C and D.
 pub const BOUND_A: usize = 18;
@@ -28,7 +29,7 @@ pub const BOUND_D: usize = 27;
 // 13: the first of r vectors of n elements whose norm is above A's bound.
 pub fn check_witness(job: &[u32], witness: &[u32], at: usize, n: usize, r: usize) -> Proved
     requires { ⌜ (30 ≤ length (now job)) × (at + 64 * (r * n) ≤ length (now witness)) × (n ≤ 2 ^ 20) ⌝ }
-    ensures { λ result. ⌜ ofProved result ≡ first r (λ i. require (decLe (norm-of (table n (entry-of (now (witness .entry)) at n i))) (parameters (now (job .entry)) .bound-A)) (refused 13 i)) ⌝ }
+    ensures { λ result. ⌜ ofProved result ≡ first r (λ i. require (decLe (norm-of (table n (vector (now (witness .entry)) at n i))) (parameters (now (job .entry)) .bound-A)) (refused 13 i)) ⌝ }
 {
     let step = 64 * n;
     let mut place = at;

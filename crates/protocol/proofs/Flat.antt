@@ -57,11 +57,11 @@ element-of-flat ws place es m d from h =
     one = unfold flat in part-flatMap words 64 length-words es m d h
 
 -- a cell above the diagonal stands where its mirror image does
-cell-upper : (i j : ℕ) → i ≤ j → cell i j ≡ triangular j + i
+pub cell-upper : (i j : ℕ) → i ≤ j → cell i j ≡ triangular j + i
 cell-upper i j h = ap₂ (λ row column. triangular row + column) (max-eq-right h) (min-eq-left h)
 
 -- any other in its row and column
-cell-lower : (i j : ℕ) → j ≤ i → cell i j ≡ triangular i + j
+pub cell-lower : (i j : ℕ) → j ≤ i → cell i j ≡ triangular i + j
 cell-lower i j h = ap₂ (λ row column. triangular row + column) (max-eq-left h) (min-eq-right h)
 
 module _ (r : ℕ) (f : ℕ → ℕ → Element) where

@@ -1,38 +1,13 @@
 // The digits of an element of a slice, a row at a time from the sizes that go on.
-use rq::digits::sizes_of;
+use rq::digits;
 use rq::rq::Rq;
-use zq::digits;
-use zq::zq::Zq;
 ghost use mathlib.Core.Path.{_≡_};
 ghost use Prim.Native.Nat.{_+_, _*_, _≤_, _<_};
 ghost use lib.ListN.{length};
 ghost use Rattle.lists.specs.Table.{table};
 ghost use Rattle.lists.specs.Part.{part, splice};
-ghost use Rattle.definitions.specs.Digits.{nextSize};
-ghost use Rattle.definitions.specs.Rq.{coeff};
 ghost use Rattle.definitions.specs.Ring.{element};
-ghost use Rattle.rq.specs.Digits.{digitOf};
 ghost use Rattle.protocol.specs.Formulas.{flat, digit-element};
-
-// A row of digits, and the sizes that go on.
-pub struct Taken {
-    pub row: [u32; 64],
-    pub sizes: [u32; 64],
-}
-
-// The row of digits that the sizes give, with the coefficients' signs: one division a digit.
-pub fn take_row(a: [u32; 64], base: u32, sizes: [u32; 64]) -> Taken
-    requires { ⌜ 1 < base ⌝ }
-    ensures { λ r. ⌜ (r .row ≡ table 64 (λ j. digitOf base (coeff a j) (coeff sizes j))) × (r .sizes ≡ table 64 (λ j. nextSize base (coeff sizes j))) ⌝ }
-{
-    let mut row = [0u32; 64];
-    let mut next = [0u32; 64];
-    for j in 0..64 {
-        row[j] = digits::digit(Zq(a[j]).is_larger_than_half(), base, sizes[j]);
-        next[j] = digits::next_size(base, sizes[j]);
-    }
-    Taken { row, sizes: next }
-}
 
 // The digits of the element at `at`, lowest first, as `parts` elements from `to_at` on.
 pub fn decompose_to(from: &[u32], at: usize, base: u32, parts: usize, to: &mut [u32], to_at: usize)
@@ -40,13 +15,13 @@ pub fn decompose_to(from: &[u32], at: usize, base: u32, parts: usize, to: &mut [
     ensures { λ _. ⌜ now (to .exit) ≡ splice (now (to .entry)) «to_at» (flat (table parts (digit-element base (element (part (now (from .entry)) at 64))))) ⌝ }
 {
     let a = words::load(from, at).coeffs;
-    let mut sizes = sizes_of(a);
+    let mut sizes = digits::sizes_of(a);
     let mut place = to_at;
     let mut k = 0;
     while k < parts {
-        let taken = take_row(a, base, sizes);
-        let row = taken.row;
-        let next = taken.sizes;
+        let taken = digits::take_row(a, base, sizes);
+        let row = taken.digits;
+        let next = taken.next;
         words::store(to, place, Rq { coeffs: row });
         sizes = next;
         place += 64;

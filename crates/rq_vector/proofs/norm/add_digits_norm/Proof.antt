@@ -34,7 +34,7 @@ slice-aggregate-add-norm c = search needs
 
 add-norm-requires : tie.Need-add-norm-requires Inv-loop μ-loop
 add-norm-requires c κs =
-    let n : length (c .before .before .before .take-row .result .row) ≡ 64 = search needs in
+    let n : length (c .before .before .before .take-row .result .digits) ≡ 64 = search needs in
     (omega arith, omega arith)
 
 loop-again : tie.Need-loop-again Inv-loop μ-loop
@@ -42,13 +42,13 @@ loop-again c =
     let s = c .before .before .before .before .before .before .before .before .args in
     let l = c .before .before .before .before .before .before .loop in
     let taken = c .before .before .before .before .take-row in
-    let n : length (taken .result .row) ≡ 64 = search needs in
-    let row = row-is (s .base) (s .a) (l .sizes) (taken .result .row) (l .k) (l .inv .1) (taken .ensures .0) in
+    let n : length (taken .result .digits) ≡ 64 = search needs in
+    let row = row-is (s .base) (s .a) (l .sizes) (taken .result .digits) (l .k) (l .inv .1) (taken .ensures .0) in
     let f : ℕ → ℕ = λ q. norm (digitRow (s .base) (s .a) q) in (
       omega arith,
-      sizes-next (s .base) (s .a) (l .sizes) (taken .result .sizes) (l .k) (l .inv .1) (taken .ensures .1),
+      sizes-next (s .base) (s .a) (l .sizes) (taken .result .next) (l .k) (l .inv .1) (taken .ensures .1),
       c .add-norm .ensures .0
-          ∙ ap₂ _+_ (l .inv .2) (ap norm (take-all 64 (taken .result .row) (omega arith) ∙ row))
+          ∙ ap₂ _+_ (l .inv .2) (ap norm (take-all 64 (taken .result .digits) (omega arith) ∙ row))
           ∙ add-assoc (value128 (s .sum)) (Σ (l .k) f) (f (l .k))
           ∙ ap (λ x. value128 (s .sum) + x) (sym (Σ-suc (l .k) f)),
       omega arith,
