@@ -27,10 +27,10 @@ length-flat-table : (n : ℕ) (f : ℕ → Element) → length (flat (table n f)
 length-flat-table n f = length-flat (table n f) ∙ ap (λ n. 64 * n) (length-table n f)
 
 -- stored elements have canonical words
-pub stored-canonical : (l : List ℕ) (at n : ℕ) (f : ℕ → Element) → at + 64 * n ≤ length l → CanonicalFrom (splice l at (flat (table n f))) at (64 * n)
-stored-canonical l at n f h i m =
+pub stored-canonical : (l l′ : List ℕ) (at n : ℕ) (f : ℕ → Element) → at + 64 * n ≤ length l → l′ ≡ splice l at (flat (table n f)) → CanonicalFrom l′ at (64 * n)
+stored-canonical l l′ at n f h e i m =
     let w : length (flat (table n f)) ≡ 64 * n = length-flat-table n f in
-    rw (getD-splice-within l at (flat (table n f)) i 0 (omega arith) (omega arith)) (flat-canonical (table n f) i (omega arith))
+    rw (e, getD-splice-within l at (flat (table n f)) i 0 (omega arith) (omega arith)) (flat-canonical (table n f) i (omega arith))
 
 -- element k of stored elements
 pub run-stored : (l : List ℕ) (at n : ℕ) (f : ℕ → Element) → at + 64 * n ≤ length l → (k : ℕ) → k < n → run (splice l at (flat (table n f))) at 64 k ≡ f k

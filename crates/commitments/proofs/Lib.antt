@@ -1,3 +1,4 @@
 pub mod Added
 pub mod Answers
 pub mod Products
+pub mod Formula

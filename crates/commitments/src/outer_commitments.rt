@@ -10,7 +10,7 @@ ghost use Rattle.definitions.specs.Ring.{element};
 ghost use Rattle.inner_product.specs.Run.{run};
 ghost use Rattle.protocol.specs.Formulas.{_⊕_, dot, flat, digit-element, times};
 ghost use Rattle.rq_matrix.specs.Region.{vector};
-ghost use Rattle.commitments.specs.Cells.{CanonicalFrom, Blocks, Cells, digits-at};
+ghost use Rattle.commitments.specs.Cells.{digits-at, width, Cells, Blocks, CanonicalFrom};
 
 // The digits of `cells` elements from `at` on, each element in `parts` digits.
 pub struct Digits {
@@ -67,26 +67,26 @@ pub fn add_cell(
     add_products(matrix, m_at, m_step, rows, &digits, parts, out, out_at);
 }
 
-// A matrix times the digits of the cells added to the rows' elements, cell after cell.
+// A matrix times the digits added to the rows' elements, cell after cell.
 pub fn add_cells(
     matrix: &[u32],
     m_at: usize,
     rows: usize,
     from: &[u32],
-    at: usize,
-    cells: usize,
+    d: Digits,
     base: u32,
-    parts: usize,
     out: &mut [u32],
     out_at: usize,
 )
-    requires { ⌜ Cells (now matrix) «m_at» rows (now from) at cells parts × (1 < base) × («out_at» + 64 * rows ≤ length (now out)) × CanonicalFrom (now out) «out_at» (64 * rows) ⌝ }
-    ensures { λ _. ⌜ now (out .exit) ≡ splice (now (out .entry)) «out_at» (flat (table rows (λ k. run (now (out .entry)) «out_at» 64 k ⊕ times (vector (now (matrix .entry)) «m_at» (cells * parts)) (digits-at (now (from .entry)) at cells base parts) k))) ⌝ }
+    requires { ⌜ («m_at» + 64 * (rows * width d) ≤ length (now matrix)) × Cells (now from) d × (1 < base) × («out_at» + 64 * rows ≤ length (now out)) × CanonicalFrom (now out) «out_at» (64 * rows) ⌝ }
+    ensures { λ _. ⌜ now (out .exit) ≡ splice (now (out .entry)) «out_at» (flat (table rows (λ k. run (now (out .entry)) «out_at» 64 k ⊕ times (vector (now (matrix .entry)) «m_at» (width d)) (digits-at (now (from .entry)) d base) k))) ⌝ }
 {
+    let cells = d.cells;
+    let parts = d.parts;
     let block = 64 * parts;
     let step = 64 * (cells * parts);
     let mut column = m_at;
-    let mut place = at;
+    let mut place = d.at;
     let mut c = 0;
     while c < cells {
         add_cell(
@@ -107,7 +107,7 @@ pub fn add_cells(
     }
 }
 
-// u1: B times the digits of t and C times the digits of g, of κ1 rows.
+// u1: B times the digits of t and C times the digits of g, κ1 rows each.
 pub fn compute_u1(
     job: &[u32],
     b_at: usize,
@@ -120,37 +120,15 @@ pub fn compute_u1(
     out: &mut [u32],
     out_at: usize,
 )
-    requires { ⌜ Cells (now job) «b_at» rows (now from) (t .at) (t .cells) (t .parts) × Cells (now job) «c_at» rows (now from) (g .at) (g .cells) (g .parts) × (1 < base) × («out_at» + 64 * rows ≤ length (now out)) ⌝ }
-    ensures { λ _. ⌜ now (out .exit) ≡ splice (now (out .entry)) «out_at» (flat (table rows (λ k. times (vector (now (job .entry)) «b_at» (t .cells * t .parts)) (digits-at (now (from .entry)) (t .at) (t .cells) base (t .parts)) k ⊕ times (vector (now (job .entry)) «c_at» (g .cells * g .parts)) (digits-at (now (from .entry)) (g .at) (g .cells) base (g .parts)) k))) ⌝ }
+    requires { ⌜ («b_at» + 64 * (rows * width t) ≤ length (now job)) × Cells (now from) t × («c_at» + 64 * (rows * width g) ≤ length (now job)) × Cells (now from) g × (1 < base) × («out_at» + 64 * rows ≤ length (now out)) ⌝ }
+    ensures { λ _. ⌜ now (out .exit) ≡ splice (now (out .entry)) «out_at» (flat (table rows (λ k. times (vector (now (job .entry)) «b_at» (width t)) (digits-at (now (from .entry)) t base) k ⊕ times (vector (now (job .entry)) «c_at» (width g)) (digits-at (now (from .entry)) g base) k))) ⌝ }
 {
     zero(out, out_at, rows);
-    add_cells(
-        job,
-        b_at,
-        rows,
-        from,
-        t.at,
-        t.cells,
-        base,
-        t.parts,
-        out,
-        out_at,
-    );
-    add_cells(
-        job,
-        c_at,
-        rows,
-        from,
-        g.at,
-        g.cells,
-        base,
-        g.parts,
-        out,
-        out_at,
-    );
+    add_cells(job, b_at, rows, from, t, base, out, out_at);
+    add_cells(job, c_at, rows, from, g, base, out, out_at);
 }
 
-// u2: D times the digits of h, of κ2 rows.
+// u2: D times the digits of h, κ2 rows.
 pub fn compute_u2(
     job: &[u32],
     d_at: usize,
@@ -161,20 +139,9 @@ pub fn compute_u2(
     out: &mut [u32],
     out_at: usize,
 )
-    requires { ⌜ Cells (now job) «d_at» rows (now from) (h .at) (h .cells) (h .parts) × (1 < base) × («out_at» + 64 * rows ≤ length (now out)) ⌝ }
-    ensures { λ _. ⌜ now (out .exit) ≡ splice (now (out .entry)) «out_at» (flat (table rows (times (vector (now (job .entry)) «d_at» (h .cells * h .parts)) (digits-at (now (from .entry)) (h .at) (h .cells) base (h .parts))))) ⌝ }
+    requires { ⌜ («d_at» + 64 * (rows * width h) ≤ length (now job)) × Cells (now from) h × (1 < base) × («out_at» + 64 * rows ≤ length (now out)) ⌝ }
+    ensures { λ _. ⌜ now (out .exit) ≡ splice (now (out .entry)) «out_at» (flat (table rows (times (vector (now (job .entry)) «d_at» (width h)) (digits-at (now (from .entry)) h base)))) ⌝ }
 {
     zero(out, out_at, rows);
-    add_cells(
-        job,
-        d_at,
-        rows,
-        from,
-        h.at,
-        h.cells,
-        base,
-        h.parts,
-        out,
-        out_at,
-    );
+    add_cells(job, d_at, rows, from, h, base, out, out_at);
 }

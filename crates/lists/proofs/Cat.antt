@@ -11,7 +11,7 @@ use lib.Seq.{getD-append-add}
 use Rattle.lists.specs.Table.{table, cat}
 use Rattle.lists.specs.Sum.{Σ}
 use Rattle.lists.proofs.Additive.{additive-cat}
-use Rattle.lists.proofs.Table.{length-table, getD-table}
+use Rattle.lists.proofs.Table.{length-table, getD-table, table-add}
 use Rattle.lists.proofs.Sum.{Σ-ext, Σ-within}
 
 module _ {ℓ} {A : Type ℓ} where
@@ -46,6 +46,12 @@ module _ {ℓ} {A : Type ℓ} where
           ∙ getD-append-add (cat n f) (f n) j d
           ∙ ap (λ k. getD (f k) j d) (sym same)
       go (inr m) ih = List·getD-append (cat n f) (f n) d place (rw length-cat (Σ-within n (λ k. length (f k)) i j (omega arith) l)) ∙ ih (omega arith) l
+
+  -- tables of n successive runs of values, run i of w i values, joined are the table of all
+  pub cat-runs : (n : ℕ) (w : ℕ → ℕ) (f : ℕ → A) → cat n (λ i. table (w i) (λ k. f (Σ i w + k))) ≡ table (Σ n w) f
+  unfolding cat table Σ
+  cat-runs zero w f = refl
+  cat-runs (suc n) w f = ap (λ l. l ++ table (w n) (λ k. f (Σ n w + k))) (cat-runs n w f) ∙ sym (table-add (Σ n w) (w n) f)
 
 -- n tables joined, table i with w i entries f i 0, f i 1, …
 module _ {ℓ} {A : Type ℓ} (n : ℕ) (w : ℕ → ℕ) (f : ℕ → ℕ → A) where

@@ -1,12 +1,12 @@
 -- Laws of `table`: its length, its elements, equal tables, its parts and one more element.
-use mathlib.Core.Path.{_≡_, refl, sym, ap, _∙_}
+use mathlib.Core.Path.{_≡_, refl, sym, ap, ap₂, _∙_}
 use mathlib.Core.List.{List, [], _∷_, _++_, map, map-append}
 use mathlib.Core.Logic.{_⊎_, inl, inr}
 use Prim.Native.Nat.{ℕ, zero, suc, _+_, _≤_, _<_}
 use native.Mathlib.Nat.{not-suc-le-zero, eq-or-lt-of-le}
 use native.Mathlib.Numerals.{add-one}
 use native.Mathlib.Omega.{arith}
-use lib.ListN.{length, getD, take, drop, length-append, length-take, length-drop, List·getD-append}
+use lib.ListN.{length, getD, take, drop, length-append, length-take, length-drop, take-append-drop, List·getD-append}
 use lib.Seq.{ext-getD, getD-at, getD-take, getD-drop}
 use Rattle.lists.specs.Table.{table}
 
@@ -61,6 +61,10 @@ module _ {ℓ} {A : Type ℓ} where
   pub drop-table : (m n : ℕ) (f : ℕ → A) → drop m (table (m + n) f) ≡ table n (λ i. f (m + i))
   drop-table m n f = is-table n (drop m (table (m + n) f)) (λ i. f (m + i)) (f 0) (length-drop m (table (m + n) f) ∙ rw length-table (omega arith))
       (λ i l. getD-drop m (table (m + n) f) i (f 0) ∙ getD-table (m + n) f (m + i) (f 0) (omega arith))
+
+  -- the first m entries and the n after them
+  pub table-add : (m n : ℕ) (f : ℕ → A) → table (m + n) f ≡ table m f ++ table n (λ i. f (m + i))
+  table-add m n f = sym (take-append-drop m (table (m + n) f)) ∙ ap₂ _++_ (take-table m (m + n) f (omega arith)) (drop-table m n f)
 
 module _ {ℓ κ} {A : Type ℓ} {B : Type κ} where
   -- a function applied to each entry
