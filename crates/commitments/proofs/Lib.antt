@@ -1,2 +1,4 @@
-pub mod Products
+pub mod Added
 pub mod Answers
+pub mod Products
+pub mod Formula

@@ -12,9 +12,10 @@ ghost use lib.ListN.{length};
 ghost use Rattle.lists.specs.Table.{table};
 ghost use Rattle.definitions.specs.Answer.{refused, ofProved};
 ghost use Rattle.protocol.specs.Checks.{require, first};
-ghost use Rattle.protocol.specs.Parameters.{parameters};
+ghost use Rattle.protocol.specs.Parameters.{three-words, parameters};
 ghost use Rattle.protocol.specs.Formulas.{norm-of};
-ghost use Rattle.commitments.specs.Cells.{entry-of, digits-at};
+ghost use Rattle.rq_matrix.specs.Region.{vector};
+ghost use Rattle.commitments.specs.Cells.{digits-at, Cells};
 
 // The places of the bounds of A, B, C and D.
 pub const BOUND_A: usize = 18;
@@ -28,7 +29,7 @@ pub const BOUND_D: usize = 27;
 // 13: the first of r vectors of n elements whose norm is above A's bound.
 pub fn check_witness(job: &[u32], witness: &[u32], at: usize, n: usize, r: usize) -> Proved
     requires { ⌜ (30 ≤ length (now job)) × (at + 64 * (r * n) ≤ length (now witness)) × (n ≤ 2 ^ 20) ⌝ }
-    ensures { λ result. ⌜ ofProved result ≡ first r (λ i. require (decLe (norm-of (table n (entry-of (now (witness .entry)) at n i))) (parameters (now (job .entry)) .bound-A)) (refused 13 i)) ⌝ }
+    ensures { λ result. ⌜ ofProved result ≡ first r (λ i. require (decLe (norm-of (table n (vector (now (witness .entry)) at n i))) (parameters (now (job .entry)) .bound-A)) (refused 13 i)) ⌝ }
 {
     let step = 64 * n;
     let mut place = at;
@@ -45,38 +46,35 @@ pub fn check_witness(job: &[u32], witness: &[u32], at: usize, n: usize, r: usize
     Proved::Made
 }
 
+// Whether the norm of the digits is at most the job's bound at a place.
+fn digits_within(job: &[u32], bound_at: usize, from: &[u32], d: Digits, base: u32) -> bool
+    requires { ⌜ («bound_at» + 3 ≤ length (now job)) × Cells (now from) d × (1 < base) ⌝ }
+    ensures { λ r. ⌜ r ≡ leb (norm-of (digits-at (now (from .entry)) d base)) (three-words (now (job .entry)) «bound_at») ⌝ }
+{
+    let total = norm::digits_norm(from, d.at, d.cells, base, d.parts);
+    bound::within(total, job, bound_at)
+}
+
 // 14: whether the norm of the digits of t is at most B's bound.
 pub fn t_within(job: &[u32], from: &[u32], t: Digits, base: u32) -> bool
-    requires { ⌜ (30 ≤ length (now job)) × (t .at + 64 * t .cells ≤ length (now from)) × (1 < base) × (t .parts ≤ 32) × (t .cells ≤ 2 ^ 20) ⌝ }
-    ensures { λ r. ⌜ r ≡ leb (norm-of (digits-at (now (from .entry)) (t .at) (t .cells) base (t .parts))) (parameters (now (job .entry)) .bound-B) ⌝ }
+    requires { ⌜ (30 ≤ length (now job)) × Cells (now from) t × (1 < base) ⌝ }
+    ensures { λ r. ⌜ r ≡ leb (norm-of (digits-at (now (from .entry)) t base)) (parameters (now (job .entry)) .bound-B) ⌝ }
 {
-    bound::within(
-        norm::digits_norm(from, t.at, t.cells, base, t.parts),
-        job,
-        BOUND_B,
-    )
+    digits_within(job, BOUND_B, from, t, base)
 }
 
 // 15: whether the norm of the digits of g is at most C's bound.
 pub fn g_within(job: &[u32], from: &[u32], g: Digits, base: u32) -> bool
-    requires { ⌜ (30 ≤ length (now job)) × (g .at + 64 * g .cells ≤ length (now from)) × (1 < base) × (g .parts ≤ 32) × (g .cells ≤ 2 ^ 20) ⌝ }
-    ensures { λ r. ⌜ r ≡ leb (norm-of (digits-at (now (from .entry)) (g .at) (g .cells) base (g .parts))) (parameters (now (job .entry)) .bound-C) ⌝ }
+    requires { ⌜ (30 ≤ length (now job)) × Cells (now from) g × (1 < base) ⌝ }
+    ensures { λ r. ⌜ r ≡ leb (norm-of (digits-at (now (from .entry)) g base)) (parameters (now (job .entry)) .bound-C) ⌝ }
 {
-    bound::within(
-        norm::digits_norm(from, g.at, g.cells, base, g.parts),
-        job,
-        BOUND_C,
-    )
+    digits_within(job, BOUND_C, from, g, base)
 }
 
 // 16: whether the norm of the digits of h is at most D's bound.
 pub fn h_within(job: &[u32], from: &[u32], h: Digits, base: u32) -> bool
-    requires { ⌜ (30 ≤ length (now job)) × (h .at + 64 * h .cells ≤ length (now from)) × (1 < base) × (h .parts ≤ 32) × (h .cells ≤ 2 ^ 20) ⌝ }
-    ensures { λ r. ⌜ r ≡ leb (norm-of (digits-at (now (from .entry)) (h .at) (h .cells) base (h .parts))) (parameters (now (job .entry)) .bound-D) ⌝ }
+    requires { ⌜ (30 ≤ length (now job)) × Cells (now from) h × (1 < base) ⌝ }
+    ensures { λ r. ⌜ r ≡ leb (norm-of (digits-at (now (from .entry)) h base)) (parameters (now (job .entry)) .bound-D) ⌝ }
 {
-    bound::within(
-        norm::digits_norm(from, h.at, h.cells, base, h.parts),
-        job,
-        BOUND_D,
-    )
+    digits_within(job, BOUND_D, from, h, base)
 }

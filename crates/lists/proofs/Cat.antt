@@ -54,6 +54,12 @@ module _ {ℓ} {A : Type ℓ} where
   table-rows (suc m) n f =
       ap (λ k. table k f) (suc-mul m n) ∙ table-split (m * n) n f ∙ ap (λ l. l ++ table n (λ j. f (m * n + j))) (table-rows m n f)
 
+  -- tables of n successive runs of values, run i of w i values, joined are the table of all
+  pub cat-runs : (n : ℕ) (w : ℕ → ℕ) (f : ℕ → A) → cat n (λ i. table (w i) (λ k. f (Σ i w + k))) ≡ table (Σ n w) f
+  unfolding cat table Σ
+  cat-runs zero w f = refl
+  cat-runs (suc n) w f = ap (λ l. l ++ table (w n) (λ k. f (Σ n w + k))) (cat-runs n w f) ∙ sym (table-split (Σ n w) (w n) f)
+
 -- n tables joined, table i with w i entries f i 0, f i 1, …
 module _ {ℓ} {A : Type ℓ} (n : ℕ) (w : ℕ → ℕ) (f : ℕ → ℕ → A) where
   -- the number of all entries

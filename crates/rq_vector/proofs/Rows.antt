@@ -6,7 +6,7 @@ use native.Mathlib.Nat.{zero-add, mod-eq-of-lt}
 use native.Mathlib.Decide.{decLt}
 use native.Mathlib.Omega.{arith}
 use Rattle.lists.specs.Table.{table}
-use Rattle.lists.proofs.Table.{table-ext}
+use Rattle.lists.proofs.Table.{table-ext, getD-table}
 use Rattle.definitions.specs.Zq.{Q, Canonical, size}
 use Rattle.definitions.specs.Digits.{sizeAfter, digit}
 use Rattle.definitions.specs.Rq.{coeff, digitRow}
@@ -14,9 +14,13 @@ use Rattle.definitions.specs.Ring.{words, element}
 use Rattle.definitions.proofs.Digits.{stays-zero, digit-zero}
 use Rattle.protocol.specs.Formulas.{digit-element}
 use Rattle.protocol.proofs.Norms.{words-digit}
-use Rattle.rq_vector.proofs.Region.{coeff-element}
 
--- what is said of each word
+-- a coefficient of the element of a list
+pub coeff-element : (a : List ℕ) (j : ℕ) → j < 64 → coeff (words (element a)) j ≡ coeff a j % Q
+unfolding element
+coeff-element a j h = getD-table 64 (λ k. coeff a k % Q) j 0 h
+
+-- the coefficients are words
 abbrev pub AllFit : List ℕ → Type 0
 AllFit a = (j : ℕ) → j < 64 → coeff a j < 2 ^ 32
 

@@ -1,6 +1,5 @@
 // The digits of an element of a slice, a row at a time from the sizes that go on.
-use rq::digits::sizes_of;
-use rq::digits::take_row;
+use rq::digits;
 use rq::rq::Rq;
 ghost use mathlib.Core.Path.{_≡_};
 ghost use Prim.Native.Nat.{_+_, _*_, _≤_, _<_};
@@ -16,11 +15,11 @@ pub fn decompose_to(from: &[u32], at: usize, base: u32, parts: usize, to: &mut [
     ensures { λ _. ⌜ now (to .exit) ≡ splice (now (to .entry)) «to_at» (flat (table parts (digit-element base (element (part (now (from .entry)) at 64))))) ⌝ }
 {
     let a = words::load(from, at).coeffs;
-    let mut sizes = sizes_of(a);
+    let mut sizes = digits::sizes_of(a);
     let mut place = to_at;
     let mut k = 0;
     while k < parts {
-        let taken = take_row(a, base, sizes);
+        let taken = digits::take_row(a, base, sizes);
         let row = taken.row;
         let next = taken.sizes;
         words::store(to, place, Rq { coeffs: row });

@@ -1,7 +1,6 @@
 // Squared norms of runs of elements, and of their digits, which are not stored.
 use definitions::answers::U128;
-use rq::digits::sizes_of;
-use rq::digits::take_row;
+use rq::digits;
 ghost use mathlib.Core.Path.{_≡_};
 ghost use Prim.Native.Nat.{_+_, _*_, _≤_, _<_, _^_};
 ghost use lib.ListN.{length};
@@ -27,10 +26,10 @@ pub fn add_digits_norm(sum: U128, a: [u32; 64], base: u32, parts: usize) -> U128
     ensures { λ r. ⌜ (value128 r ≡ value128 sum + Σ parts (λ q. norm (digitRow base a q))) × (r .hi ≤ sum .hi + 64 * parts) ⌝ }
 {
     let mut total = sum;
-    let mut sizes = sizes_of(a);
+    let mut sizes = digits::sizes_of(a);
     let mut k = 0;
     while k < parts {
-        let taken = take_row(a, base, sizes);
+        let taken = digits::take_row(a, base, sizes);
         let row = taken.row;
         let next = taken.sizes;
         total = norms::add_norm(total, &row, 0, 64);

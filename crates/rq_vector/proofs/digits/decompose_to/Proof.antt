@@ -1,6 +1,5 @@
 -- `decompose_to` meets its contract. The invariant: the sizes are those after k digits, and the first k rows are stored.
 use mathlib.Core.Path.{_≡_, refl, sym, _∙_, ap}
-use mathlib.Core.List.{flatMap}
 use Prim.Native.Nat.{_+_, _-_, _*_, _≤_, _<_}
 use native.Mathlib.Omega.{arith}
 use borrow.Author.Needs.{needs}
@@ -9,11 +8,11 @@ use mir.Val.{Fits}
 use mir.Syntax.{w32}
 use Rattle.lists.specs.Table.{table}
 use Rattle.lists.specs.Part.{part, splice}
-use Rattle.lists.proofs.Splice.{length-splice, splice-nil}
+use Rattle.lists.proofs.Splice.{length-splice}
 use Rattle.definitions.specs.Ring.{element}
 use Rattle.protocol.specs.Formulas.{flat, digit-element}
+use Rattle.protocol.proofs.Stored.{stored-none, stored-next}
 use Rattle.rq.proofs.Sizes.{sizesAfter, sizes-first, sizes-next, row-is}
-use Rattle.rq_vector.proofs.Region.{store-next}
 use Rattle.rq_vector.proofs.Rows.{AllFit, row-words}
 use Rattle.rq_vector.proofs.digits.decompose_to.Statement.{statement}
 use Rattle.rq_vector.proofs.digits.decompose_to.Tie as tie
@@ -30,8 +29,7 @@ abbrev μ-loop : tie.MeasureT-loop
 μ-loop from at base parts to₀ to-at a sizes₀ place₀ k₀ to sizes place k = parts - k
 
 loop-holds : tie.Need-loop-holds Inv-loop μ-loop
-unfolding table flat flatMap
-loop-holds c = (omega arith, omega arith, sizes-first _ _ _ (c .sizes-of .ensures), sym (splice-nil _ _), refl)
+loop-holds c = (omega arith, omega arith, sizes-first _ _ _ (c .sizes-of .ensures), stored-none _ _ _, refl)
 
 loop-again : tie.Need-loop-again Inv-loop μ-loop
 loop-again c =
@@ -46,9 +44,8 @@ loop-again c =
       omega arith,
       sizes-next (s .base) a (l .sizes) (taken .result .sizes) (l .k) (l .inv .2) (taken .ensures .1),
       e
-          ∙ ap (λ w. splice w (l .place) (taken .result .row)) (l .inv .3)
-          ∙ ap (λ p. splice (splice (s .to .now) (s .to-at) (flat (table (l .k) (digit-element (s .base) (element a))))) p (taken .result .row)) (l .inv .1)
-          ∙ store-next (s .to .now) (s .to-at) (l .k) (digit-element (s .base) (element a)) (taken .result .row) row,
+          ∙ ap (λ p. splice (l .to) p (taken .result .row)) (l .inv .1)
+          ∙ stored-next (s .to .now) (l .to) (s .to-at) (l .k) (digit-element (s .base) (element a)) (taken .result .row) (l .inv .3) row,
       ap length e ∙ length-splice _ _ _ ∙ l .inv .4,
     )
 

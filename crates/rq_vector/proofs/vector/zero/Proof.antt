@@ -1,17 +1,16 @@
 -- `zero` meets its contract. The invariant: the first k elements are zero.
 use mathlib.Core.Path.{_≡_, refl, sym, _∙_, ap}
-use mathlib.Core.List.{flatMap}
 use Prim.Native.Nat.{_+_, _-_, _*_, _≤_}
 use native.Mathlib.Omega.{arith}
 use borrow.Author.Needs.{needs}
 use lib.ListN.{length}
 use Rattle.lists.specs.Table.{table}
 use Rattle.lists.specs.Part.{splice}
-use Rattle.lists.proofs.Splice.{length-splice, splice-nil}
+use Rattle.lists.proofs.Splice.{length-splice}
 use Rattle.definitions.specs.Ring.{RqOps}
 use Rattle.definitions.proofs.Bridge.{words-nil}
 use Rattle.protocol.specs.Formulas.{flat}
-use Rattle.rq_vector.proofs.Region.{store-next}
+use Rattle.protocol.proofs.Stored.{stored-none, stored-next}
 use Rattle.rq_vector.proofs.vector.zero.Statement.{statement}
 use Rattle.rq_vector.proofs.vector.zero.Tie as tie
 
@@ -23,8 +22,7 @@ abbrev μ-loop : tie.MeasureT-loop
 μ-loop out₀ at count place₀ k₀ out place k = count - k
 
 loop-holds : tie.Need-loop-holds Inv-loop μ-loop
-unfolding table flat flatMap
-loop-holds c = (omega arith, omega arith, sym (splice-nil _ _), refl)
+loop-holds c = (omega arith, omega arith, stored-none _ _ _, refl)
 
 loop-again : tie.Need-loop-again Inv-loop μ-loop
 loop-again c =
@@ -35,9 +33,8 @@ loop-again c =
       omega arith,
       omega arith,
       e
-          ∙ ap (λ w. splice w (l .place) (none .result .coeffs)) (l .inv .2)
-          ∙ ap (λ p. splice (splice (s .out .now) (s .at) (flat (table (l .k) (λ i. RqOps .nil)))) p (none .result .coeffs)) (l .inv .1)
-          ∙ store-next (s .out .now) (s .at) (l .k) (λ i. RqOps .nil) (none .result .coeffs) (none .ensures ∙ sym words-nil),
+          ∙ ap (λ p. splice (l .out) p (none .result .coeffs)) (l .inv .1)
+          ∙ stored-next (s .out .now) (l .out) (s .at) (l .k) (λ i. RqOps .nil) (none .result .coeffs) (l .inv .2) (none .ensures ∙ sym words-nil),
       ap length e ∙ length-splice _ _ _ ∙ l .inv .3,
     )
 

@@ -1,0 +1,127 @@
+-- What the commitments store and what the norm tests answer is what the protocol's formulas say.
+use mathlib.Core.Path.{_≡_, refl, sym, _∙_, ap, ap₂, fun-ext}
+use mathlib.Core.Bool.{cond}
+use mathlib.Core.List.{List, flatMap}
+use Prim.Native.Nat.{ℕ, _+_, _*_, _≤_, _<_}
+use native.Mathlib.Decide.{decLe}
+use native.Mathlib.Omega.{arith}
+use lib.Dec.{leb}
+use lib.ListN.{length}
+use Rattle.lists.specs.Table.{table}
+use Rattle.lists.proofs.Table.{is-table, table-ext}
+use Rattle.lists.proofs.Sum.{Σ-const, Σ-triangle}
+use Rattle.lists.proofs.Cat.{cat-ext, cat-runs}
+use Rattle.definitions.specs.Answer.{Answer, fine, refused}
+use Rattle.definitions.specs.Rq.{Element}
+use Rattle.definitions.specs.Ring.{RqOps}
+use Rattle.inner_product.specs.Run.{run}
+use Rattle.protocol.specs.Checks.{require, first}
+use Rattle.protocol.specs.Parameters.{Parameters, parameters, triangular, T}
+use Rattle.protocol.specs.Layout.{start, job-sections, witness-sections, transcript-sections}
+use Rattle.protocol.specs.Views.{Public, public, witness, cell, Message, message}
+use Rattle.protocol.specs.Formulas as F
+use Rattle.protocol.specs.Formulas.{_⊕_, dot, flat, norm-of, rows, triangle, digit-element, digits-of, times, t-digits, g-digits, h-digits}
+use Rattle.protocol.specs.Prover.{witness-norm, t-norm, g-norm, h-norm}
+use Rattle.protocol.specs.Verifier.{z-parts}
+use Rattle.protocol.proofs.Flat.{cell-lower, element-of-flat}
+use Rattle.rq_matrix.specs.Region.{vector, Holds}
+use Rattle.commitments.specs.declared.outer_commitments.Digits.{Digits}
+use Rattle.commitments.specs.Cells.{digits-at}
+use Rattle.commitments.proofs.Answers.{require-leb}
+
+-- r rows of m of the elements f 0, f 1, … are all of them
+pub rows-table : (r m : ℕ) (f : ℕ → Element) → rows r m (λ i k. f (i * m + k)) ≡ table (r * m) f
+unfolding rows
+rows-table r m f =
+    cat-ext r (λ i. table m (λ k. f (i * m + k))) (λ i. table m (λ k. f (_ + k))) (λ i h. ap (λ n. table m (λ k. f (n + k))) (sym (Σ-const i m)))
+    ∙ cat-runs r (λ i. m) f
+    ∙ ap (λ n. table n f) (Σ-const r m)
+
+-- a triangle of r rows of the elements f 0, f 1, … is all of them
+pub triangle-table : (r : ℕ) (f : ℕ → Element) → triangle r (λ i j. f (cell i j)) ≡ table (triangular r) f
+unfolding triangle
+triangle-table r f =
+    cat-ext r (λ i. table (i + 1) (λ j. f (cell i j))) (λ i. table (i + 1) (λ k. f (_ + k)))
+    (λ i h. table-ext (i + 1) (λ j. f (cell i j)) (λ k. f (_ + k)) (λ j l. ap f (cell-lower i j (omega arith) ∙ ap (λ n. n + j) (sym (Σ-triangle i)))))
+    ∙ cat-runs r (λ i. i + 1) f
+    ∙ ap (λ n. table n f) (Σ-triangle r)
+
+-- the elements that a region holds, read one after the other
+pub held : (ws : List ℕ) (at n : ℕ) (es : List Element) → Holds ws at es → length es ≡ n → table n (run ws at 64) ≡ es
+held ws at n es holds e = sym (is-table n es (run ws at 64) (RqOps .nil) e (λ i h. sym (element-of-flat ws at es i (RqOps .nil) holds (rw e h))))
+
+-- the digits of cells from a place on
+abbrev pub digits : ℕ → ℕ → ℕ → Digits
+digits at cells parts = record { at = at; cells = cells; parts = parts }
+
+module _ (J R : List ℕ) where
+  open Parameters (parameters J) using (n, r, κ, κ₁, κ₂, b, t₁, t₂, bound-A, bound-B, bound-C, bound-D)
+
+  -- the places of the job's sections
+  abbrev at : ℕ → ℕ
+  at m = 30 + start (job-sections (parameters J)) m
+
+  module _ (W : List ℕ) where
+    -- t, as `commit_all` stores it
+    pub t-is : (λ i k. dot n (vector J (at 6) n k) (vector W (start (witness-sections (parameters J)) 0) n i)) ≡ F.t (public J R) (witness (parameters J) W)
+    unfolding F.t
+    t-is = refl
+
+    -- 13, as `check_witness` answers it
+    pub witness-norm-is : first r (λ i. require (decLe (norm-of (table n (vector W (start (witness-sections (parameters J)) 0) n i))) bound-A) (refused 13 i)) ≡ witness-norm (public J R) (witness (parameters J) W)
+    unfolding witness-norm
+    witness-norm-is = refl
+
+  -- cells of t, g and h in a slice
+  module _ (S : List ℕ) where
+    -- u1, as `compute_u1` stores it
+    pub u₁-is : (t-at g-at : ℕ) (t g : ℕ → ℕ → Element) → table (r * κ) (run S t-at 64) ≡ rows r κ t → table (triangular r) (run S g-at 64) ≡ triangle r g
+        → (λ k. times (vector J (at 7) (r * κ * t₁)) (digits-at S (digits t-at (r * κ) t₁) b) k ⊕ times (vector J (at 8) (triangular r * t₂)) (digits-at S (digits g-at (triangular r) t₂) b) k) ≡ F.u₁-of (public J R) t g
+    unfolding F.u₁-of
+    u₁-is t-at g-at t g e e′ =
+        ap₂ (λ x y k. times (vector J (at 7) (r * κ * t₁)) (digits-of b t₁ x) k ⊕ times (vector J (at 8) (triangular r * t₂)) (digits-of b t₂ y) k) e e′
+
+    -- u2, as `compute_u2` stores it
+    pub u₂-is : (h-at : ℕ) (h : ℕ → ℕ → Element) → table (triangular r) (run S h-at 64) ≡ triangle r h
+        → times (vector J (at 9) (triangular r * t₁)) (digits-at S (digits h-at (triangular r) t₁) b) ≡ F.u₂-of (public J R) h
+    unfolding F.u₂-of
+    u₂-is h-at h e = ap (λ x k. times (vector J (at 9) (triangular r * t₁)) (digits-of b t₁ x) k) e
+
+    -- 14, as `t_within` answers it
+    pub t-norm-is : (t-at : ℕ) (t : ℕ → ℕ → Element) → table (r * κ) (run S t-at 64) ≡ rows r κ t
+        → t-norm (public J R) t ≡ cond (leb (norm-of (digits-at S (digits t-at (r * κ) t₁) b)) bound-B) fine (refused 14 0)
+    unfolding t-norm
+    t-norm-is t-at t e = require-leb (norm-of (t-digits (public J R) t)) bound-B (refused 14 0) ∙ ap (λ x. cond (leb (norm-of (digits-of b t₁ x)) bound-B) fine (refused 14 0)) (sym e)
+
+    -- 15, as `g_within` answers it
+    pub g-norm-is : (g-at : ℕ) (g : ℕ → ℕ → Element) → table (triangular r) (run S g-at 64) ≡ triangle r g
+        → g-norm (public J R) g ≡ cond (leb (norm-of (digits-at S (digits g-at (triangular r) t₂) b)) bound-C) fine (refused 15 0)
+    unfolding g-norm
+    g-norm-is g-at g e = require-leb (norm-of (g-digits (public J R) g)) bound-C (refused 15 0) ∙ ap (λ x. cond (leb (norm-of (digits-of b t₂ x)) bound-C) fine (refused 15 0)) (sym e)
+
+    -- 16, as `h_within` answers it
+    pub h-norm-is : (h-at : ℕ) (h : ℕ → ℕ → Element) → table (triangular r) (run S h-at 64) ≡ triangle r h
+        → h-norm (public J R) h ≡ cond (leb (norm-of (digits-at S (digits h-at (triangular r) t₁) b)) bound-D) fine (refused 16 0)
+    unfolding h-norm
+    h-norm-is h-at h e = require-leb (norm-of (h-digits (public J R) h)) bound-D (refused 16 0) ∙ ap (λ x. cond (leb (norm-of (digits-of b t₁ x)) bound-D) fine (refused 16 0)) (sym e)
+
+  -- a transcript's words
+  module _ (X : List ℕ) where
+    open Message (message (parameters J) X) using (z, t, g, h)
+
+    -- its cells of t
+    pub t-cells : table (r * κ) (run X (start (transcript-sections (parameters J)) 5) 64) ≡ rows r κ t
+    t-cells = sym (rows-table r κ (run X (start (transcript-sections (parameters J)) 5) 64))
+
+    -- its cells of g
+    pub g-cells : table (triangular r) (run X (start (transcript-sections (parameters J)) 6) 64) ≡ triangle r g
+    g-cells = sym (triangle-table r (run X (start (transcript-sections (parameters J)) 6) 64))
+
+    -- its cells of h
+    pub h-cells : table (triangular r) (run X (start (transcript-sections (parameters J)) 7) 64) ≡ triangle r h
+    h-cells = sym (triangle-table r (run X (start (transcript-sections (parameters J)) 7) 64))
+
+    -- the two digits of each element of z
+    pub z-digits : digits-at X (digits (start (transcript-sections (parameters J)) 4) n 2) b ≡ flatMap (z-parts (public J R) (message (parameters J) X)) (table n z)
+    unfolding digits-of table
+    z-digits = refl
