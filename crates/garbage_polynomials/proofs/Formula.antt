@@ -14,9 +14,9 @@ use Rattle.protocol.specs.Layout.{start, witness-sections}
 use Rattle.protocol.specs.Views.{Public, public, witness}
 use Rattle.protocol.specs.Formulas as F
 use Rattle.protocol.specs.Formulas.{_⊕_, dot, rows, triangle}
-use Rattle.rq_matrix.specs.Region.{vector, Holds}
+use Rattle.rq_matrix.specs.Region.{vector, gram, Holds}
 use Rattle.rq_matrix.proofs.Holds.{read-rows}
-use Rattle.garbage_polynomials.specs.Garbage.{g-of, h-of}
+use Rattle.garbage_polynomials.specs.Garbage.{h-of}
 
 -- cells that agree below the diagonal and on it give equal triangles
 pub triangle-ext : (r : ℕ) (f g : ℕ → ℕ → Element) → ((i j : ℕ) → i < r → j < r → f i j ≡ g i j) → triangle r f ≡ triangle r g
@@ -28,7 +28,7 @@ module _ (J R W : List ℕ) where
   open Parameters P using (n, r)
 
   -- g of the witness
-  pub g-formula : triangle r (g-of W (start (witness-sections P) 0) n) ≡ triangle r (F.g (public J R) (witness P W))
+  pub g-formula : triangle r (gram W (start (witness-sections P) 0) n) ≡ triangle r (F.g (public J R) (witness P W))
   unfolding F.g
   g-formula = refl
 

@@ -9,7 +9,7 @@ use Rattle.algebra.proofs.Form.{pairs-ext}
 use Rattle.definitions.specs.Rq.{Element}
 use Rattle.definitions.specs.Ring.{RqOps, scale}
 use Rattle.inner_product.specs.Run.{run}
-use Rattle.protocol.specs.Parameters.{Parameters, parameters, T}
+use Rattle.protocol.specs.Parameters.{Parameters, T}
 use Rattle.protocol.specs.Layout.{start, job-sections, transcript-sections}
 use Rattle.protocol.specs.Views.{Public, Message, public, message, element-at}
 use Rattle.protocol.specs.Formulas as F
@@ -32,16 +32,18 @@ module _ (J R : List ℕ) where
   open Public (public J R) using (P, alpha, beta, psi)
   open Parameters P using (r, K, L, l)
 
-  -- cell p of the aggregated triangle a
-  a-cell : ℕ → Element
-  a-cell p =
-      sum K (λ k. alpha k ⊗ element-at J (30 + start (job-sections P) 3) (k * T P + p))
-      ⊕ sum L (λ k. beta k ⊗ sum l (λ x. scale (element-at J (30 + start (job-sections P) 0) (x * T P + p)) (psi k x)))
+  -- a″ is the same mirrored
+  pub a″-symmetric : (k i j : ℕ) → F.a″ (public J R) k i j ≡ F.a″ (public J R) k j i
+  unfolding F.a″
+  a″-symmetric k i j = ap (λ p. sum l (λ x. scale (element-at J (30 + start (job-sections P) 0) (x * T P + p)) (psi k x))) (cell-mirrored i j)
 
   -- the aggregated a is the same mirrored
   pub a-symmetric : (i j : ℕ) → F.a-sum (public J R) i j ≡ F.a-sum (public J R) j i
-  unfolding F.a-sum F.a″ a-cell
-  a-symmetric i j = ap a-cell (cell-mirrored i j)
+  unfolding F.a-sum
+  a-symmetric i j =
+      ap₂ _⊕_
+      (ap (λ p. sum K (λ k. alpha k ⊗ element-at J (30 + start (job-sections P) 3) (k * T P + p))) (cell-mirrored i j))
+      (sum-ext RqOps L (λ k. beta k ⊗ F.a″ (public J R) k i j) (λ k. beta k ⊗ F.a″ (public J R) k j i) (λ k h. ap (λ e. beta k ⊗ e) (a″-symmetric k i j)))
 
 module _ (J R X : List ℕ) where
   open Public (public J R) using (P, A, c)

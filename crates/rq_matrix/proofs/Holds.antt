@@ -1,11 +1,11 @@
 -- What is read from a region that holds a table, rows or a triangle of elements, and what keeps a region as it is.
-use mathlib.Core.Path.{_≡_, ap, _∙_}
-use mathlib.Core.Logic.{_⊎_, inl, inr}
+use mathlib.Core.Path.{_≡_, _∙_}
+use mathlib.Core.Logic.{inl, inr}
 use mathlib.Core.List.{List}
 use Prim.Native.Nat.{ℕ, _+_, _*_, _≤_, _<_}
 use lib.ListN.{length}
 use Rattle.lists.specs.Table.{table}
-use Rattle.lists.specs.Part.{part, splice}
+use Rattle.lists.specs.Part.{splice}
 use Rattle.lists.proofs.Table.{length-table, getD-table}
 use Rattle.lists.proofs.Splice.{part-splice-before, part-splice-after, part-splice-same}
 use Rattle.definitions.specs.Rq.{Element}

@@ -14,6 +14,10 @@ use Rattle.protocol.specs.Formulas.{_⊕_, _⊗_, dot, flat}
 abbrev pub vector : List ℕ → ℕ → ℕ → ℕ → ℕ → Element
 vector words at n i m = run words at 64 (i * n + m)
 
+-- the inner product of vectors i and j
+abbrev pub gram : List ℕ → ℕ → ℕ → ℕ → ℕ → Element
+gram words at n i j = dot n (vector words at n i) (vector words at n j)
+
 -- cell (i, j) of a triangle, mirrored above the diagonal
 abbrev pub triangle-at : List ℕ → ℕ → ℕ → ℕ → Element
 triangle-at words at i j = run words at 64 (cell i j)
