@@ -4,4 +4,6 @@ pub mod Sum
 pub mod Part
 pub mod Splice
 pub mod Cat
+pub mod Prefix
 pub mod Additive
+pub mod Fill

@@ -11,4 +11,13 @@ pub mod ChecksAreConditions
 pub mod Corollary
 pub mod ReadBack
 pub mod Accepted
+pub mod Then
+pub mod Prefix
+pub mod Alike
+pub mod Handed
+pub mod Rounds
+pub mod Total
 pub mod Demand3
+pub mod Stored
+pub mod Region
+pub mod Examples

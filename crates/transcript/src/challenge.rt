@@ -7,7 +7,7 @@ ghost use Prim.Native.Nat.{_+_, _%_, _<_, _≤_};
 ghost use lib.Dec.{eqb};
 ghost use lib.ListN.{length};
 ghost use Rattle.definitions.specs.Zq.{zneg};
-ghost use Rattle.definitions.specs.Challenge.{startSize, startCoeff, start, shuffle, challenge};
+ghost use Rattle.definitions.specs.Challenge.{startSize, start, shuffle, challenge};
 
 // The size of coefficient k before the shuffle.
 fn start_size(k: usize) -> u32

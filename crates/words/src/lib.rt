@@ -1,7 +1,8 @@
 // Elements and runs of words in lent slices. A slice is passed whole, with the place of what is read or written.
 use rq::rq::Rq;
 ghost use mathlib.Core.Path.{_≡_};
-ghost use Prim.Native.Nat.{_+_, _≤_};
+ghost use mathlib.Core.List.{_∷_};
+ghost use Prim.Native.Nat.{_+_, _≤_, _<_, _^_};
 ghost use lib.ListN.{length, replicate};
 ghost use Rattle.lists.specs.Part.{part, splice};
 
@@ -40,14 +41,31 @@ pub fn copy(to: &mut [u32], at: usize, from: &[u32], start: usize, count: usize)
     }
 }
 
+// `count` words from `at` on set to zero.
+pub fn clear_run(words: &mut [u32], at: usize, count: usize)
+    requires { ⌜ at + count ≤ length (now words) ⌝ }
+    ensures { λ _. ⌜ now (words .exit) ≡ splice (now (words .entry)) at (replicate count 0) ⌝ }
+{
+    let mut k = 0;
+    while k < count {
+        words[at + k] = 0;
+        k += 1;
+    }
+}
+
 // The first `count` words set to zero.
 pub fn clear(words: &mut [u32], count: usize)
     requires { ⌜ count ≤ length (now words) ⌝ }
     ensures { λ _. ⌜ now (words .exit) ≡ splice (now (words .entry)) 0 (replicate count 0) ⌝ }
 {
-    let mut k = 0;
-    while k < count {
-        words[k] = 0;
-        k += 1;
-    }
+    clear_run(words, 0, count)
+}
+
+// A section: its count, then its words, `count` words of `from` from `start` on.
+pub fn put_section(to: &mut [u32], at: usize, from: &[u32], start: usize, count: usize)
+    requires { ⌜ (at + 1 + count ≤ length (now to)) × (start + count ≤ length (now from)) × (count < 2 ^ 32) ⌝ }
+    ensures { λ _. ⌜ now (to .exit) ≡ splice (now (to .entry)) at (count ∷ part (now (from .entry)) start count) ⌝ }
+{
+    to[at] = count as u32;
+    copy(to, at + 1, from, start, count);
 }

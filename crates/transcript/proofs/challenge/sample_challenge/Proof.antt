@@ -1,5 +1,5 @@
 -- `sample_challenge` meets its contract.
-use mathlib.Core.Path.{_≡_, _∙_, ap}
+use mathlib.Core.Path.{_∙_, ap}
 use borrow.Author.Needs.{needs}
 use Rattle.definitions.specs.Challenge.{shuffle, challenge}
 use Rattle.transcript.proofs.challenge.sample_challenge.Statement.{statement}

@@ -1,13 +1,13 @@
 -- `start_coefficients` meets its contract. The invariant: the first k coefficients are the definition's, and the later ones zero.
-use mathlib.Core.Path.{_≡_, refl, sym, _∙_, ap}
+use mathlib.Core.Path.{_≡_, refl, _∙_, ap}
 use mathlib.Core.Bool.{Bool, true, false, cond}
 use mathlib.Core.List.{List}
-use Prim.Native.Nat.{ℕ, _-_, _≤_, _<_}
+use Prim.Native.Nat.{ℕ, _-_, _≤_}
 use native.Mathlib.Omega.{arith}
-use borrow.Author.Tests.{lt-ltb, le-ltb}
+use borrow.Author.Tests.{le-ltb}
 use lib.Dec.{ltb, eqb}
 use lib.ListN.{getD}
-use Rattle.lists.specs.Table.{table, padded}
+use Rattle.lists.specs.Table.{padded}
 use Rattle.lists.proofs.Table.{table-ext}
 use Rattle.lists.proofs.Padded.{padded-none, padded-next}
 use Rattle.definitions.specs.Zq.{zneg}

@@ -1,0 +1,4 @@
+mod Stages
+mod Found
+mod Refusals
+pub mod Ready

@@ -1,0 +1,5 @@
+mod Walk
+mod Search
+pub mod Then
+pub mod Spans
+pub mod Laid

@@ -1,0 +1,2 @@
+mod First
+pub mod Limits

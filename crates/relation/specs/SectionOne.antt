@@ -1,0 +1,50 @@
+-- What section one is found to be.
+use mathlib.Core.Path.{_≡_}
+use mathlib.Core.List.{List}
+use Prim.Native.Nat.{ℕ, _+_, _≤_}
+use lib.ListN.{length, getD}
+use Rattle.definitions.specs.Answer.{Answer, fine, ofRefusal, _then_}
+use Rattle.definitions.specs.Leaf.{limited}
+use Rattle.protocol.specs.Parameters.{Parameters, parameters, limits, kappa-is-L}
+use Rattle.protocol.specs.Layout.{counted, first-section}
+use Rattle.relation.specs.declared.section_one.SectionOne.{SectionOne}
+use Rattle.relation.specs.declared.section_one.SectionOne.the-variants as S
+use Rattle.relation.specs.Parameters.{parametersOf}
+
+-- "section one by 3, then 4, 5": the first tests of the job
+abbrev pub section-one : List ℕ → Answer
+section-one J = counted 3 J 0 first-section then limits (parameters J) then kappa-is-L (parameters J)
+
+-- the test of parameter k, of lists of least and greatest values
+abbrev pub limit-at : List ℕ → List ℕ → List ℕ → ℕ → Answer
+limit-at least greatest J k = limited (getD least k 0) (getD greatest k 0) (k + 1) (getD J (k + 1) 0)
+
+abbrev pub ofSectionOne : SectionOne → Answer
+ofSectionOne (S.Refused r) = ofRefusal r
+ofSectionOne (S.Read p) = fine
+
+-- what is read are the job's parameters
+abbrev pub Reads : List ℕ → SectionOne → Type 0
+Reads J (S.Refused r) = Unit {0}
+Reads J (S.Read p) = parametersOf p ≡ parameters J
+
+-- parameters within their limits
+pub record Within (P : Parameters) : Type 0 where
+  pub n : (1 ≤ P .n) × (P .n ≤ 64)
+  pub r : (1 ≤ P .r) × (P .r ≤ 16)
+  pub κ : (1 ≤ P .κ) × (P .κ ≤ 16)
+  pub κ₁ : (1 ≤ P .κ₁) × (P .κ₁ ≤ 16)
+  pub κ₂ : (1 ≤ P .κ₂) × (P .κ₂ ≤ 16)
+  pub K : (1 ≤ P .K) × (P .K ≤ 64)
+  pub l : (1 ≤ P .l) × (P .l ≤ 64)
+  pub log-q : (16 ≤ P .log-q) × (P .log-q ≤ 32)
+  pub b : (2 ≤ P .b) × (P .b ≤ 4294967294)
+  pub t₁ : (1 ≤ P .t₁) × (P .t₁ ≤ 32)
+  pub t₂ : (1 ≤ P .t₂) × (P .t₂ ≤ 32)
+
+-- a section one that is refused nothing
+pub record Sound (J : List ℕ) : Type 0 where
+  pub room : 30 ≤ length J
+  pub within : Within (parameters J)
+  pub kappa : parameters J .κ ≡ parameters J .L
+  pub aggregated : (4 ≤ parameters J .L) × (parameters J .L ≤ 8)

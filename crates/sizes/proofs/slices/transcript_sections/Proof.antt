@@ -1,0 +1,33 @@
+-- `transcript_sections` meets its contract.
+use native.Mathlib.Omega.{arith}
+use Rattle.lists.specs.Table.{table}
+use Rattle.layout.specs.Sections.{listed}
+use Rattle.relation.specs.Parameters.{parametersOf}
+use Rattle.sizes.proofs.Tables.{is-table}
+use Rattle.sizes.proofs.Products.{Products, products, transcript-spans}
+use borrow.Author.Needs.{needs}
+use Rattle.sizes.proofs.slices.transcript_sections.Statement.{statement}
+use Rattle.sizes.proofs.slices.transcript_sections.Tie as tie
+
+-- the bounds of the products
+bounds : (c : tie.After-triangle) → Products (parametersOf (c .before .args .p)) (c .triangle .result)
+bounds c = products (parametersOf (c .before .args .p)) (c .triangle .result) (c .before .pre) (c .triangle .ensures .1)
+
+returns : tie.Need-returns
+unfolding listed table
+returns c = is-table (rw (c .triangle .ensures .0)) (omega arith) (transcript-spans (parametersOf (c .before .args .p)) (c .triangle .result) (c .before .pre) (bounds c) (c .triangle .ensures .0))
+
+pub transcript-sections-spec : {M : Type 1} → statement M
+transcript-sections-spec =
+    tie.close
+    (tie.spec
+    (λ c κs. search needs)
+    (λ c. search needs)
+    (λ c. search needs)
+    (λ c. search needs)
+    (λ c. search needs)
+    (λ c. omega (arith, bounds c))
+    (λ c. omega (arith, bounds c))
+    (λ c. search needs)
+    (λ c. search needs)
+    returns)

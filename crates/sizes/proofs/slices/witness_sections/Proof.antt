@@ -1,0 +1,22 @@
+-- `witness_sections` meets its contract.
+use mathlib.Core.Path.{refl}
+use native.Mathlib.Omega.{arith}
+use Rattle.lists.specs.Table.{table}
+use Rattle.protocol.specs.Layout.{span}
+use Rattle.layout.specs.Sections.{listed}
+use Rattle.relation.specs.Parameters.{parametersOf}
+use Rattle.sizes.proofs.Tables.{is-table}
+use Rattle.sizes.proofs.Products.{Products, products}
+use Rattle.sizes.proofs.slices.witness_sections.Statement.{statement}
+use Rattle.sizes.proofs.slices.witness_sections.Tie as tie
+
+-- the bounds of the products
+bounds : (c : tie.After-struct-known) → Products (parametersOf (c .before .args .p)) 0
+bounds c = products (parametersOf (c .before .args .p)) 0 (c .before .pre) (omega arith)
+
+returns : tie.Need-returns
+unfolding listed table span
+returns c = is-table refl (omega arith) (omega (arith, bounds c))
+
+pub witness-sections-spec : {M : Type 1} → statement M
+witness-sections-spec = tie.close (tie.spec (λ c. omega (arith, bounds c)) (λ c. omega (arith, bounds c)) returns)

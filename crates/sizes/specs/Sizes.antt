@@ -1,0 +1,22 @@
+-- What the sizes are reckoned of, and what a table of sections is.
+use mathlib.Core.Path.{_≡_}
+use mathlib.Core.List.{List}
+use Prim.Native.Nat.{ℕ, _≤_, _<_, _^_}
+use lib.ListN.{length}
+use Rattle.protocol.specs.Parameters.{Parameters}
+use Rattle.protocol.specs.Layout.{Section, span}
+use Rattle.layout.specs.declared.sections.Sections.{Sections}
+use Rattle.layout.specs.Sections.{listed}
+use Rattle.relation.specs.SectionOne.{Within}
+
+-- parameters within their limits, with an L that those allow; κ need not be L
+pub record Sized (P : Parameters) : Type 0 where
+  pub within : Within P
+  pub aggregated : P .L ≤ 8
+
+-- a table lists the sections, which take few words
+pub record IsTable (ss : List Section) (s : Sections) : Type 0 where
+  pub lists : listed s ≡ ss
+  pub size : s .len ≡ length ss
+  pub few : s .len ≤ 10
+  pub spans : span ss < 2 ^ 32

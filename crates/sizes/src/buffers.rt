@@ -1,0 +1,31 @@
+// The lengths that a call needs of the lent buffers.
+use crate::slices;
+use layout::sections;
+use relation::env_params::EnvironmentParameters;
+ghost use mathlib.Core.Path.{_≡_};
+ghost use Prim.Native.Nat.{_+_, _≤_};
+ghost use lib.ListN.{take, drop};
+ghost use Rattle.protocol.specs.Layout.{span, transcript-sections, scratch-need};
+ghost use Rattle.relation.specs.Parameters.{parametersOf};
+ghost use Rattle.sizes.specs.Sizes.{Sized};
+
+// "64·((L+2)(r·n+T)+r·κ+n+64) words"
+pub fn scratch_length(p: EnvironmentParameters) -> usize
+    requires { ⌜ Sized (parametersOf p) ⌝ }
+    ensures { λ r. ⌜ r ≡ scratch-need (parametersOf p) ⌝ }
+{
+    let n = p.rank;
+    let r = p.multiplicity;
+    let kappa = p.kappa;
+    let rows = p.const_agg_length;
+    let t = slices::triangle(r);
+    64 * ((rows + 2) * (r * n + t) + r * kappa + n + 64)
+}
+
+// The transcript's sections from one on, counts included, that a call makes.
+pub fn output_length(p: EnvironmentParameters, from: usize, makes: usize) -> usize
+    requires { ⌜ Sized (parametersOf p) × (from + makes ≤ 8) ⌝ }
+    ensures { λ r. ⌜ r ≡ span (take makes (drop from (transcript-sections (parametersOf p)))) ⌝ }
+{
+    sections::span(slices::transcript_sections(p), from, makes)
+}

@@ -1,0 +1,33 @@
+// Where the words of a section start in its slice.
+use crate::slices;
+use layout::sections;
+use relation::env_params::EnvironmentParameters;
+ghost use mathlib.Core.Path.{_≡_};
+ghost use Prim.Native.Nat.{_+_, _<_};
+ghost use Rattle.protocol.specs.Layout.{start, job-sections, randomness-sections, transcript-sections};
+ghost use Rattle.relation.specs.Parameters.{parametersOf};
+ghost use Rattle.sizes.specs.Sizes.{Sized};
+
+// Of the job's sections after section one, counted from 0.
+pub fn of_job(p: EnvironmentParameters, m: usize) -> usize
+    requires { ⌜ Sized (parametersOf p) × (m < 10) ⌝ }
+    ensures { λ r. ⌜ r ≡ 30 + start (job-sections (parametersOf p)) m ⌝ }
+{
+    30 + sections::start(slices::job_sections(p), m)
+}
+
+// Of the randomness's sections.
+pub fn of_randomness(p: EnvironmentParameters, m: usize) -> usize
+    requires { ⌜ Sized (parametersOf p) × (m < 7) ⌝ }
+    ensures { λ r. ⌜ r ≡ start (randomness-sections (parametersOf p)) m ⌝ }
+{
+    sections::start(slices::randomness_sections(p, 7), m)
+}
+
+// Of the transcript's sections.
+pub fn of_transcript(p: EnvironmentParameters, m: usize) -> usize
+    requires { ⌜ Sized (parametersOf p) × (m < 8) ⌝ }
+    ensures { λ r. ⌜ r ≡ start (transcript-sections (parametersOf p)) m ⌝ }
+{
+    sections::start(slices::transcript_sections(p), m)
+}

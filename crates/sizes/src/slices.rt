@@ -1,0 +1,123 @@
+// The sections of the job after section one, of the randomness, of the witness and of the transcript.
+use layout::sections::Sections;
+use relation::env_params::EnvironmentParameters;
+ghost use mathlib.Core.Path.{_≡_};
+ghost use Prim.Native.Nat.{_≤_};
+ghost use lib.ListN.{take};
+ghost use Rattle.protocol.specs.Parameters.{triangular};
+ghost use Rattle.protocol.specs.Layout.{job-sections, randomness-sections, witness-sections, transcript-sections};
+ghost use Rattle.relation.specs.Parameters.{parametersOf};
+ghost use Rattle.sizes.specs.Sizes.{Sized, IsTable};
+
+// T = r(r+1)/2
+pub fn triangle(r: usize) -> usize
+    requires { ⌜ r ≤ 16 ⌝ }
+    ensures { λ t. ⌜ (t ≡ triangular r) × (t ≤ 136) ⌝ }
+{
+    r * (r + 1) / 2
+}
+
+// "constant-term constraints: l triangles a', then l·r·n elements φ', then l words b0; ring constraints: K triangles a, K·r·n elements φ,
+// K elements b; matrices A (κ rows of n), B (κ1 rows of r·κ·t1), C (κ1 rows of T·t2), D (κ2 rows of T·t1)"
+pub fn job_sections(p: EnvironmentParameters) -> Sections
+    requires { ⌜ Sized (parametersOf p) ⌝ }
+    ensures { λ s. ⌜ IsTable (job-sections (parametersOf p)) s ⌝ }
+{
+    let n = p.rank;
+    let r = p.multiplicity;
+    let l = p.constraint_l;
+    let k = p.constraint_k;
+    let kappa = p.kappa;
+    let kappa_1 = p.kappa_1;
+    let kappa_2 = p.kappa_2;
+    let t_1 = p.t_1;
+    let t_2 = p.t_2;
+    let t = triangle(r);
+    Sections {
+        counts: [
+            64 * (l * t),
+            64 * (l * r * n),
+            l,
+            64 * (k * t),
+            64 * (k * r * n),
+            64 * k,
+            64 * (kappa * n),
+            64 * (kappa_1 * (r * kappa * t_1)),
+            64 * (kappa_1 * (t * t_2)),
+            64 * (kappa_2 * (t * t_1)),
+        ],
+        greatest: [4294967294; 10],
+        len: 10,
+    }
+}
+
+// "16384·n·r projection words […]; psi, L rows of l; omega, L rows of 256; alpha, K elements; beta, L elements; 41·r sign words; 63·r shuffle
+// words"; the first sections alone for a round.
+pub fn randomness_sections(p: EnvironmentParameters, handed: usize) -> Sections
+    requires { ⌜ Sized (parametersOf p) × (handed ≤ 7) ⌝ }
+    ensures { λ s. ⌜ IsTable (take handed (randomness-sections (parametersOf p))) s ⌝ }
+{
+    let n = p.rank;
+    let r = p.multiplicity;
+    let l = p.constraint_l;
+    let k = p.constraint_k;
+    let rows = p.const_agg_length;
+    let q = 4294967294;
+    Sections {
+        counts: [
+            16384 * n * r,
+            rows * l,
+            rows * 256,
+            64 * k,
+            64 * rows,
+            41 * r,
+            63 * r,
+            0,
+            0,
+            0,
+        ],
+        greatest: [q, q, q, q, q, 1, 4294967295, 0, 0, 0],
+        len: handed,
+    }
+}
+
+// "Witness: r·n elements, s_1 to s_r."
+pub fn witness_sections(p: EnvironmentParameters) -> Sections
+    requires { ⌜ Sized (parametersOf p) ⌝ }
+    ensures { λ s. ⌜ IsTable (witness-sections (parametersOf p)) s ⌝ }
+{
+    Sections {
+        counts: [64 * (p.multiplicity * p.rank), 0, 0, 0, 0, 0, 0, 0, 0, 0],
+        greatest: [4294967294; 10],
+        len: 1,
+    }
+}
+
+// "Transcript: u1 (κ1 elements), p (256 words), b'' (κ elements), u2 (κ2), z (n), t (r·κ), g (T), h (T)."
+pub fn transcript_sections(p: EnvironmentParameters) -> Sections
+    requires { ⌜ Sized (parametersOf p) ⌝ }
+    ensures { λ s. ⌜ IsTable (transcript-sections (parametersOf p)) s ⌝ }
+{
+    let n = p.rank;
+    let r = p.multiplicity;
+    let kappa = p.kappa;
+    let kappa_1 = p.kappa_1;
+    let kappa_2 = p.kappa_2;
+    let t = triangle(r);
+    Sections {
+        counts: [
+            64 * kappa_1,
+            256,
+            64 * kappa,
+            64 * kappa_2,
+            64 * n,
+            64 * (r * kappa),
+            64 * t,
+            64 * t,
+            0,
+            0,
+        ],
+        greatest: [4294967294; 10],
+        len: 8,
+    }
+}
