@@ -1,13 +1,11 @@
--- The left sides of the contracts are those of the statement's constraints, and b″ where a slice holds what it is made of.
+-- The left sides of the contracts are those of the statement's constraints.
 use mathlib.Core.Path.{_≡_, refl, ap, ap₂, _∙_, fun-ext}
 use mathlib.Core.List.{List}
 use Prim.Native.Nat.{ℕ, _+_, _*_}
 use native.Mathlib.Omega.{arith}
 use Rattle.algebra.specs.Ops as Ops
 use Rattle.algebra.specs.Ops.{form}
-use Rattle.algebra.proofs.Sum.{sum-ext, sum-rows}
-use Rattle.algebra.proofs.Dot.{dot-ext}
-use Rattle.algebra.proofs.Form.{pairs-ext}
+use Rattle.algebra.proofs.Sum.{sum-rows}
 use Rattle.definitions.specs.Rq.{Element}
 use Rattle.definitions.specs.Ring.{RqOps, words}
 use Rattle.definitions.proofs.RqRing.{rq-ring}
@@ -15,13 +13,9 @@ use Rattle.inner_product.specs.Run.{run}
 use Rattle.protocol.specs.Parameters.{Parameters, T}
 use Rattle.protocol.specs.Layout.{start, job-sections, witness-sections}
 use Rattle.protocol.specs.Views.{Public, public, witness, cell, element-at}
-use Rattle.protocol.specs.Formulas as F
-use Rattle.protocol.specs.Formulas.{_⊕_, _⊗_, sum, dot, pairs, left, rows, triangle}
-use Rattle.protocol.proofs.ReadBack.{g-symmetric}
-use Rattle.rq_matrix.specs.Region.{vector, triangle-at, Holds}
+use Rattle.protocol.specs.Formulas.{_⊗_, sum, dot, left}
+use Rattle.rq_matrix.specs.Region.{vector, triangle-at}
 use Rattle.rq_matrix.proofs.Place.{run-from}
-use Rattle.rq_matrix.proofs.Holds.{read-rows, read-triangle}
-use Rattle.rq_matrix.proofs.Formula.{a″-symmetric}
 
 -- an inner product over all elements of r vectors is the sum of the vectors' inner products
 pub words-of-line : (l x : List ℕ) (x-at : ℕ) (y : List ℕ) (y-at r n : ℕ) → l ≡ words (dot (r * n) (run x x-at 64) (run y y-at 64)) → l ≡ words (sum r (λ i. dot n (vector x x-at n i) (vector y y-at n i)))
@@ -55,18 +49,3 @@ module _ (J R W : List ℕ) where
       → form RqOps r n (triangle-at J (30 + start (job-sections P) 0 + 64 * (x * T P))) (vector J (30 + start (job-sections P) 1 + 64 * (x * r * n)) n) (vector W (start (witness-sections P) 0) n)
       ≡ left P (a′ x) (φ′ x) (witness P W)
   constant-left x = constraint-form J (30 + start (job-sections P) 0) (30 + start (job-sections P) 1) (T P) r n x (witness P W)
-
-  -- b″_k, of slices that hold g, a″_k and φ″_k
-  pub b″-formula : (k : ℕ) (G : List ℕ) (g-at : ℕ) (S : List ℕ) (a-at φ-at : ℕ)
-      → Holds G g-at (triangle r (F.g (public J R) (witness P W))) → Holds S a-at (triangle r (F.a″ (public J R) k)) → Holds S φ-at (rows r n (F.φ″ (public J R) k))
-      → pairs r (λ i j. triangle-at S a-at i j ⊗ triangle-at G g-at i j) ⊕ sum r (λ i. dot n (vector S φ-at n i) (vector W (start (witness-sections P) 0) n i))
-      ≡ F.b″ (public J R) (witness P W) k
-  unfolding F.b″ Ops.form F.g
-  b″-formula k G g-at S a-at φ-at g-holds a-holds φ-holds =
-      ap₂ _⊕_
-      (pairs-ext RqOps r (λ i j. triangle-at S a-at i j ⊗ triangle-at G g-at i j) (λ i j. F.a″ (public J R) k i j ⊗ dot n (witness P W i) (witness P W j))
-      (λ i j h l. ap₂ _⊗_
-      (read-triangle S a-at r (F.a″ (public J R) k) (a″-symmetric J R k) a-holds i j h l)
-      (read-triangle G g-at r (F.g (public J R) (witness P W)) (g-symmetric (public J R) (witness P W)) g-holds i j h l)))
-      (sum-ext RqOps r (λ i. dot n (vector S φ-at n i) (witness P W i)) (λ i. dot n (F.φ″ (public J R) k i) (witness P W i))
-      (λ i h. dot-ext RqOps n (vector S φ-at n i) (F.φ″ (public J R) k i) (witness P W i) (witness P W i) (λ m l. read-rows S φ-at r n (F.φ″ (public J R) k) φ-holds i m h l) (λ m l. refl)))

@@ -1,7 +1,6 @@
 // The left side of one constraint (`calculate_b_constraint` of relation/statement.rs): Σ a_ij·⟨s_i, s_j⟩ + Σ ⟨φ_i, s_i⟩, of a triangle a and r vectors
 // φ_i and s_i of n elements.
 use rq::rq::Rq;
-use rq_matrix::sum_of_products;
 use rq_matrix::vector_at;
 ghost use mathlib.Core.Path.{_≡_};
 ghost use Prim.Native.Nat.{_+_, _*_, _≤_, _<_};
@@ -10,7 +9,7 @@ ghost use Rattle.algebra.specs.Ops.{form};
 ghost use Rattle.definitions.specs.Ring.{RqOps, words};
 ghost use Rattle.inner_product.specs.Run.{run};
 ghost use Rattle.protocol.specs.Parameters.{triangular};
-ghost use Rattle.protocol.specs.Formulas.{_⊕_, _⊗_, sum, dot, pairs};
+ghost use Rattle.protocol.specs.Formulas.{_⊗_, sum, dot, pairs};
 ghost use Rattle.rq_matrix.specs.Region.{vector, gram, triangle-at, mirrored-row};
 
 // The terms of row i left of the diagonal, of a's row from `row` on.
@@ -93,23 +92,4 @@ pub fn calculate_b_constraint(
     ensures { λ e. ⌜ e .coeffs ≡ words (form RqOps r n (triangle-at (now (a .entry)) «a_at») (vector (now (phi .entry)) «phi_at» n) (vector (now (s .entry)) «s_at» n)) ⌝ }
 {
     quadratic(a, a_at, s, s_at, r, n).add(line(phi, phi_at, s, s_at, r, n))
-}
-
-// The same where a triangle g has the inner products ⟨s_i, s_j⟩.
-pub fn left_side(
-    g: &[u32],
-    g_at: usize,
-    s: &[u32],
-    s_at: usize,
-    a: &[u32],
-    a_at: usize,
-    phi: &[u32],
-    phi_at: usize,
-    r: usize,
-    n: usize,
-) -> Rq
-    requires { ⌜ («g_at» + 64 * triangular r ≤ length (now g)) × («s_at» + 64 * (r * n) ≤ length (now s)) × («a_at» + 64 * triangular r ≤ length (now a)) × («phi_at» + 64 * (r * n) ≤ length (now phi)) × (r ≤ 64) × (n ≤ 64) ⌝ }
-    ensures { λ e. ⌜ e .coeffs ≡ words (pairs r (λ i j. triangle-at (now (a .entry)) «a_at» i j ⊗ triangle-at (now (g .entry)) «g_at» i j) ⊕ sum r (λ i. dot n (vector (now (phi .entry)) «phi_at» n i) (vector (now (s .entry)) «s_at» n i))) ⌝ }
-{
-    sum_of_products(a, a_at, g, g_at, r).add(line(phi, phi_at, s, s_at, r, n))
 }

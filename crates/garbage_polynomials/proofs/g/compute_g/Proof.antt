@@ -7,7 +7,7 @@ use Rattle.lists.specs.Part.{splice}
 use Rattle.protocol.specs.Parameters.{triangular}
 use Rattle.protocol.specs.Formulas.{flat, triangle}
 use Rattle.rq_matrix.proofs.Place.{triangular-suc, triangle-within}
-use Rattle.rq_matrix.proofs.Fill.{length-filled, fill-triangle-none, fill-triangle-next}
+use Rattle.rq_matrix.proofs.Fill.{length-filled, triangle-none, triangle-next}
 use Rattle.rq_matrix.specs.Region.{gram}
 use Rattle.garbage_polynomials.proofs.g.compute_g.Statement.{statement}
 use Rattle.garbage_polynomials.proofs.g.compute_g.Tie as tie
@@ -27,7 +27,7 @@ loop-again c =
     let s = c .before .before .before .before .before .before .before .before .args in
     let l = c .before .before .before .before .before .loop in
     let cells = gram (s .s .now) (s .s-at) (s .n) in
-    let filled = fill-triangle-next (s .out .now) (s .out-at) _ _ (l .i) (l .place) cells (l .inv .2) (l .inv .1) (c .before .before .g-row .ensures) in
+    let filled = triangle-next (s .out .now) (s .out-at) _ _ (l .i) (l .place) cells (l .inv .2) (l .inv .1) (c .before .before .g-row .ensures) in
     (omega arith, omega (arith, triangular-suc (l .i)), filled, length-filled _ (s .out .now) (s .out-at) (flat (triangle (l .i + 1) cells)) filled)
 
 returns : tie.Need-returns Inv-loop μ-loop
@@ -43,7 +43,7 @@ compute-g-spec =
     (tie.spec
     Inv-loop
     μ-loop
-    (λ c. (omega arith, omega arith, fill-triangle-none _ _ _, refl))
+    (λ c. (omega arith, omega arith, triangle-none _ _ _, refl))
     g-row-requires
     (λ c. omega arith)
     (λ c. omega arith)

@@ -6,9 +6,10 @@ use lib.ListN.{length}
 use Rattle.lists.specs.Table.{table}
 use Rattle.lists.specs.Part.{splice}
 use Rattle.protocol.specs.Formulas.{flat}
+use Rattle.protocol.proofs.Stored.{stored-none}
 use Rattle.rq_matrix.proofs.Place.{rows-within}
 use Rattle.rq_matrix.proofs.Word.{words-of-vectors}
-use Rattle.rq_matrix.proofs.Fill.{length-filled, fill-none, fill-next}
+use Rattle.rq_matrix.proofs.Fill.{length-filled, fill-next}
 use Rattle.rq_matrix.specs.Region.{gram}
 use Rattle.garbage_polynomials.proofs.g.g_row.Statement.{statement}
 use Rattle.garbage_polynomials.proofs.g.g_row.Tie as tie
@@ -58,7 +59,7 @@ g-row-spec =
     Inv-loop
     μ-loop
     (λ c κs. omega arith)
-    (λ c. (omega arith, omega arith, omega arith, fill-none _ _ _, refl))
+    (λ c. (omega arith, omega arith, omega arith, stored-none _ _ _, refl))
     inner-product-requires
     (λ c κs. omega arith)
     (λ c. omega arith)
