@@ -1,9 +1,10 @@
 -- The challenges and z of the contracts are those of the public values and of the prover's formulas.
 use mathlib.Core.Path.{_≡_, refl, sym, ap, ap₂, _∙_}
 use mathlib.Core.List.{List}
-use Prim.Native.Nat.{ℕ, _+_, _*_}
+use Prim.Native.Nat.{ℕ, _+_, _*_, _≤_}
+use lib.ListN.{length}
 use Rattle.lists.specs.Table.{table}
-use Rattle.lists.specs.Part.{part}
+use Rattle.lists.specs.Part.{part, splice}
 use Rattle.lists.proofs.Table.{table-ext}
 use Rattle.algebra.proofs.Sum.{sum-ext}
 use Rattle.definitions.specs.Ring.{RqOps, words, element}
@@ -15,9 +16,9 @@ use Rattle.protocol.specs.Parameters.{Parameters}
 use Rattle.protocol.specs.Layout.{start, randomness-sections, witness-sections}
 use Rattle.protocol.specs.Views.{Public, public, witness}
 use Rattle.protocol.specs.Formulas as F
-use Rattle.protocol.specs.Formulas.{_⊗_, sum}
-use Rattle.rq_matrix.specs.Region.{vector, Holds}
-use Rattle.rq_matrix.proofs.Holds.{read-table}
+use Rattle.protocol.specs.Formulas.{_⊗_, sum, flat}
+use Rattle.protocol.proofs.Region.{Elements, elements-stored}
+use Rattle.rq_matrix.specs.Region.{vector}
 
 -- a challenge's coefficients are the words of its element
 pub words-of-challenge : (l ws : List ℕ) (signs signs′ shuffle shuffle′ : ℕ) → l ≡ challenge (part ws signs 41) (part ws shuffle 63) → signs ≡ signs′ → shuffle ≡ shuffle′
@@ -35,10 +36,15 @@ module _ (J R : List ℕ) where
   pub challenges-formula : table r (λ i. element (challenge (part R (start (randomness-sections P) 5 + 41 * i) 41) (part R (start (randomness-sections P) 6 + 63 * i) 63))) ≡ table r c
   challenges-formula = refl
 
+  -- the elements that `generate_challenges` stores are the challenges
+  pub challenges-stored : (l : List ℕ) (at : ℕ) → at + 64 * r ≤ length l
+      → Elements (splice l at (flat (table r (λ i. element (challenge (part R (start (randomness-sections P) 5 + 41 * i) 41) (part R (start (randomness-sections P) 6 + 63 * i) 63)))))) at r c
+  challenges-stored l at within = elements-stored l at r c within
+
   -- z of the witness and of the challenges that a slice holds
-  pub z-formula : (W S : List ℕ) (c-at : ℕ) → Holds S c-at (table r c)
+  pub z-formula : (W S : List ℕ) (c-at : ℕ) → Elements S c-at r c
       → table n (λ m. sum r (λ i. vector W (start (witness-sections P) 0) n i m ⊗ run S c-at 64 i)) ≡ table n (F.z (public J R) (witness P W))
   unfolding F.z
   z-formula W S c-at holds =
       table-ext n (λ m. sum r (λ i. witness P W i m ⊗ run S c-at 64 i)) (λ m. sum r (λ i. witness P W i m ⊗ c i))
-      (λ m l. sum-ext RqOps r (λ i. witness P W i m ⊗ run S c-at 64 i) (λ i. witness P W i m ⊗ c i) (λ i k. ap (λ e. witness P W i m ⊗ e) (read-table S c-at r c holds i k)))
+      (λ m l. sum-ext RqOps r (λ i. witness P W i m ⊗ run S c-at 64 i) (λ i. witness P W i m ⊗ c i) (λ i k. ap (λ e. witness P W i m ⊗ e) (holds i k)))

@@ -7,12 +7,12 @@ ghost use Rattle.lists.specs.Table.{table};
 ghost use Rattle.lists.specs.Part.{splice};
 ghost use Rattle.protocol.specs.Parameters.{triangular};
 ghost use Rattle.protocol.specs.Formulas.{flat, triangle};
-ghost use Rattle.garbage_polynomials.specs.Garbage.{g-of};
+ghost use Rattle.rq_matrix.specs.Region.{gram};
 
 // Row i: columns 0 to i.
 pub fn g_row(s: &[u32], s_at: usize, r: usize, n: usize, i: usize, out: &mut [u32], out_at: usize)
     requires { ⌜ («s_at» + 64 * (r * n) ≤ length (now s)) × («out_at» + 64 * (i + 1) ≤ length (now out)) × (i < r) × (r ≤ 64) × (n ≤ 64) ⌝ }
-    ensures { λ _. ⌜ now (out .exit) ≡ splice (now (out .entry)) «out_at» (flat (table (i + 1) (g-of (now (s .entry)) «s_at» n i))) ⌝ }
+    ensures { λ _. ⌜ now (out .exit) ≡ splice (now (out .entry)) «out_at» (flat (table (i + 1) (gram (now (s .entry)) «s_at» n i))) ⌝ }
 {
     let row = vector_at(s_at, n, i);
     let mut column = s_at;
@@ -33,7 +33,7 @@ pub fn g_row(s: &[u32], s_at: usize, r: usize, n: usize, i: usize, out: &mut [u3
 // All rows.
 pub fn compute_g(s: &[u32], s_at: usize, r: usize, n: usize, out: &mut [u32], out_at: usize)
     requires { ⌜ («s_at» + 64 * (r * n) ≤ length (now s)) × («out_at» + 64 * triangular r ≤ length (now out)) × (r ≤ 64) × (n ≤ 64) ⌝ }
-    ensures { λ _. ⌜ now (out .exit) ≡ splice (now (out .entry)) «out_at» (flat (triangle r (g-of (now (s .entry)) «s_at» n))) ⌝ }
+    ensures { λ _. ⌜ now (out .exit) ≡ splice (now (out .entry)) «out_at» (flat (triangle r (gram (now (s .entry)) «s_at» n))) ⌝ }
 {
     let mut place = out_at;
     let mut i = 0;

@@ -2,5 +2,4 @@ pub mod Place
 pub mod Word
 pub mod Fill
 pub mod Mirror
-pub mod Holds
 pub mod Formula

@@ -1,6 +1,6 @@
 -- Places of vectors and triangles in a slice, and the runs that start there.
 use mathlib.Core.Path.{_≡_, ap, ap₂, _∙_, fun-ext}
-use mathlib.Core.Logic.{_⊎_, inl, inr}
+use mathlib.Core.Logic.{inl, inr}
 use mathlib.Core.List.{List}
 use Prim.Native.Nat.{ℕ, _+_, _*_, _≤_, _<_, _^_}
 use native.Mathlib.Nat.{mul-le-mul, mul-le-mul-right, max-comm, min-comm}
@@ -8,7 +8,6 @@ use native.Mathlib.Omega.{arith}
 use lib.ListN.{length}
 use Rattle.lists.specs.Part.{part, splice}
 use Rattle.lists.proofs.Splice.{part-splice-before, part-splice-after}
-use Rattle.definitions.specs.Rq.{Element}
 use Rattle.definitions.specs.Ring.{element}
 use Rattle.inner_product.specs.Run.{Run, run}
 use Rattle.protocol.specs.Parameters.{triangular}

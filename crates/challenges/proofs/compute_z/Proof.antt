@@ -1,7 +1,7 @@
 -- `compute_z` meets its contract. The invariant: the first m elements are stored, and the place stands at the next.
 use mathlib.Core.Path.{_≡_, refl, ap, _∙_}
 use mathlib.Core.List.{List}
-use Prim.Native.Nat.{ℕ, _+_, _-_, _*_, _≤_, _<_}
+use Prim.Native.Nat.{ℕ, _+_, _-_, _*_, _≤_}
 use native.Mathlib.Omega.{arith}
 use lib.ListN.{length}
 use Rattle.lists.specs.Table.{table}
@@ -9,8 +9,9 @@ use Rattle.lists.specs.Part.{splice}
 use Rattle.definitions.specs.Rq.{Element}
 use Rattle.inner_product.specs.Run.{run}
 use Rattle.protocol.specs.Formulas.{_⊗_, sum, flat}
+use Rattle.protocol.proofs.Stored.{stored-none}
 use Rattle.rq_matrix.specs.Region.{vector}
-use Rattle.rq_matrix.proofs.Fill.{length-filled, fill-none, fill-next}
+use Rattle.rq_matrix.proofs.Fill.{length-filled, fill-next}
 use Rattle.challenges.proofs.compute_z.Statement.{statement}
 use Rattle.challenges.proofs.compute_z.Tie as tie
 
@@ -46,7 +47,7 @@ compute-z-spec =
     (tie.spec
     Inv-loop
     μ-loop
-    (λ c. (omega arith, omega arith, fill-none _ _ _, refl))
+    (λ c. (omega arith, omega arith, stored-none _ _ _, refl))
     (λ c κs. omega arith)
     (λ c κs. omega arith)
     (λ c. omega arith)

@@ -1,7 +1,7 @@
 -- `generate_challenges` meets its contract. The invariant: the first i challenges are stored, and the places stand at the next words and element.
 use mathlib.Core.Path.{_≡_, refl, ap, _∙_}
 use mathlib.Core.List.{List}
-use Prim.Native.Nat.{ℕ, _+_, _-_, _*_, _≤_, _<_}
+use Prim.Native.Nat.{ℕ, _+_, _-_, _*_, _≤_}
 use native.Mathlib.Omega.{arith}
 use lib.ListN.{length}
 use Rattle.lists.specs.Table.{table}
@@ -10,7 +10,8 @@ use Rattle.definitions.specs.Rq.{Element}
 use Rattle.definitions.specs.Ring.{element}
 use Rattle.definitions.specs.Challenge.{challenge}
 use Rattle.protocol.specs.Formulas.{flat}
-use Rattle.rq_matrix.proofs.Fill.{length-filled, fill-none, fill-next}
+use Rattle.protocol.proofs.Stored.{stored-none}
+use Rattle.rq_matrix.proofs.Fill.{length-filled, fill-next}
 use Rattle.challenges.proofs.Formula.{words-of-challenge}
 use Rattle.challenges.proofs.generate_challenges.Statement.{statement}
 use Rattle.challenges.proofs.generate_challenges.Tie as tie
@@ -47,7 +48,7 @@ generate-challenges-spec =
     (tie.spec
     Inv-loop
     μ-loop
-    (λ c. (omega arith, omega arith, omega arith, omega arith, fill-none _ _ _, refl))
+    (λ c. (omega arith, omega arith, omega arith, omega arith, stored-none _ _ _, refl))
     (λ c κs. omega arith)
     (λ c κs. omega arith)
     (λ c. omega arith)

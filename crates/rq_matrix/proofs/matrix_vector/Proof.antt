@@ -1,7 +1,7 @@
 -- `matrix_vector` meets its contract. The invariant: the first k entries are stored, and the places stand at the next row and entry.
 use mathlib.Core.Path.{_≡_, refl, ap, _∙_}
 use mathlib.Core.List.{List}
-use Prim.Native.Nat.{ℕ, _+_, _-_, _*_, _≤_, _<_}
+use Prim.Native.Nat.{ℕ, _+_, _-_, _*_, _≤_}
 use native.Mathlib.Omega.{arith}
 use lib.ListN.{length}
 use Rattle.lists.specs.Table.{table}
@@ -10,9 +10,10 @@ use Rattle.definitions.specs.Rq.{Element}
 use Rattle.inner_product.specs.Run.{run}
 use Rattle.protocol.specs.Formulas.{dot, flat}
 use Rattle.rq_matrix.specs.Region.{vector}
+use Rattle.protocol.proofs.Stored.{stored-none}
 use Rattle.rq_matrix.proofs.Place.{rows-within}
 use Rattle.rq_matrix.proofs.Word.{words-of-vector}
-use Rattle.rq_matrix.proofs.Fill.{length-filled, fill-none, fill-next}
+use Rattle.rq_matrix.proofs.Fill.{length-filled, fill-next}
 use Rattle.rq_matrix.proofs.matrix_vector.Statement.{statement}
 use Rattle.rq_matrix.proofs.matrix_vector.Tie as tie
 
@@ -63,7 +64,7 @@ matrix-vector-spec =
     (tie.spec
     Inv-loop
     μ-loop
-    (λ c. (omega arith, omega arith, omega arith, fill-none _ _ _, refl))
+    (λ c. (omega arith, omega arith, omega arith, stored-none _ _ _, refl))
     inner-product-requires
     (λ c κs. omega arith)
     (λ c. omega arith)

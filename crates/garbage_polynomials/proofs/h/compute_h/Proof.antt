@@ -1,6 +1,6 @@
 -- `compute_h` meets its contract. The invariant: the first i rows are stored, and the place stands at the next row.
 use mathlib.Core.Path.{_≡_, refl, ap, _∙_}
-use Prim.Native.Nat.{ℕ, _+_, _-_, _*_, _≤_, _<_}
+use Prim.Native.Nat.{_+_, _-_, _*_, _≤_}
 use native.Mathlib.Omega.{arith}
 use lib.ListN.{length}
 use Rattle.lists.specs.Part.{splice}
@@ -8,7 +8,7 @@ use Rattle.protocol.specs.Parameters.{triangular}
 use Rattle.protocol.specs.Formulas.{flat, triangle}
 use Rattle.protocol.proofs.Flat.{length-triangle}
 use Rattle.rq_matrix.proofs.Place.{triangular-suc, triangle-within, apart-part}
-use Rattle.rq_matrix.proofs.Fill.{length-filled, fill-triangle-none, fill-triangle-next, apart-filled}
+use Rattle.rq_matrix.proofs.Fill.{length-filled, triangle-none, triangle-next, apart-filled}
 use Rattle.garbage_polynomials.specs.Garbage.{h-of}
 use Rattle.garbage_polynomials.proofs.Cell.{h-row-kept}
 use Rattle.garbage_polynomials.proofs.h.compute_h.Statement.{statement}
@@ -46,7 +46,7 @@ loop-again c =
     let apart = apart-filled (s .phi-at) (64 * (s .r * s .n)) (s .out-at) (64 * triangular (s .r)) (triangle (l .i) cells) (at-start .pre .3) (omega (arith, length-triangle (l .i) cells)) in
     let stored =
     h-row-kept (l .scratch) (s .scratch .now) (s .out-at) (flat (triangle (l .i) cells)) (s .phi-at) (s .r) (s .n) (l .inv .2) apart _ (s .s .now) (s .s-at) (l .i) (l .place) (omega arith) (c .before .before .h-row .ensures) in
-    let filled = fill-triangle-next (s .scratch .now) (s .out-at) _ _ (l .i) (l .place) cells (l .inv .2) (l .inv .1) stored in
+    let filled = triangle-next (s .scratch .now) (s .out-at) _ _ (l .i) (l .place) cells (l .inv .2) (l .inv .1) stored in
     (omega arith, omega (arith, triangular-suc (l .i)), filled, length-filled _ (s .scratch .now) (s .out-at) (flat (triangle (l .i + 1) cells)) filled)
 
 returns : tie.Need-returns Inv-loop μ-loop
@@ -62,7 +62,7 @@ compute-h-spec =
     (tie.spec
     Inv-loop
     μ-loop
-    (λ c. (omega arith, omega arith, fill-triangle-none _ _ _, refl))
+    (λ c. (omega arith, omega arith, triangle-none _ _ _, refl))
     h-row-requires
     (λ c. omega arith)
     (λ c. omega arith)

@@ -1,6 +1,6 @@
 -- `h_row` meets its contract. The invariant: the first j cells are stored, and the places stand at the next vectors and cell.
 use mathlib.Core.Path.{_≡_, refl, ap, _∙_}
-use Prim.Native.Nat.{ℕ, _+_, _-_, _*_, _≤_, _<_}
+use Prim.Native.Nat.{_+_, _-_, _*_, _≤_}
 use native.Mathlib.Omega.{arith}
 use lib.ListN.{length}
 use Rattle.lists.specs.Table.{table}
@@ -8,8 +8,9 @@ use Rattle.lists.specs.Part.{splice}
 use Rattle.lists.proofs.Table.{length-table}
 use Rattle.definitions.specs.Ring.{words}
 use Rattle.protocol.specs.Formulas.{flat}
+use Rattle.protocol.proofs.Stored.{stored-none}
 use Rattle.rq_matrix.proofs.Place.{rows-within}
-use Rattle.rq_matrix.proofs.Fill.{length-filled, fill-none, fill-next, apart-filled}
+use Rattle.rq_matrix.proofs.Fill.{length-filled, fill-next, apart-filled}
 use Rattle.garbage_polynomials.specs.Garbage.{h-of}
 use Rattle.garbage_polynomials.proofs.Cell.{h-places, h-kept}
 use Rattle.garbage_polynomials.proofs.h.h_row.Statement.{statement}
@@ -72,7 +73,7 @@ h-row-spec =
     μ-loop
     (λ c κs. omega arith)
     (λ c κs. omega arith)
-    (λ c. (omega arith, omega arith, omega arith, omega arith, fill-none _ _ _, refl))
+    (λ c. (omega arith, omega arith, omega arith, omega arith, stored-none _ _ _, refl))
     h-cell-requires
     (λ c κs. omega arith)
     (λ c. omega arith)
