@@ -9,8 +9,8 @@ ghost use Rattle.definitions.specs.Ring.{words};
 ghost use Rattle.inner_product.specs.Run.{run};
 ghost use Rattle.jl.specs.Run.{run as projection-of};
 ghost use Rattle.protocol.specs.Formulas.{dot};
-ghost use Rattle.slice_calls.specs.Fits.{inner-product-fits, projection-fits, phi-fits, u1-fits};
-ghost use Rattle.slice_calls.specs.Made.{phi-made, u1-made};
+ghost use Rattle.slice_calls.specs.Fits.{inner-product-fits, projection-fits, phi-fits, u1-fits, t-fits, g-fits, z-fits, u2-fits};
+ghost use Rattle.slice_calls.specs.Made.{phi-made, u1-made, t-made, g-made, z-made, u2-made};
 
 // The inner product of two vectors of n elements.
 #[no_mangle]
@@ -106,6 +106,85 @@ pub extern "C" fn slice_u1(
             base,
             out,
         );
+        true
+    } else {
+        false
+    }
+}
+
+// The commitments t of `rows` elements to r vectors of n elements.
+#[no_mangle]
+pub extern "C" fn slice_t(
+    matrix: &[u32],
+    s: &[u32],
+    rows: usize,
+    n: usize,
+    r: usize,
+    out: &mut [u32],
+) -> bool
+    ensures { λ b. ⌜ b ≡ t-fits (length (now (matrix .entry))) (length (now (s .entry))) (length (now (out .entry))) rows n r ⌝ }
+    ensures { λ b. ⌜ now (out .exit) ≡ cond b (splice (now (out .entry)) 0 (t-made (now (matrix .entry)) (now (s .entry)) rows n r)) (now (out .entry)) ⌝ }
+{
+    if fits::t_fits(matrix.len(), s.len(), out.len(), rows, n, r) {
+        work::t(matrix, s, rows, n, r, out);
+        true
+    } else {
+        false
+    }
+}
+
+// g of r vectors of n elements.
+#[no_mangle]
+pub extern "C" fn slice_g(s: &[u32], n: usize, r: usize, out: &mut [u32]) -> bool
+    ensures { λ b. ⌜ b ≡ g-fits (length (now (s .entry))) (length (now (out .entry))) n r ⌝ }
+    ensures { λ b. ⌜ now (out .exit) ≡ cond b (splice (now (out .entry)) 0 (g-made (now (s .entry)) n r)) (now (out .entry)) ⌝ }
+{
+    if fits::g_fits(s.len(), out.len(), n, r) {
+        work::g(s, n, r, out);
+        true
+    } else {
+        false
+    }
+}
+
+// z of r vectors of n elements and r factors.
+#[no_mangle]
+pub extern "C" fn slice_z(s: &[u32], c: &[u32], n: usize, r: usize, out: &mut [u32]) -> bool
+    ensures { λ b. ⌜ b ≡ z-fits (length (now (s .entry))) (length (now (c .entry))) (length (now (out .entry))) n r ⌝ }
+    ensures { λ b. ⌜ now (out .exit) ≡ cond b (splice (now (out .entry)) 0 (z-made (now (s .entry)) (now (c .entry)) n r)) (now (out .entry)) ⌝ }
+{
+    if fits::z_fits(s.len(), c.len(), out.len(), n, r) {
+        work::z(s, c, n, r, out);
+        true
+    } else {
+        false
+    }
+}
+
+// u2 of so many rows, of the digits of the cells.
+#[no_mangle]
+pub extern "C" fn slice_u2(
+    matrix: &[u32],
+    from: &[u32],
+    rows: usize,
+    cells: usize,
+    parts: usize,
+    base: u32,
+    out: &mut [u32],
+) -> bool
+    ensures { λ b. ⌜ b ≡ u2-fits (length (now (matrix .entry))) (length (now (from .entry))) (length (now (out .entry))) rows cells parts base ⌝ }
+    ensures { λ b. ⌜ now (out .exit) ≡ cond b (splice (now (out .entry)) 0 (u2-made (now (matrix .entry)) (now (from .entry)) rows cells parts base)) (now (out .entry)) ⌝ }
+{
+    if fits::u2_fits(
+        matrix.len(),
+        from.len(),
+        out.len(),
+        rows,
+        cells,
+        parts,
+        base,
+    ) {
+        work::u2(matrix, from, rows, cells, parts, base, out);
         true
     } else {
         false

@@ -6,8 +6,9 @@ use crate::rust::{elements, environment, triangle, vector_words, vectors, words}
 use crate::tally::Tally;
 use labrador::commitments::ajtai_commitment::AjtaiScheme;
 use labrador::commitments::common_instances::AjtaiInstances;
-use labrador::commitments::outer_commitments::{compute_u1, DecompositionParameters};
+use labrador::commitments::outer_commitments::{compute_u1, compute_u2, DecompositionParameters};
 use labrador::core::aggregate::ZeroConstantFunctionsAggregation;
+use labrador::core::garbage_polynomials::compute_g;
 use labrador::core::inner_product::compute_linear_combination;
 use labrador::core::jl::Projection;
 use labrador::relation::env_params::EnvironmentParameters;
@@ -42,6 +43,10 @@ pub fn lengths(call: SliceCall, sizes: &[usize]) -> ([usize; 2], usize) {
             ],
             D * rows,
         ),
+        (SliceCall::T, &[rows, n, r]) => ([D * rows * n, D * r * n], D * r * rows),
+        (SliceCall::G, &[n, r]) => ([D * r * n, 0], D * r * (r + 1) / 2),
+        (SliceCall::Z, &[n, r]) => ([D * r * n, D * r], D * n),
+        (SliceCall::U2, &[rows, cells, parts]) => ([D * rows * cells * parts, D * cells], D * rows),
         _ => panic!("the sizes of {}", call.name()),
     }
 }
@@ -104,6 +109,30 @@ pub enum Operands {
         base: Zq,
         parts: [usize; 2],
     },
+    T(AjtaiScheme, Vec<RqVector>),
+    G(Vec<RqVector>),
+    Z(Vec<RqVector>, Vec<Rq>),
+    U2 {
+        crs: AjtaiInstances,
+        h: RqMatrix,
+        base: Zq,
+        parts: usize,
+    },
+}
+
+/// A scheme that commits to everything.
+fn scheme(words: &[u32], width: usize) -> AjtaiScheme {
+    AjtaiScheme::with_any_bound(u128::MAX, RqMatrix::new(vectors(words, width), false))
+}
+
+/// The scheme of a matrix that is not looked at.
+fn no_scheme() -> AjtaiScheme {
+    AjtaiScheme::with_any_bound(0, RqMatrix::zero(1, 1))
+}
+
+/// The rows of a triangle with so many cells.
+fn triangle_rows(cells: usize) -> usize {
+    (1..).find(|r| r * (r + 1) / 2 == cells).expect("a triangle")
 }
 
 /// What the Rust's function makes.
@@ -142,18 +171,14 @@ impl Operands {
             }
             (SliceCall::U1, &[rows, t_cells, t_parts, g_cells, g_parts]) => {
                 let (b, c) = first.split_at(D * rows * t_cells * t_parts);
-                let scheme = |words: &[u32], width: usize| {
-                    AjtaiScheme::with_any_bound(u128::MAX, RqMatrix::new(vectors(words, width), false))
-                };
                 let (t, g) = second.split_at(D * t_cells);
-                let r = (1..).find(|r| r * (r + 1) / 2 == g_cells).expect("a triangle");
-                let nothing = || AjtaiScheme::with_any_bound(0, RqMatrix::zero(1, 1));
+                let r = triangle_rows(g_cells);
                 Operands::U1 {
                     crs: AjtaiInstances {
-                        commitment_scheme_a: nothing(),
+                        commitment_scheme_a: no_scheme(),
                         commitment_scheme_b: scheme(b, t_cells * t_parts),
                         commitment_scheme_c: scheme(c, g_cells * g_parts),
-                        commitment_scheme_d: nothing(),
+                        commitment_scheme_d: no_scheme(),
                     },
                     t: RqMatrix::new(vectors(t, t_cells / r), false),
                     g: triangle(g, r),
@@ -161,6 +186,20 @@ impl Operands {
                     parts: [t_parts, g_parts],
                 }
             }
+            (SliceCall::T, &[_, n, _]) => Operands::T(scheme(first, n), vectors(second, n)),
+            (SliceCall::G, &[n, _]) => Operands::G(vectors(first, n)),
+            (SliceCall::Z, &[n, _]) => Operands::Z(vectors(first, n), elements(second)),
+            (SliceCall::U2, &[_, cells, parts]) => Operands::U2 {
+                crs: AjtaiInstances {
+                    commitment_scheme_a: no_scheme(),
+                    commitment_scheme_b: no_scheme(),
+                    commitment_scheme_c: no_scheme(),
+                    commitment_scheme_d: scheme(first, cells * parts),
+                },
+                h: triangle(second, triangle_rows(cells)),
+                base: Zq::new(base),
+                parts,
+            },
             _ => panic!("the sizes of {}", call.name()),
         }
     }
@@ -190,6 +229,14 @@ impl Operands {
             } => {
                 let parts = |parts: usize| DecompositionParameters::new(*base, parts).expect("within limits");
                 Made::Vectors(vec![compute_u1(crs, t, parts(*t_parts), g, parts(*g_parts))])
+            }
+            Operands::T(scheme, s) => Made::Vectors(s.iter().map(|s| scheme.commit(s).expect("any norm")).collect()),
+            Operands::G(s) => Made::Vectors(compute_g(s).elements().to_vec()),
+            // as the prover makes it
+            Operands::Z(s, c) => Made::Vectors(vec![compute_linear_combination(s, c)]),
+            Operands::U2 { crs, h, base, parts } => {
+                let parts = DecompositionParameters::new(*base, *parts).expect("within limits");
+                Made::Vectors(vec![compute_u2(crs, h, parts)])
             }
         }
     }
@@ -228,6 +275,10 @@ fn take(tally: &mut Tally, random: &mut Random, call: SliceCall, sizes: &[usize]
         SliceCall::Projection => "slice calls: p with the Rust's",
         SliceCall::Phi => "slice calls: phi'' with the Rust's",
         SliceCall::U1 => "slice calls: u1 with the Rust's",
+        SliceCall::T => "slice calls: t with the Rust's",
+        SliceCall::G => "slice calls: g with the Rust's",
+        SliceCall::Z => "slice calls: z with the Rust's",
+        SliceCall::U2 => "slice calls: u2 with the Rust's",
     };
     let Some(ours) = run(call, given, sizes, base, &before, length) else {
         return;
@@ -241,7 +292,7 @@ fn take(tally: &mut Tally, random: &mut Random, call: SliceCall, sizes: &[usize]
     let refuse = |tally: &mut Tally, given: [&[u32]; 2], sizes: &[usize], base: u32, length: usize| {
         refused(tally, call, given, sizes, base, &before, length)
     };
-    for which in 0..2 {
+    for which in 0..if call == SliceCall::G { 1 } else { 2 } {
         let longer = [given[which], &[1]].concat();
         for other in [&longer[..], &given[which][1..]] {
             let mut given = given;
@@ -258,7 +309,7 @@ fn take(tally: &mut Tally, random: &mut Random, call: SliceCall, sizes: &[usize]
         sizes[which] = usize::MAX;
         refuse(tally, given, &sizes, base, length);
     }
-    if call == SliceCall::U1 {
+    if call == SliceCall::U1 || call == SliceCall::U2 {
         for base in [0, 1] {
             refuse(tally, given, sizes, base, length);
         }
@@ -276,15 +327,26 @@ fn refused(
     length: usize,
 ) {
     if let Some(ours) = run(call, given, sizes, base, before, length) {
-        let described = || format!("{} {sizes:?} base {base}, lengths {:?}", call.name(), given.map(<[u32]>::len));
+        let described = || {
+            format!(
+                "{} {sizes:?} base {base}, lengths {:?}",
+                call.name(),
+                given.map(<[u32]>::len)
+            )
+        };
         let expected = (false, before.to_vec());
-        tally.compare("slice calls that do not fit with a refusal", &ours, &expected, described);
+        tally.compare(
+            "slice calls that do not fit with a refusal",
+            &ours,
+            &expected,
+            described,
+        );
         tally.occurred(SLICES, format!("{:<14} refused", call.name()));
     }
 }
 
 /// Sizes just above their limits, with slices of the lengths that they tell.
-const ABOVE: [(SliceCall, &[usize]); 12] = [
+const ABOVE: [(SliceCall, &[usize]); 22] = [
     (SliceCall::InnerProduct, &[65]),
     (SliceCall::Projection, &[65, 1]),
     (SliceCall::Projection, &[1, 17]),
@@ -297,6 +359,16 @@ const ABOVE: [(SliceCall, &[usize]); 12] = [
     (SliceCall::U1, &[1, 1, 33, 1, 1]),
     (SliceCall::U1, &[1, 1, 1, 137, 1]),
     (SliceCall::U1, &[1, 1, 1, 1, 33]),
+    (SliceCall::T, &[17, 1, 1]),
+    (SliceCall::T, &[1, 65, 1]),
+    (SliceCall::T, &[1, 1, 17]),
+    (SliceCall::G, &[65, 1]),
+    (SliceCall::G, &[1, 17]),
+    (SliceCall::Z, &[65, 1]),
+    (SliceCall::Z, &[1, 17]),
+    (SliceCall::U2, &[17, 1, 1]),
+    (SliceCall::U2, &[1, 137, 1]),
+    (SliceCall::U2, &[1, 1, 33]),
 ];
 
 /// Each call on `count` random sizes beside the ends of their ranges.
@@ -324,6 +396,14 @@ pub fn all(tally: &mut Tally, random: &mut Random, count: usize) {
     take(tally, random, SliceCall::Phi, &[1, 64, 1, 1], 2);
     take(tally, random, SliceCall::U1, &u1_sizes(16, 16, 16, 1, 1), 256);
     take(tally, random, SliceCall::U1, &u1_sizes(1, 2, 1, 32, 32), 2);
+    take(tally, random, SliceCall::T, &[16, 1, 16], 2);
+    take(tally, random, SliceCall::T, &[1, 64, 1], 2);
+    take(tally, random, SliceCall::G, &[1, 16], 2);
+    take(tally, random, SliceCall::G, &[64, 1], 2);
+    take(tally, random, SliceCall::Z, &[1, 16], 2);
+    take(tally, random, SliceCall::Z, &[64, 1], 2);
+    take(tally, random, SliceCall::U2, &[16, 136, 1], 256);
+    take(tally, random, SliceCall::U2, &[1, 3, 32], 2);
     for _ in 0..count {
         let n = 1 + random.below(64);
         take(tally, random, SliceCall::InnerProduct, &[n], 2);
@@ -340,5 +420,9 @@ pub fn all(tally: &mut Tally, random: &mut Random, count: usize) {
         let (kappa1, kappa) = (small(random), small(random));
         let (t1, t2) = (1 + random.below(8), 1 + random.below(8));
         take(tally, random, SliceCall::U1, &u1_sizes(kappa1, r, kappa, t1, t2), base);
+        take(tally, random, SliceCall::U2, &[kappa1, r * (r + 1) / 2, t1], base);
+        take(tally, random, SliceCall::T, &[kappa, n, r], 2);
+        take(tally, random, SliceCall::G, &[n, r], 2);
+        take(tally, random, SliceCall::Z, &[n, r], 2);
     }
 }

@@ -11,14 +11,26 @@ pub enum SliceCall {
     Phi,
     /// B and C, and t and g; rows, cells and parts of t, cells and parts of g.
     U1,
+    /// A and s; rows, n, r.
+    T,
+    /// s and nothing; n, r.
+    G,
+    /// s and c; n, r.
+    Z,
+    /// D and h; rows, cells and parts of h.
+    U2,
 }
 
 impl SliceCall {
-    pub const ALL: [SliceCall; 4] = [
+    pub const ALL: [SliceCall; 8] = [
         SliceCall::InnerProduct,
         SliceCall::Projection,
         SliceCall::Phi,
         SliceCall::U1,
+        SliceCall::T,
+        SliceCall::G,
+        SliceCall::Z,
+        SliceCall::U2,
     ];
 
     pub fn name(self) -> &'static str {
@@ -27,6 +39,10 @@ impl SliceCall {
             SliceCall::Projection => "p",
             SliceCall::Phi => "phi''",
             SliceCall::U1 => "u1",
+            SliceCall::T => "t",
+            SliceCall::G => "g",
+            SliceCall::Z => "z",
+            SliceCall::U2 => "u2",
         }
     }
 }
@@ -79,6 +95,40 @@ mod exported {
             out: *mut u32,
             out_length: usize,
         ) -> bool;
+        pub fn slice_t(
+            matrix: *const u32,
+            matrix_length: usize,
+            s: *const u32,
+            s_length: usize,
+            rows: usize,
+            n: usize,
+            r: usize,
+            out: *mut u32,
+            out_length: usize,
+        ) -> bool;
+        pub fn slice_g(s: *const u32, s_length: usize, n: usize, r: usize, out: *mut u32, out_length: usize) -> bool;
+        pub fn slice_z(
+            s: *const u32,
+            s_length: usize,
+            c: *const u32,
+            c_length: usize,
+            n: usize,
+            r: usize,
+            out: *mut u32,
+            out_length: usize,
+        ) -> bool;
+        pub fn slice_u2(
+            matrix: *const u32,
+            matrix_length: usize,
+            from: *const u32,
+            from_length: usize,
+            rows: usize,
+            cells: usize,
+            parts: usize,
+            base: u32,
+            out: *mut u32,
+            out_length: usize,
+        ) -> bool;
     }
 }
 
@@ -111,6 +161,10 @@ pub fn slice_call(
             SliceCall::U1 => slice_u1(
                 a, a_length, b, b_length, sizes[0], sizes[1], sizes[2], sizes[3], sizes[4], base, to, length,
             ),
+            SliceCall::T => slice_t(a, a_length, b, b_length, sizes[0], sizes[1], sizes[2], to, length),
+            SliceCall::G => slice_g(a, a_length, sizes[0], sizes[1], to, length),
+            SliceCall::Z => slice_z(a, a_length, b, b_length, sizes[0], sizes[1], to, length),
+            SliceCall::U2 => slice_u2(a, a_length, b, b_length, sizes[0], sizes[1], sizes[2], base, to, length),
         }
     };
     Some(answer)
