@@ -3,11 +3,13 @@
 use harness::instances::{Instance, Size, LOOSE};
 use harness::random::Random;
 use harness::rust;
+use harness::slices::{inputs, lengths, u1_sizes, Operands};
 use labrador::ring::rq::Rq;
 use labrador::ring::zq::Zq;
 use labrador::transcript::sponges::shake::{Playback, Tape};
 use labrador::transcript::LabradorTranscript;
 use library::leaf_calls::*;
+use library::slices::{slice_call, SliceCall};
 use model::refusals::output_need;
 use model::words::{join, Parameters};
 use model::Call;
@@ -143,6 +145,26 @@ fn challenge(random: &mut Random) -> Kernel {
     }
 }
 
+/// A call of the slice layer, with base 256 where there are digits.
+fn slice(random: &mut Random, call: SliceCall, sizes: Vec<usize>) -> Kernel {
+    let [first, second] = inputs(random, call, &sizes);
+    let operands = Operands::new(call, [&first, &second], &sizes, 256);
+    let mut out = vec![0; lengths(call, &sizes).1];
+    Kernel {
+        calls: 1,
+        rounds: 200,
+        ours: Box::new(move || {
+            let fits = slice_call(call, [black_box(&first), &second], &sizes, 256, &mut out);
+            assert_eq!(fits, Some(true));
+            black_box(&out);
+        }),
+        prepare: Box::new(|| {}),
+        theirs: Box::new(move || {
+            black_box(black_box(&operands).run());
+        }),
+    }
+}
+
 /// A whole call on a statement that is met.
 fn whole(random: &mut Random, call: Call, n: usize, r: usize) -> Kernel {
     let p = Parameters {
@@ -214,6 +236,23 @@ pub fn kernels() -> Vec<Entry> {
         }),
         ("challenge", challenge),
     ];
+    if library::HAS_SLICE_CALLS {
+        all.extend([
+            (
+                "inner product, n 16",
+                (|random| slice(random, SliceCall::InnerProduct, vec![16])) as fn(&mut Random) -> Kernel,
+            ),
+            ("p, n 16, r 4", |random| {
+                slice(random, SliceCall::Projection, vec![16, 4])
+            }),
+            ("phi'', n 16, r 4, 5 constraints, 4 rows of psi", |random| {
+                slice(random, SliceCall::Phi, vec![4, 16, 5, 4])
+            }),
+            ("u1, r 4, κ and κ1 4, base 256, 4 parts", |random| {
+                slice(random, SliceCall::U1, u1_sizes(4, 4, 4, 4, 4))
+            }),
+        ]);
+    }
     if library::HAS_WHOLE_CALLS {
         all.extend([
             (

@@ -1,20 +1,30 @@
-//! Links the archive that LABRADOR_ARCHIVE names, and finds out whether it has the calls on whole slices.
+//! Links the archives that LABRADOR_ARCHIVE and SLICE_CALLS_ARCHIVE name, and finds out whether the first has the calls on
+//! whole slices.
 
 use std::path::Path;
 
-fn main() {
-    println!("cargo:rustc-check-cfg=cfg(leaf_calls, whole_calls)");
-    println!("cargo:rerun-if-env-changed=LABRADOR_ARCHIVE");
-    let Ok(archive) = std::env::var("LABRADOR_ARCHIVE") else {
-        return;
-    };
+/// The bytes of the archive that a variable names, which is linked.
+fn linked(variable: &str) -> Option<Vec<u8>> {
+    println!("cargo:rerun-if-env-changed={variable}");
+    let archive = std::env::var(variable).ok()?;
     println!("cargo:rerun-if-changed={archive}");
     let path = Path::new(&archive);
-    let bytes = std::fs::read(path).expect("LABRADOR_ARCHIVE names a file");
+    let bytes = std::fs::read(path).expect("the variable names a file");
     let name = path.file_name().and_then(|n| n.to_str()).expect("a file name");
     let folder = path.parent().expect("a folder");
     println!("cargo:rustc-link-search=native={}", folder.display());
     println!("cargo:rustc-link-lib=static:+verbatim={name}");
+    Some(bytes)
+}
+
+fn main() {
+    println!("cargo:rustc-check-cfg=cfg(leaf_calls, whole_calls, slice_calls)");
+    if linked("SLICE_CALLS_ARCHIVE").is_some() {
+        println!("cargo:rustc-cfg=slice_calls");
+    }
+    let Some(bytes) = linked("LABRADOR_ARCHIVE") else {
+        return;
+    };
     println!("cargo:rustc-cfg=leaf_calls");
     let symbol = b"labrador_verify\0";
     if bytes.windows(symbol.len()).any(|w| w == symbol) {

@@ -7,6 +7,7 @@ pub mod random;
 pub mod record;
 pub mod replay;
 pub mod rust;
+pub mod slices;
 pub mod tally;
 pub mod unfit;
 pub mod whole;

@@ -9,7 +9,7 @@ use harness::cases::Context;
 use harness::instances::{small, Instance};
 use harness::random::Random;
 use harness::record::Recorder;
-use harness::{replay, rust, unfit, whole};
+use harness::{replay, rust, slices, unfit, whole};
 use model::Call;
 use std::path::Path;
 use std::process::ExitCode;
@@ -53,6 +53,7 @@ fn compare(seed: u64, count: u64, largest: bool) -> bool {
     let mut random = Random::new(seed);
     let leaf_cases = 500.max(count as usize);
     context.leaves().all(&mut random, leaf_cases, 1);
+    slices::all(&mut context.tally, &mut Random::new(seed), count as usize / 4);
     let base = whole::base(&mut random, whole::pair_parameters());
     families(&mut context, &mut random, &base, 10);
     whole::limits(&mut context, &mut random);
@@ -66,6 +67,9 @@ fn compare(seed: u64, count: u64, largest: bool) -> bool {
     }
     if largest {
         whole::largest(&mut context, &mut random);
+    }
+    if !library::HAS_SLICE_CALLS {
+        println!("not compared: the calls of the slice layer are not linked");
     }
     if !library::HAS_LEAF_CALLS {
         println!("not compared: no library is linked, so the proved calls were not run");

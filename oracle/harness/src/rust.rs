@@ -30,18 +30,18 @@ pub fn words(element: &Rq) -> Vec<u32> {
     element.coeffs().iter().map(Zq::get_value).collect()
 }
 
-fn elements(words: &[u32]) -> Vec<Rq> {
+pub fn elements(words: &[u32]) -> Vec<Rq> {
     words.chunks_exact(Rq::DEGREE).map(element).collect()
 }
 
-fn vectors(words: &[u32], length: usize) -> Vec<RqVector> {
+pub fn vectors(words: &[u32], length: usize) -> Vec<RqVector> {
     words
         .chunks_exact(length * Rq::DEGREE)
         .map(|chunk| RqVector::new(elements(chunk)))
         .collect()
 }
 
-fn triangle(words: &[u32], r: usize) -> RqMatrix {
+pub fn triangle(words: &[u32], r: usize) -> RqMatrix {
     let cells = elements(words);
     let rows = (0..r).map(|i| {
         let at = i * (i + 1) / 2;
@@ -57,12 +57,37 @@ fn triangles(words: &[u32], r: usize) -> Vec<RqMatrix> {
         .collect()
 }
 
-fn vector_words(vector: &RqVector) -> Vec<u32> {
+pub fn vector_words(vector: &RqVector) -> Vec<u32> {
     vector.elements().iter().flat_map(words).collect()
 }
 
 fn matrix_words(matrix: &RqMatrix) -> Vec<u32> {
     matrix.elements().iter().flat_map(vector_words).collect()
+}
+
+/// The parameters as the Rust has them.
+pub fn environment(p: &Parameters) -> EnvironmentParameters {
+    EnvironmentParameters {
+        rank: p.n,
+        multiplicity: p.r,
+        b: Zq::new(p.b),
+        b_1: 0,
+        t_1: p.t1,
+        b_2: 0,
+        t_2: p.t2,
+        beta_sq: p.beta_sq,
+        gamma_sq: 0,
+        gamma_1_sq: 0,
+        gamma_2_sq: 0,
+        beta_prime_sq: p.beta_prime_sq,
+        kappa: p.kappa,
+        kappa_1: p.kappa1,
+        kappa_2: p.kappa2,
+        constraint_k: p.ring,
+        constraint_l: p.constant,
+        const_agg_length: p.aggregations(),
+        log_q: p.log_q,
+    }
 }
 
 /// A job as the Rust has it.
@@ -93,27 +118,7 @@ impl Job {
             }
         };
         Job {
-            parameters: EnvironmentParameters {
-                rank: p.n,
-                multiplicity: p.r,
-                b: Zq::new(p.b),
-                b_1: 0,
-                t_1: p.t1,
-                b_2: 0,
-                t_2: p.t2,
-                beta_sq: p.beta_sq,
-                gamma_sq: 0,
-                gamma_1_sq: 0,
-                gamma_2_sq: 0,
-                beta_prime_sq: p.beta_prime_sq,
-                kappa: p.kappa,
-                kappa_1: p.kappa1,
-                kappa_2: p.kappa2,
-                constraint_k: p.ring,
-                constraint_l: p.constant,
-                const_agg_length: p.aggregations(),
-                log_q: p.log_q,
-            },
+            parameters: environment(&p),
             crs: AjtaiInstances {
                 commitment_scheme_a: scheme(0, p.n),
                 commitment_scheme_b: scheme(1, p.r * p.kappa * p.t1),

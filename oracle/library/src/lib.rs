@@ -3,6 +3,8 @@
 use model::calls::{Leaf, LeafAnswer};
 use model::{Answer, Call};
 
+pub mod slices;
+
 /// The exported functions as C has them.
 #[cfg(leaf_calls)]
 pub mod leaf_calls {
@@ -131,6 +133,9 @@ pub mod whole_calls {
 /// Whether the library is linked, and whether it has the calls on whole slices.
 pub const HAS_LEAF_CALLS: bool = cfg!(leaf_calls);
 pub const HAS_WHOLE_CALLS: bool = cfg!(whole_calls);
+
+/// Whether the calls of the slice layer are linked.
+pub const HAS_SLICE_CALLS: bool = cfg!(slice_calls);
 
 #[cfg(not(leaf_calls))]
 pub fn leaf(_: Leaf, _: &[u32]) -> Option<LeafAnswer> {

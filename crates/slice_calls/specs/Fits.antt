@@ -1,0 +1,49 @@
+-- Whether the lengths of slices are exactly those that sizes within document 01's limits tell.
+use mathlib.Core.Bool.{Bool, _&&_}
+use Prim.Native.Nat.{ℕ, _+_, _*_}
+use lib.Dec.{leb, eqb}
+use Rattle.protocol.specs.Parameters.{triangular}
+
+-- two vectors of n elements, and an element
+abbrev pub inner-product-fits : (x y out n : ℕ) → Bool
+inner-product-fits x y out n = leb n 64 && (eqb x (64 * n) && eqb y (64 * n) && eqb out 64)
+
+-- r matrices of 256 rows of n elements, as many vectors, and 256 words
+abbrev pub projection-fits : (pi s out n r : ℕ) → Bool
+projection-fits pi s out n r = (leb n 64 && leb r 16) && (eqb pi (r * 256 * (64 * n)) && eqb s (r * (64 * n)) && eqb out 256)
+
+-- where psi starts, behind r matrices of 256 rows of n elements, and omega, behind `number` rows of psi
+abbrev pub psi-place : (r n : ℕ) → ℕ
+psi-place r n = r * 256 * (64 * n)
+
+abbrev pub omega-place : (r n count number : ℕ) → ℕ
+omega-place r n count number = psi-place r n + number * count
+
+-- `count` constraints of r vectors of n elements; the matrices, psi and omega; and `number` times r vectors
+abbrev pub phi-fits : (phi randomness out r n count number : ℕ) → Bool
+phi-fits phi randomness out r n count number =
+    (leb n 64 && leb r 16 && (leb count 64 && leb number 8))
+    && (eqb phi (64 * (r * n * count)) && eqb randomness (omega-place r n count number + number * 256) && eqb out (64 * (number * (r * n))))
+
+-- the matrices B and C of `rows` rows, with an entry for each digit of t's and g's cells; those cells; and `rows` elements
+abbrev pub u1-fits : (matrices from out rows t-cells t-parts g-cells g-parts base : ℕ) → Bool
+u1-fits matrices from out rows t-cells t-parts g-cells g-parts base =
+    (leb t-cells 256 && leb t-parts 32 && leb rows 16 && (leb g-cells 136 && leb g-parts 32 && leb 2 base))
+    && (eqb matrices (64 * (rows * (t-cells * t-parts)) + 64 * (rows * (g-cells * g-parts))) && eqb from (64 * t-cells + 64 * g-cells) && eqb out (64 * rows))
+
+-- a matrix of `rows` rows of n elements, r vectors of n elements, and r of `rows` elements
+abbrev pub t-fits : (matrix s out rows n r : ℕ) → Bool
+t-fits matrix s out rows n r = (leb n 64 && leb r 16 && leb rows 16) && (eqb matrix (64 * (rows * n)) && eqb s (64 * (r * n)) && eqb out (64 * (r * rows)))
+
+-- r vectors of n elements, and a triangle of r rows
+abbrev pub g-fits : (s out n r : ℕ) → Bool
+g-fits s out n r = (leb n 64 && leb r 16) && (eqb s (64 * (r * n)) && eqb out (64 * triangular r))
+
+-- r vectors of n elements, r elements, and n elements
+abbrev pub z-fits : (s c out n r : ℕ) → Bool
+z-fits s c out n r = (leb n 64 && leb r 16) && (eqb s (64 * (r * n)) && eqb c (64 * r) && eqb out (64 * n))
+
+-- a matrix of `rows` rows, with an entry for each digit of the cells; the cells; and `rows` elements
+abbrev pub u2-fits : (matrix from out rows cells parts base : ℕ) → Bool
+u2-fits matrix from out rows cells parts base =
+    (leb cells 136 && leb parts 32 && (leb rows 16 && leb 2 base)) && (eqb matrix (64 * (rows * (cells * parts))) && eqb from (64 * cells) && eqb out (64 * rows))

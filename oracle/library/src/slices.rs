@@ -1,0 +1,171 @@
+//! The calls of the slice layer, which exist for the comparison alone.
+
+/// A call, with the order of its inputs and of its sizes.
+#[derive(Clone, Copy, Debug, PartialEq, Eq)]
+pub enum SliceCall {
+    /// x and y; n.
+    InnerProduct,
+    /// Projection words and s; n, r.
+    Projection,
+    /// φ', and projection words, psi and omega; r, n, constraints, rows of psi and of omega.
+    Phi,
+    /// B and C, and t and g; rows, cells and parts of t, cells and parts of g.
+    U1,
+    /// A and s; rows, n, r.
+    T,
+    /// s and nothing; n, r.
+    G,
+    /// s and c; n, r.
+    Z,
+    /// D and h; rows, cells and parts of h.
+    U2,
+}
+
+impl SliceCall {
+    pub const ALL: [SliceCall; 8] = [
+        SliceCall::InnerProduct,
+        SliceCall::Projection,
+        SliceCall::Phi,
+        SliceCall::U1,
+        SliceCall::T,
+        SliceCall::G,
+        SliceCall::Z,
+        SliceCall::U2,
+    ];
+
+    pub fn name(self) -> &'static str {
+        match self {
+            SliceCall::InnerProduct => "inner product",
+            SliceCall::Projection => "p",
+            SliceCall::Phi => "phi''",
+            SliceCall::U1 => "u1",
+            SliceCall::T => "t",
+            SliceCall::G => "g",
+            SliceCall::Z => "z",
+            SliceCall::U2 => "u2",
+        }
+    }
+}
+
+#[cfg(slice_calls)]
+mod exported {
+    extern "C" {
+        pub fn slice_inner_product(
+            x: *const u32,
+            x_length: usize,
+            y: *const u32,
+            y_length: usize,
+            n: usize,
+            out: *mut u32,
+            out_length: usize,
+        ) -> bool;
+        pub fn slice_projection(
+            pi: *const u32,
+            pi_length: usize,
+            s: *const u32,
+            s_length: usize,
+            n: usize,
+            r: usize,
+            out: *mut u32,
+            out_length: usize,
+        ) -> bool;
+        pub fn slice_phi(
+            phi: *const u32,
+            phi_length: usize,
+            randomness: *const u32,
+            randomness_length: usize,
+            r: usize,
+            n: usize,
+            count: usize,
+            number: usize,
+            out: *mut u32,
+            out_length: usize,
+        ) -> bool;
+        pub fn slice_u1(
+            matrices: *const u32,
+            matrices_length: usize,
+            from: *const u32,
+            from_length: usize,
+            rows: usize,
+            t_cells: usize,
+            t_parts: usize,
+            g_cells: usize,
+            g_parts: usize,
+            base: u32,
+            out: *mut u32,
+            out_length: usize,
+        ) -> bool;
+        pub fn slice_t(
+            matrix: *const u32,
+            matrix_length: usize,
+            s: *const u32,
+            s_length: usize,
+            rows: usize,
+            n: usize,
+            r: usize,
+            out: *mut u32,
+            out_length: usize,
+        ) -> bool;
+        pub fn slice_g(s: *const u32, s_length: usize, n: usize, r: usize, out: *mut u32, out_length: usize) -> bool;
+        pub fn slice_z(
+            s: *const u32,
+            s_length: usize,
+            c: *const u32,
+            c_length: usize,
+            n: usize,
+            r: usize,
+            out: *mut u32,
+            out_length: usize,
+        ) -> bool;
+        pub fn slice_u2(
+            matrix: *const u32,
+            matrix_length: usize,
+            from: *const u32,
+            from_length: usize,
+            rows: usize,
+            cells: usize,
+            parts: usize,
+            base: u32,
+            out: *mut u32,
+            out_length: usize,
+        ) -> bool;
+    }
+}
+
+#[cfg(not(slice_calls))]
+pub fn slice_call(_: SliceCall, _: [&[u32]; 2], _: &[usize], _: u32, _: &mut [u32]) -> Option<bool> {
+    None
+}
+
+/// A call; the base is that of the digits, where there are any.
+#[cfg(slice_calls)]
+pub fn slice_call(
+    call: SliceCall,
+    [first, second]: [&[u32]; 2],
+    sizes: &[usize],
+    base: u32,
+    out: &mut [u32],
+) -> Option<bool> {
+    use exported::*;
+    let (a, a_length) = (first.as_ptr(), first.len());
+    let (b, b_length) = (second.as_ptr(), second.len());
+    let (to, length) = (out.as_mut_ptr(), out.len());
+    // The calls take slices of any length, any words and any sizes.
+    let answer = unsafe {
+        match call {
+            SliceCall::InnerProduct => slice_inner_product(a, a_length, b, b_length, sizes[0], to, length),
+            SliceCall::Projection => slice_projection(a, a_length, b, b_length, sizes[0], sizes[1], to, length),
+            SliceCall::Phi => slice_phi(
+                a, a_length, b, b_length, sizes[0], sizes[1], sizes[2], sizes[3], to, length,
+            ),
+            SliceCall::U1 => slice_u1(
+                a, a_length, b, b_length, sizes[0], sizes[1], sizes[2], sizes[3], sizes[4], base, to, length,
+            ),
+            SliceCall::T => slice_t(a, a_length, b, b_length, sizes[0], sizes[1], sizes[2], to, length),
+            SliceCall::G => slice_g(a, a_length, sizes[0], sizes[1], to, length),
+            SliceCall::Z => slice_z(a, a_length, b, b_length, sizes[0], sizes[1], to, length),
+            SliceCall::U2 => slice_u2(a, a_length, b, b_length, sizes[0], sizes[1], sizes[2], base, to, length),
+        }
+    };
+    Some(answer)
+}
