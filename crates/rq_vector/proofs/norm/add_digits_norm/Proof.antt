@@ -34,7 +34,7 @@ slice-aggregate-add-norm c = search needs
 
 add-norm-requires : tie.Need-add-norm-requires Inv-loop μ-loop
 add-norm-requires c κs =
-    let n : length (c .before .before .before .take-row .result .digits) ≡ 64 = search needs in
+    let n : length (c .before .before .before .take-row .result .row) ≡ 64 = search needs in
     (omega arith, omega arith)
 
 loop-again : tie.Need-loop-again Inv-loop μ-loop
