@@ -1,15 +1,17 @@
 // The order of refusals before the work, as one answer for each call.
-use crate::buffers;
+use crate::answers::Admitted;
+use crate::answers::Checked;
 use crate::calls;
 use crate::calls::Call;
-use crate::slices;
-use crate::slices::Admitted;
-use crate::slices::Checked;
+use crate::job;
+use crate::output;
+use crate::randomness;
+use crate::scratch;
+use crate::transcript;
+use crate::witness;
 ghost use mathlib.Core.Path.{_≡_};
-ghost use Rattle.protocol.specs.Parameters.{parameters};
 ghost use Rattle.protocol.specs.Prover.{prove-refusal};
 ghost use Rattle.protocol.specs.Verifier.{verify-refusal};
-ghost use Rattle.relation.specs.Parameters.{parametersOf};
 ghost use Rattle.admission.specs.Admission.{callOf, ofAdmitted, At, Provable, Verifiable};
 
 // "section one by 3, then 4, 5; other job sections 3, 6; 7, 8; 11, 12 […]; 1, 2; then the work"
@@ -24,15 +26,19 @@ pub fn prove(
     ensures { λ r. ⌜ ofAdmitted r ≡ prove-refusal (callOf call) (now (job .entry)) (now (randomness .entry)) (now (witness .entry)) scratch output ⌝ }
     ensures { λ r. ⌜ At r (Provable (callOf call) (now (job .entry)) (now (randomness .entry)) (now (witness .entry)) scratch output) ⌝ }
 {
-    match slices::public(job, randomness, calls::handed(call)) {
+    let handed = calls::handed(call);
+    match job::check(job) {
         Admitted::Refused(refusal) => Admitted::Refused(refusal),
-        Admitted::Fit(p) => match slices::witness(witness, p) {
+        Admitted::Fit(p) => match randomness::check(randomness, p, handed) {
             Checked::Refused(refusal) => Admitted::Refused(refusal),
-            Checked::Fine => match buffers::scratch(p, scratch) {
+            Checked::Fine => match witness::check(witness, p) {
                 Checked::Refused(refusal) => Admitted::Refused(refusal),
-                Checked::Fine => match buffers::output(p, call, output) {
+                Checked::Fine => match scratch::check(scratch, p) {
                     Checked::Refused(refusal) => Admitted::Refused(refusal),
-                    Checked::Fine => Admitted::Fit(p),
+                    Checked::Fine => match output::check(output, p, call) {
+                        Checked::Refused(refusal) => Admitted::Refused(refusal),
+                        Checked::Fine => Admitted::Fit(p),
+                    },
                 },
             },
         },
@@ -44,13 +50,16 @@ pub fn verify(job: &[u32], randomness: &[u32], transcript: &[u32], scratch: usiz
     ensures { λ r. ⌜ ofAdmitted r ≡ verify-refusal (now (job .entry)) (now (randomness .entry)) (now (transcript .entry)) scratch ⌝ }
     ensures { λ r. ⌜ At r (Verifiable (now (job .entry)) (now (randomness .entry)) (now (transcript .entry)) scratch) ⌝ }
 {
-    match slices::public(job, randomness, 7) {
+    match job::check(job) {
         Admitted::Refused(refusal) => Admitted::Refused(refusal),
-        Admitted::Fit(p) => match slices::transcript(transcript, p) {
+        Admitted::Fit(p) => match randomness::check(randomness, p, 7) {
             Checked::Refused(refusal) => Admitted::Refused(refusal),
-            Checked::Fine => match buffers::scratch(p, scratch) {
+            Checked::Fine => match transcript::check(transcript, p) {
                 Checked::Refused(refusal) => Admitted::Refused(refusal),
-                Checked::Fine => Admitted::Fit(p),
+                Checked::Fine => match scratch::check(scratch, p) {
+                    Checked::Refused(refusal) => Admitted::Refused(refusal),
+                    Checked::Fine => Admitted::Fit(p),
+                },
             },
         },
     }

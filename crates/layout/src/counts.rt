@@ -36,12 +36,12 @@ pub fn count(words: &[u32], place: usize, s: Sections) -> Counted
     let mut m = 0;
     while m < s.len {
         let expected = counts[m];
-        if len <= at {
-            return Counted::Wrong(len);
+        if at < len {
+            if wide(words[at]) != expected {
+                return Counted::Wrong(at);
+            }
         }
-        if wide(words[at]) != expected {
-            return Counted::Wrong(at);
-        }
+        // the count is missing, or too few words follow it
         if len - at <= expected {
             return Counted::Wrong(len);
         }

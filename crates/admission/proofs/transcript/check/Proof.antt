@@ -1,9 +1,9 @@
--- `transcript` meets its contract.
+-- `transcript::check` meets its contract.
 use Rattle.protocol.specs.Layout.{transcript-refusal}
 use Rattle.admission.proofs.Found.{examined}
 use borrow.Author.Needs.{needs}
-use Rattle.admission.proofs.slices.transcript.Statement.{statement}
-use Rattle.admission.proofs.slices.transcript.Tie as tie
+use Rattle.admission.proofs.transcript.check.Statement.{statement}
+use Rattle.admission.proofs.transcript.check.Tie as tie
 
 returns : tie.Need-returns
 unfolding transcript-refusal
@@ -17,8 +17,8 @@ returns-3 : tie.Need-returns-3
 unfolding transcript-refusal
 returns-3 c = examined 9 10 _ 0 (c .before .before .before .transcript-sections .ensures .lists) (c .before .before .examine .ensures) (c .enum-told .given .1)
 
-pub transcript-spec : {M : Type 1} → statement M
-transcript-spec =
+pub check-spec : {M : Type 1} → statement M
+check-spec =
     tie.close
     (tie.spec
     (λ c κs. search needs)

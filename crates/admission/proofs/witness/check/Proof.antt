@@ -1,9 +1,9 @@
--- `witness` meets its contract.
+-- `witness::check` meets its contract.
 use Rattle.protocol.specs.Layout.{witness-refusal}
 use Rattle.admission.proofs.Found.{examined}
 use borrow.Author.Needs.{needs}
-use Rattle.admission.proofs.slices.witness.Statement.{statement}
-use Rattle.admission.proofs.slices.witness.Tie as tie
+use Rattle.admission.proofs.witness.check.Statement.{statement}
+use Rattle.admission.proofs.witness.check.Tie as tie
 
 returns : tie.Need-returns
 unfolding witness-refusal
@@ -17,8 +17,8 @@ returns-3 : tie.Need-returns-3
 unfolding witness-refusal
 returns-3 c = examined 11 12 _ 0 (c .before .before .before .witness-sections .ensures .lists) (c .before .before .examine .ensures) (c .enum-told .given .1)
 
-pub witness-spec : {M : Type 1} → statement M
-witness-spec =
+pub check-spec : {M : Type 1} → statement M
+check-spec =
     tie.close
     (tie.spec
     (λ c κs. search needs)

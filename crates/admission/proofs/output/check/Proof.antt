@@ -1,4 +1,4 @@
--- `output` meets its contract.
+-- `output::check` meets its contract.
 use mathlib.Core.Path.{_≡_, ap₂, _∙_}
 use lib.ListN.{take, drop}
 use Rattle.protocol.specs.Layout.{span, transcript-sections}
@@ -7,14 +7,15 @@ use Rattle.relation.specs.Parameters.{parametersOf}
 use Rattle.admission.specs.Admission.{callOf}
 use Rattle.admission.proofs.Found.{too-short, long-enough}
 use borrow.Author.Needs.{needs}
-use Rattle.admission.proofs.buffers.output.Statement.{statement}
-use Rattle.admission.proofs.buffers.output.Tie as tie
+use Rattle.admission.proofs.output.check.Statement.{statement}
+use Rattle.admission.proofs.output.check.Tie as tie
 
 -- the need is that of the sections that the call makes
 needed : (c : tie.After-output-length) → c .output-length .result ≡ span (made-sections (callOf (c .before .before .args .call)) (parametersOf (c .before .before .args .p)))
 needed c =
     let m = c .before .makes .ensures in
-    c .output-length .ensures ∙ ap₂ (λ from n. span (take n (drop from (transcript-sections (parametersOf (c .before .before .args .p)))))) (m .0) (m .1)
+    let ss = transcript-sections (parametersOf (c .before .before .args .p)) in
+    c .output-length .ensures ∙ ap₂ (λ from n. span (take n (drop from ss))) (m .0) (m .1)
 
 returns : tie.Need-returns
 returns c = too-short 2 _ _ (needed (c .before)) (c .if1 .taken)
@@ -22,5 +23,5 @@ returns c = too-short 2 _ _ (needed (c .before)) (c .if1 .taken)
 returns-2 : tie.Need-returns-2
 returns-2 c = long-enough 2 _ _ (needed (c .before)) (c .if1 .left)
 
-pub output-spec : {M : Type 1} → statement M
-output-spec = tie.close (tie.spec (λ c κs. search needs) (λ c κs. search needs) returns returns-2)
+pub check-spec : {M : Type 1} → statement M
+check-spec = tie.close (tie.spec (λ c κs. search needs) (λ c κs. search needs) returns returns-2)

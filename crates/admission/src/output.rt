@@ -1,29 +1,18 @@
-// The refusals of the lent buffers: scratch 1, output 2. "Place is the length needed."
+// The lent output: 2.
+use crate::answers::Checked;
 use crate::calls;
 use crate::calls::Call;
-use crate::slices::Checked;
 use definitions::answers::Refusal;
 use relation::env_params::EnvironmentParameters;
 ghost use mathlib.Core.Path.{_≡_};
-ghost use Rattle.protocol.specs.Layout.{scratch-refusal, output-refusal};
+ghost use Rattle.protocol.specs.Layout.{output-refusal};
 ghost use Rattle.protocol.specs.Prover.{made-sections};
 ghost use Rattle.relation.specs.Parameters.{parametersOf};
 ghost use Rattle.sizes.specs.Sizes.{Sized};
 ghost use Rattle.admission.specs.Admission.{callOf, ofChecked};
 
-pub fn scratch(p: EnvironmentParameters, lent: usize) -> Checked
-    requires { ⌜ Sized (parametersOf p) ⌝ }
-    ensures { λ r. ⌜ ofChecked r ≡ scratch-refusal (parametersOf p) lent ⌝ }
-{
-    let need = sizes::buffers::scratch_length(p);
-    if lent < need {
-        Checked::Refused(Refusal::ScratchTooShort(need))
-    } else {
-        Checked::Fine
-    }
-}
-
-pub fn output(p: EnvironmentParameters, call: Call, lent: usize) -> Checked
+// "Place is the length needed."
+pub fn check(lent: usize, p: EnvironmentParameters, call: Call) -> Checked
     requires { ⌜ Sized (parametersOf p) ⌝ }
     ensures { λ r. ⌜ ofChecked r ≡ output-refusal (made-sections (callOf call) (parametersOf p)) lent ⌝ }
 {

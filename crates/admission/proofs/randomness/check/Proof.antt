@@ -1,9 +1,9 @@
--- `randomness` meets its contract.
+-- `randomness::check` meets its contract.
 use Rattle.protocol.specs.Layout.{randomness-refusal}
 use Rattle.admission.proofs.Found.{examined}
 use borrow.Author.Needs.{needs}
-use Rattle.admission.proofs.slices.randomness.Statement.{statement}
-use Rattle.admission.proofs.slices.randomness.Tie as tie
+use Rattle.admission.proofs.randomness.check.Statement.{statement}
+use Rattle.admission.proofs.randomness.check.Tie as tie
 
 returns : tie.Need-returns
 unfolding randomness-refusal
@@ -17,8 +17,8 @@ returns-3 : tie.Need-returns-3
 unfolding randomness-refusal
 returns-3 c = examined 7 8 _ 0 (c .before .before .before .randomness-sections .ensures .lists) (c .before .before .examine .ensures) (c .enum-told .given .1)
 
-pub randomness-spec : {M : Type 1} → statement M
-randomness-spec =
+pub check-spec : {M : Type 1} → statement M
+check-spec =
     tie.close
     (tie.spec
     (λ c κs. search needs)
