@@ -6,7 +6,7 @@ use native.Mathlib.Decide.{decLe}
 use native.Mathlib.Omega.{arith}
 use Rattle.definitions.specs.Answer.{Answer, fine, refused, _then_}
 use Rattle.protocol.specs.Checks.{require}
-use Rattle.protocol.specs.Layout.{Section, layout, ranged, randomness-refusal}
+use Rattle.protocol.specs.Layout.{Section, layout, ranged}
 use Rattle.protocol.proofs.Fine.{require-holds}
 use Rattle.layout.specs.declared.slices.Examined.{Examined}
 use Rattle.layout.specs.Sections.{ofExamined}
@@ -41,7 +41,3 @@ fitted P e f is = (sym (ap ofAdmitted is) ∙ e, subst (λ x. At x (λ p. parame
 
 pub told : {r x : Checked} {a : Answer} → ofChecked r ≡ a → r ≡ x → ofChecked x ≡ a
 told e is = sym (ap ofChecked is) ∙ e
-
--- the sections of randomness that a call is handed are those that it says
-pub drawn : (P : Parameters) (R : List ℕ) {m k : ℕ} {r x : Checked} → m ≡ k → ofChecked r ≡ randomness-refusal P m R → r ≡ x → ofChecked x ≡ randomness-refusal P k R
-drawn P R h e is = told e is ∙ ap (λ n. randomness-refusal P n R) h

@@ -52,7 +52,7 @@ pub fn count(words: &[u32], place: usize, s: Sections) -> Counted
 }
 
 // The first place at which the sections from a place on do not take the slice to its end.
-pub fn misplaced(words: &[u32], place: usize, s: Sections) -> Found
+pub fn first_wrong(words: &[u32], place: usize, s: Sections) -> Found
     requires { ⌜ (s .len ≤ 10) × (place ≤ length (now words)) ⌝ }
     ensures { λ r. ⌜ ((number : ℕ) → ofFound number r ≡ layout number (now (words .entry)) place (listed s)) ⌝ }
 {

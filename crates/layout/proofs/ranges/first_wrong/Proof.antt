@@ -1,4 +1,4 @@
--- `first_out_of_range` meets its contract. The invariants: the sections before m, and the words of section m before `at`, are in range.
+-- `ranges::first_wrong` meets its contract. The invariants: the sections before m, and the words of section m before `at`, are in range.
 use mathlib.Core.Path.{_≡_, refl, ap, _∙_}
 use Prim.Native.Nat.{_+_, _-_, _≤_}
 use native.Mathlib.Omega.{arith}
@@ -6,8 +6,8 @@ use lib.ListN.{length, getD}
 use Rattle.layout.specs.Sections.{listed, ofFound}
 use Rattle.layout.specs.declared.counts.Found.the-variants as F
 use Rattle.layout.proofs.Search.{Searched, InSection, searched-none, searched-all, section-ends, section-passed, word-next, word-found, section-next}
-use Rattle.layout.proofs.ranges.first_out_of_range.Statement.{statement}
-use Rattle.layout.proofs.ranges.first_out_of_range.Tie as tie
+use Rattle.layout.proofs.ranges.first_wrong.Statement.{statement}
+use Rattle.layout.proofs.ranges.first_wrong.Tie as tie
 
 abbrev Inv-loop : tie.InvT-loop
 Inv-loop words place s counts limits found₀ at₀ m greatest end found at = (found ≡ F.Nowhere) × (m ≤ s .len) × InSection words place (listed s) m greatest end at
@@ -70,8 +70,8 @@ returns-2 c =
     let l = c .before .before .before .loop in
     word-found _ _ _ (omega arith) _ _ _ (l .at) (l .inv .2) (omega arith) (omega arith)
 
-pub first-out-of-range-spec : {M : Type 1} → statement M
-first-out-of-range-spec =
+pub first-wrong-spec : {M : Type 1} → statement M
+first-wrong-spec =
     tie.close
     (tie.spec
     Inv-loop

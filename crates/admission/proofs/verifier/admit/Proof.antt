@@ -1,18 +1,17 @@
--- `verify` meets its contract.
+-- `verifier::admit` meets its contract.
 use mathlib.Core.Path.{sym, ap, _∙_}
-use native.Mathlib.Omega.{arith}
 use Rattle.admission.specs.Admission.{ofAdmitted}
 use Rattle.admission.proofs.Found.{fitted, told}
 use Rattle.admission.proofs.Refusals.{job-refuses′, randomness-refuses′, transcript-refuses, scratch-answers}
 use Rattle.admission.proofs.Ready.{job-sized, verifiable}
 use borrow.Author.Needs.{needs}
-use Rattle.admission.proofs.order.verify.Statement.{statement}
-use Rattle.admission.proofs.order.verify.Tie as tie
+use Rattle.admission.proofs.verifier.admit.Statement.{statement}
+use Rattle.admission.proofs.verifier.admit.Tie as tie
 
 check-requires-2 : tie.Need-check-requires-2
 check-requires-2 c κs =
     let f = fitted _ (c .before .before .before .check .ensures .0) (c .before .before .before .check .ensures .1) (c .before .p .given .1) in
-    (job-sized _ _ (f .0) (f .1), omega arith)
+    job-sized _ _ (f .0) (f .1)
 
 check-requires-3 : tie.Need-check-requires-3
 check-requires-3 c κs =
@@ -54,8 +53,8 @@ returns-5 c =
     let e = scratch-answers _ _ _ _ _ (f .1) (f .0) r t (told (c .before .before .check4 .ensures) (c .enum-told3 .given .1)) in
     (e, verifiable _ _ _ _ _ (f .1) (sym e))
 
-pub verify-spec : {M : Type 1} → statement M
-verify-spec =
+pub admit-spec : {M : Type 1} → statement M
+admit-spec =
     tie.close
     (tie.spec
     (λ c κs. search needs)
