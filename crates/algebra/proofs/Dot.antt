@@ -64,6 +64,10 @@ module _ (O : Ops) (R : CRing O) where
   pub dot-neg-right : (n : ℕ) (f g : ℕ → Carrier) → dot O n f (λ i. neg (g i)) ≡ neg (dot O n f g)
   dot-neg-right n f g = dot-comm n f (λ i. neg (g i)) ∙ dot-neg-left n g f ∙ ap neg (dot-comm n g f)
 
+  -- ⟨f, g − h⟩ = ⟨f, g⟩ − ⟨f, h⟩
+  pub dot-sub-right : (n : ℕ) (f g h : ℕ → Carrier) → dot O n f (λ i. g i ⊕ neg (h i)) ≡ dot O n f g ⊕ neg (dot O n f h)
+  dot-sub-right n f g h = dot-add-right n f g (λ i. neg (h i)) ∙ ap (_⊕_ (dot O n f g)) (dot-neg-right n f h)
+
   -- ⟨c f, g⟩ = c ⟨f, g⟩
   pub dot-mul-left : (n : ℕ) (c : Carrier) (f g : ℕ → Carrier) → dot O n (λ i. c ⊗ f i) g ≡ c ⊗ dot O n f g
   unfolding dot

@@ -61,12 +61,26 @@ module _ (O : Ops) (R : CRing O) where
   unfolding pairs
   pairs-triangle n f = sum-triangle O R n f
 
+  -- a line Σ ⟨φ_i, s_i⟩ whose vectors are sums is the sum of the lines
+  pub line-add : (r n : ℕ) (φ ψ s : ℕ → ℕ → Carrier) → sum O r (λ i. dot O n (λ k. φ i k ⊕ ψ i k) (s i)) ≡ sum O r (λ i. dot O n (φ i) (s i)) ⊕ sum O r (λ i. dot O n (ψ i) (s i))
+  line-add r n φ ψ s =
+      sum-ext O r (λ i. dot O n (λ k. φ i k ⊕ ψ i k) (s i)) (λ i. dot O n (φ i) (s i) ⊕ dot O n (ψ i) (s i)) (λ i l. dot-add-left O R n (φ i) (ψ i) (s i))
+      ∙ sum-add O R r (λ i. dot O n (φ i) (s i)) (λ i. dot O n (ψ i) (s i))
+
+  -- a line Σ ⟨φ_i, s_i⟩ whose vectors are linear combinations is the combination of the lines
+  pub line-comb : (r n m : ℕ) (w : ℕ → Carrier) (φ : ℕ → ℕ → ℕ → Carrier) (s : ℕ → ℕ → Carrier)
+      → sum O r (λ i. dot O n (comb O m w (λ k. φ k i)) (s i)) ≡ sum O m (λ k. w k ⊗ sum O r (λ i. dot O n (φ k i) (s i)))
+  line-comb r n m w φ s =
+      sum-ext O r (λ i. dot O n (comb O m w (λ k. φ k i)) (s i)) (λ i. sum O m (λ k. w k ⊗ dot O n (φ k i) (s i))) (λ i l. dot-comb-left O R n m w (λ k. φ k i) (s i))
+      ∙ sum-swap O R r m (λ i k. w k ⊗ dot O n (φ k i) (s i))
+      ∙ sum-ext O m (λ k. sum O r (λ i. w k ⊗ dot O n (φ k i) (s i))) (λ k. w k ⊗ sum O r (λ i. dot O n (φ k i) (s i))) (λ k l. sum-mul-left O R r (w k) (λ i. dot O n (φ k i) (s i)))
+
   -- the form of a linear combination of m coefficient pairs (a, φ) is the combination of their forms
   pub form-comb : (r n m : ℕ) (w : ℕ → Carrier) (a φ : ℕ → ℕ → ℕ → Carrier) (s : ℕ → ℕ → Carrier)
       → form O r n (λ i j. sum O m (λ k. w k ⊗ a k i j)) (λ i. comb O m w (λ k. φ k i)) s ≡ sum O m (λ k. w k ⊗ form O r n (a k) (φ k) s)
   unfolding form
   form-comb r n m w a φ s =
-      ap₂ _⊕_ quadratic linear
+      ap₂ _⊕_ quadratic (line-comb r n m w φ s)
       ∙ sym (sum-add O R m (λ k. w k ⊗ square k) (λ k. w k ⊗ line k))
       ∙ sum-ext O m (λ k. w k ⊗ square k ⊕ w k ⊗ line k) (λ k. w k ⊗ (square k ⊕ line k)) (λ k l. sym (R .mul-add (w k) (square k) (line k)))
     where
@@ -87,12 +101,6 @@ module _ (O : Ops) (R : CRing O) where
           ∙ pairs-sum r m (λ k i j. w k ⊗ (a k i j ⊗ dot O n (s i) (s j)))
           ∙ sum-ext O m (λ k. pairs O r (λ i j. w k ⊗ (a k i j ⊗ dot O n (s i) (s j)))) (λ k. w k ⊗ square k) (λ k l. pairs-mul-left r (w k) (λ i j. a k i j ⊗ dot O n (s i) (s j)))
 
-      linear : sum O r (λ i. dot O n (comb O m w (λ k. φ k i)) (s i)) ≡ sum O m (λ k. w k ⊗ line k)
-      linear =
-          sum-ext O r (λ i. dot O n (comb O m w (λ k. φ k i)) (s i)) (λ i. sum O m (λ k. w k ⊗ dot O n (φ k i) (s i))) (λ i l. dot-comb-left O R n m w (λ k. φ k i) (s i))
-          ∙ sum-swap O R r m (λ i k. w k ⊗ dot O n (φ k i) (s i))
-          ∙ sum-ext O m (λ k. sum O r (λ i. w k ⊗ dot O n (φ k i) (s i))) (λ k. w k ⊗ line k) (λ k l. sum-mul-left O R r (w k) (λ i. dot O n (φ k i) (s i)))
-
   -- the form of a sum of coefficients is the sum of the forms
   pub form-add : (r n : ℕ) (a b φ ψ s : ℕ → ℕ → Carrier) → form O r n (λ i j. a i j ⊕ b i j) (λ i k. φ i k ⊕ ψ i k) s ≡ form O r n a φ s ⊕ form O r n b ψ s
   unfolding form
@@ -100,9 +108,16 @@ module _ (O : Ops) (R : CRing O) where
       ap₂ _⊕_
       (pairs-ext O r (λ i j. (a i j ⊕ b i j) ⊗ dot O n (s i) (s j)) (λ i j. a i j ⊗ dot O n (s i) (s j) ⊕ b i j ⊗ dot O n (s i) (s j)) (λ i j l m. add-mul O R (a i j) (b i j) (dot O n (s i) (s j)))
       ∙ pairs-add r (λ i j. a i j ⊗ dot O n (s i) (s j)) (λ i j. b i j ⊗ dot O n (s i) (s j)))
-      (sum-ext O r (λ i. dot O n (λ k. φ i k ⊕ ψ i k) (s i)) (λ i. dot O n (φ i) (s i) ⊕ dot O n (ψ i) (s i)) (λ i l. dot-add-left O R n (φ i) (ψ i) (s i))
-      ∙ sum-add O R r (λ i. dot O n (φ i) (s i)) (λ i. dot O n (ψ i) (s i)))
+      (line-add r n φ ψ s)
       ∙ add-add-add-comm O R (pairs O r (λ i j. a i j ⊗ dot O n (s i) (s j))) (pairs O r (λ i j. b i j ⊗ dot O n (s i) (s j))) (sum O r (λ i. dot O n (φ i) (s i))) (sum O r (λ i. dot O n (ψ i) (s i)))
+
+  -- the form with a line added to its linear part
+  pub form-add-line : (r n : ℕ) (a φ ψ s : ℕ → ℕ → Carrier) → form O r n a (λ i k. φ i k ⊕ ψ i k) s ≡ form O r n a φ s ⊕ sum O r (λ i. dot O n (ψ i) (s i))
+  unfolding form
+  form-add-line r n a φ ψ s =
+      ap (λ x. pairs O r (λ i j. a i j ⊗ dot O n (s i) (s j)) ⊕ x)
+      (line-add r n φ ψ s)
+      ∙ sym (R .add-assoc (pairs O r (λ i j. a i j ⊗ dot O n (s i) (s j))) (sum O r (λ i. dot O n (φ i) (s i))) (sum O r (λ i. dot O n (ψ i) (s i))))
 
   -- ⟨z, z⟩ = Σ_ij ⟨s_i, s_j⟩ c_i c_j for z = Σ c_i s_i
   pub square-of-comb : (r n : ℕ) (c : ℕ → Carrier) (s : ℕ → ℕ → Carrier) → dot O n (comb O r c s) (comb O r c s) ≡ pairs O r (λ i j. dot O n (s i) (s j) ⊗ c i ⊗ c j)

@@ -153,6 +153,10 @@ module _ (O : Ops) (R : CRing O) where
   pub two-mul : (a : Carrier) → (one ⊕ one) ⊗ a ≡ a ⊕ a
   two-mul a = simp (ring, R)
 
+  -- (a + b) − (c + b) = a − c
+  pub sub-common : (a b c : Carrier) → a ⊕ b ⊕ neg (c ⊕ b) ≡ a ⊕ neg c
+  sub-common a b c = simp (ring, R)
+
   -- where 1 + 1 has an inverse h, a + a = b + b gives a = b
   pub double-cancel : (h : Carrier) → h ⊗ (one ⊕ one) ≡ one → (a b : Carrier) → a ⊕ a ≡ b ⊕ b → a ≡ b
   double-cancel h e a b d = sym (halved a) ∙ ap (λ x. h ⊗ x) d ∙ halved b

@@ -4,8 +4,10 @@ use mathlib.Core.Bool.{Bool, true, false, cond}
 use mathlib.Core.List.{List}
 use Prim.Native.Nat.{ℕ, _+_, _-_, _*_, _%_, _<_}
 use native.Mathlib.Nat as Nat
+use native.Mathlib.Decide.{decLt}
 use native.Mathlib.Omega.{arith}
 use lib.Dec.{eqb}
+use lib.ListN.{length, List·getD-eq-default}
 use Rattle.lists.specs.Table.{table}
 use Rattle.lists.specs.Sum.{Σ}
 use Rattle.lists.proofs.Table.{is-table, getD-table, table-ext}
@@ -51,9 +53,13 @@ rconj-element a h = table-element (λ k. cond (eqb k 0) (coeff a 0) (zneg (coeff
     either true l = h
     either false l = l
 
--- coefficient 0 of an element is canonical
-pub coeff-zero-canonical : (a : Element) → Canonical (coeff (words a) 0)
-coeff-zero-canonical a = a .1 .1 0 (rw (a .1 .0) (omega arith))
+-- a coefficient of an element is canonical; past its 64 it is 0
+pub coeff-canonical : (a : Element) (k : ℕ) → Canonical (coeff (words a) k)
+coeff-canonical a k = go (decLt k (length (words a)))
+  where
+    go : Dec (k < length (words a)) → Canonical (coeff (words a) k)
+    go (yes h) = a .1 .1 k h
+    go (no h) = rw (List·getD-eq-default (words a) 0 {n = k} (omega arith)) (omega arith)
 
 -- the words of the element of a list that has an element's words
 pub words-element : (l : List ℕ) → IsElement l → words (element l) ≡ l
@@ -98,7 +104,7 @@ words-scale a c = words-element (rscale (words a) c) (rscale-element (words a) c
 -- the words of a conjugate
 pub words-conj : (a : Element) → words (conj a) ≡ rconj (words a)
 unfolding conj
-words-conj a = words-element (rconj (words a)) (rconj-element (words a) (coeff-zero-canonical a))
+words-conj a = words-element (rconj (words a)) (rconj-element (words a) (coeff-canonical a 0))
 
 -- the element of a sum of lists
 pub element-radd : (a b : List ℕ) → element (radd a b) ≡ RqOps .add (element a) (element b)

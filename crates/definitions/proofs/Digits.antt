@@ -3,7 +3,7 @@ use mathlib.Core.Path.{_≡_, refl, sym, ap, ap₂, _∙_}
 use mathlib.Core.Bool.{Bool, true, false, cond, xor}
 use mathlib.Core.Logic.{_↔_}
 use Prim.Native.Nat.{ℕ, zero, suc, _+_, _-_, _*_, _/_, _%_, _^_, _≤_, _<_, suc-le-suc}
-use native.Mathlib.Nat.{mod-lt, div-add-mod', zero-mod, zero-div, add-mul-mod-self-right, pow-suc, pow-zero, mul-one, add-zero, add-suc, mul-le-mul-right, mul-le-mul-left, lt-of-not-le, le-of-suc-le-suc, not-suc-le-zero}
+use native.Mathlib.Nat.{le-refl, mod-le, mod-lt, div-zero, div-le-self, div-add-mod', zero-mod, zero-div, add-mul-mod-self-right, pow-suc, pow-zero, mul-one, add-zero, add-suc, mul-le-mul-right, mul-le-mul-left, lt-of-not-le, le-of-suc-le-suc, not-suc-le-zero}
 use native.Mathlib.Numerals.{add-one}
 use native.Mathlib.Omega.{arith}
 use lib.Dec.{ltb}
@@ -196,6 +196,34 @@ unfolding digit
 digit-canonical b a k p l =
     let s = sizeAfter b k (size a) in
     signed-canonical (digitBelow b a k) (remSize b s) (omega (arith, remSize-le b s p))
+
+-- a remainder's size is at most the size, in any base
+pub remSize-self : (b s : ℕ) → remSize b s ≤ s
+remSize-self b s = let l : s % b ≤ s = mod-le s b in ltb-cases (λ t. cond t (b - s % b) (s % b) ≤ s) (b / 2) (s % b) (λ h. omega arith) (λ h. l)
+
+-- the next size is at most the size, in any base
+pub nextSize-self : (b s : ℕ) → nextSize b s ≤ s
+nextSize-self b s =
+    let e : s / b * b + s % b ≡ s = div-add-mod' s b in
+    let l : s / b ≤ s = div-le-self s b in
+    ltb-cases (λ t. cond t (s / b + 1) (s / b) ≤ s) (b / 2) (s % b) (λ h. below b s e h) (λ h. l)
+  where
+    below : (b s : ℕ) → s / b * b + s % b ≡ s → b / 2 < s % b → s / b + 1 ≤ s
+    below zero s e h = omega (arith, div-zero s)
+    below (suc b) s e h = omega arith
+
+-- the size after some digits is at most the size, in any base
+pub sizeAfter-self : (b k s : ℕ) → sizeAfter b k s ≤ s
+unfolding sizeAfter
+sizeAfter-self b zero s = le-refl s
+sizeAfter-self b (suc k) s = omega (arith, nextSize-self b (sizeAfter b k s), sizeAfter-self b k s)
+
+-- a digit of a canonical value is canonical, in any base
+pub digit-of-canonical : (b a k : ℕ) → Canonical a → Canonical (digit b a k)
+unfolding digit
+digit-of-canonical b a k h =
+    let s = sizeAfter b k (size a) in
+    signed-canonical (digitBelow b a k) (remSize b s) (omega (arith, remSize-self b s, sizeAfter-self b k (size a), size-le a h))
 
 -- there are as many digits as parts
 pub length-digits : (b n a : ℕ) → length (digits b n a) ≡ n

@@ -1,15 +1,17 @@
 -- Zq is a commutative ring, and the canonical value of a number is a homomorphism from the natural numbers.
 use mathlib.Core.Path.{_≡_, refl, sym, ap, _∙_}
+use mathlib.Core.Logic.{_↔_}
 use mathlib.Core.HLevel.{Σ-set, Σ-prop-path, prop→set}
 use Prim.Native.Nat.{ℕ, zero, suc, _+_, _-_, _*_, _%_}
 use native.Mathlib.Nat as Nat
 use native.Mathlib.Bridge.{le-prop}
+use native.Mathlib.Omega.{arith}
 use Rattle.lists.specs.Sum.{Σ}
 use Rattle.algebra.specs.Ops.{sum}
-use Rattle.algebra.proofs.Ring.{CRing, double-cancel}
-use Rattle.definitions.specs.Zq.{Q, zadd, zsub, zneg, zmul}
+use Rattle.algebra.proofs.Ring.{CRing, double-cancel, eq-of-sub-nil}
+use Rattle.definitions.specs.Zq.{Q, Canonical, zadd, zsub, zneg, zmul}
 use Rattle.definitions.specs.Ring.{Residue, residue, ZqOps}
-use Rattle.definitions.proofs.Modulo.{mul-mod-first, mul-mod-second, mul-mod-both}
+use Rattle.definitions.proofs.Modulo.{add-neg-mod, mul-mod-first, mul-mod-second, mul-mod-both}
 
 -- canonical values with the same number are equal
 pub residue-path : (a b : Residue) → a .0 ≡ b .0 → a ≡ b
@@ -64,6 +66,13 @@ residue-zneg a = residue-reduced (Q - a % Q)
 -- the canonical value of zsub
 pub residue-zsub : (a b : ℕ) → residue (zsub a b) ≡ ZqOps .add (residue a) (ZqOps .neg (residue b))
 residue-zsub a b = residue-reduced (a + (Q - b % Q)) ∙ residue-add a (Q - b % Q)
+
+-- canonical values are equal just where their difference is zero
+pub zsub-zero : (a b : ℕ) → Canonical a → Canonical b → (zsub a b ≡ 0) ↔ (a ≡ b)
+zsub-zero a b p q = (
+  λ e. sym (Nat.mod-eq-of-lt p) ∙ ap (λ (x : Residue). x .0) (eq-of-sub-nil ZqOps zq-ring (residue a) (residue b) (sym (residue-zsub a b) ∙ ap residue e)) ∙ Nat.mod-eq-of-lt q,
+  λ e. ap (λ x. zsub x b) e ∙ add-neg-mod Q (omega arith) b,
+)
 
 -- the canonical value of a finite sum
 pub residue-Σ : (n : ℕ) (f : ℕ → ℕ) → residue (Σ n f) ≡ sum ZqOps n (λ i. residue (f i))

@@ -1,16 +1,17 @@
 -- Laws of `cat`: its length, equal joins, and the elements of one list joined.
 use mathlib.Core.Path.{_≡_, refl, sym, ap, ap₂, _∙_}
-use mathlib.Core.List.{List, [], _∷_, _++_}
+use mathlib.Core.List.{List, _++_}
 use mathlib.Core.Logic.{_⊎_, inl, inr}
-use Prim.Native.Nat.{ℕ, zero, suc, _+_, _<_}
-use native.Mathlib.Nat.{not-suc-le-zero, eq-or-lt-of-le}
+use Prim.Native.Nat.{ℕ, zero, suc, _+_, _*_, _<_}
+use native.Mathlib.Nat.{not-suc-le-zero, eq-or-lt-of-le, zero-mul, suc-mul}
 use native.Mathlib.Numerals.{add-one}
 use native.Mathlib.Omega.{arith}
 use lib.ListN.{length, getD, length-append, List·getD-append}
 use lib.Seq.{getD-append-add}
 use Rattle.lists.specs.Table.{table, cat}
 use Rattle.lists.specs.Sum.{Σ}
-use Rattle.lists.proofs.Table.{length-table, getD-table}
+use Rattle.lists.proofs.Additive.{additive-cat}
+use Rattle.lists.proofs.Table.{length-table, getD-table, table-split}
 use Rattle.lists.proofs.Sum.{Σ-ext, Σ-within}
 
 module _ {ℓ} {A : Type ℓ} where
@@ -27,9 +28,7 @@ module _ {ℓ} {A : Type ℓ} where
 
   -- the lengths add up
   pub length-cat : (n : ℕ) (f : ℕ → List A) → length (cat n f) ≡ Σ n (λ i. length (f i))
-  unfolding cat Σ
-  length-cat zero f = refl
-  length-cat (suc n) f = length-append (cat n f) (f n) ∙ ap (λ k. k + length (f n)) (length-cat n f)
+  length-cat = additive-cat length (record { empty = refl; joined = length-append })
 
   -- element j of list i stands after the elements of the lists before it
   pub getD-cat : (n : ℕ) (f : ℕ → List A) (i j : ℕ) (d : A) → i < n → j < length (f i) → getD (cat n f) (Σ i (λ k. length (f k)) + j) d ≡ getD (f i) j d
@@ -47,6 +46,13 @@ module _ {ℓ} {A : Type ℓ} where
           ∙ getD-append-add (cat n f) (f n) j d
           ∙ ap (λ k. getD (f k) j d) (sym same)
       go (inr m) ih = List·getD-append (cat n f) (f n) d place (rw length-cat (Σ-within n (λ k. length (f k)) i j (omega arith) l)) ∙ ih (omega arith) l
+
+  -- a table of m rows of n entries each, row after row
+  pub table-rows : (m n : ℕ) (f : ℕ → A) → table (m * n) f ≡ cat m (λ i. table n (λ j. f (i * n + j)))
+  unfolding cat table
+  table-rows zero n f = ap (λ k. table k f) (zero-mul n)
+  table-rows (suc m) n f =
+      ap (λ k. table k f) (suc-mul m n) ∙ table-split (m * n) n f ∙ ap (λ l. l ++ table n (λ j. f (m * n + j))) (table-rows m n f)
 
 -- n tables joined, table i with w i entries f i 0, f i 1, …
 module _ {ℓ} {A : Type ℓ} (n : ℕ) (w : ℕ → ℕ) (f : ℕ → ℕ → A) where

@@ -115,3 +115,7 @@ pub Σ-mod : (n q : ℕ) (f : ℕ → ℕ) → Σ n (λ i. f i % q) % q ≡ Σ n
 unfolding Σ
 Σ-mod zero q f = refl
 Σ-mod (suc n) q f = add-mod-mod (Σ n (λ i. f i % q)) (f n) q ∙ sym (mod-add-mod (Σ n (λ i. f i % q)) q (f n)) ∙ ap (λ s. (s + f n) % q) (Σ-mod n q f) ∙ mod-add-mod (Σ n f) q (f n)
+
+-- terms that agree modulo q give sums that agree modulo q
+pub Σ-mod-ext : (n q : ℕ) (f g : ℕ → ℕ) → ((i : ℕ) → i < n → f i % q ≡ g i % q) → Σ n f % q ≡ Σ n g % q
+Σ-mod-ext n q f g h = sym (Σ-mod n q f) ∙ ap (λ s. s % q) (Σ-ext n (λ i. f i % q) (λ i. g i % q) h) ∙ Σ-mod n q g

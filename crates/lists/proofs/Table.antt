@@ -1,9 +1,9 @@
 -- Laws of `table`: its length, its elements, equal tables, its parts and one more element.
 use mathlib.Core.Path.{_≡_, refl, sym, ap, _∙_}
-use mathlib.Core.List.{List, [], _∷_, _++_, map, map-append}
+use mathlib.Core.List.{List, [], _∷_, _++_, map, map-append, append-nil, append-assoc}
 use mathlib.Core.Logic.{_⊎_, inl, inr}
 use Prim.Native.Nat.{ℕ, zero, suc, _+_, _≤_, _<_}
-use native.Mathlib.Nat.{not-suc-le-zero, eq-or-lt-of-le}
+use native.Mathlib.Nat.{not-suc-le-zero, eq-or-lt-of-le, add-zero, add-suc}
 use native.Mathlib.Numerals.{add-one}
 use native.Mathlib.Omega.{arith}
 use lib.ListN.{length, getD, take, drop, length-append, length-take, length-drop, List·getD-append}
@@ -61,6 +61,13 @@ module _ {ℓ} {A : Type ℓ} where
   pub drop-table : (m n : ℕ) (f : ℕ → A) → drop m (table (m + n) f) ≡ table n (λ i. f (m + i))
   drop-table m n f = is-table n (drop m (table (m + n) f)) (λ i. f (m + i)) (f 0) (length-drop m (table (m + n) f) ∙ rw length-table (omega arith))
       (λ i l. getD-drop m (table (m + n) f) i (f 0) ∙ getD-table (m + n) f (m + i) (f 0) (omega arith))
+
+  -- a table split after its first m entries
+  pub table-split : (m n : ℕ) (f : ℕ → A) → table (m + n) f ≡ table m f ++ table n (λ i. f (m + i))
+  unfolding table
+  table-split m zero f = ap (λ k. table k f) (add-zero m) ∙ sym (append-nil (table m f))
+  table-split m (suc n) f =
+      ap (λ k. table k f) (add-suc m n) ∙ ap (λ l. l ++ (f (m + n) ∷ [])) (table-split m n f) ∙ append-assoc (table m f) (table n (λ i. f (m + i))) (f (m + n) ∷ [])
 
 module _ {ℓ κ} {A : Type ℓ} {B : Type κ} where
   -- a function applied to each entry

@@ -1,7 +1,7 @@
 -- When an answer is fine.
 use mathlib.Core.Path.{_≡_, refl, ap, _∙_}
 use mathlib.Core.List.{List, [], _∷_}
-use Prim.Native.Nat.{ℕ, zero, suc, _+_, _<_}
+use Prim.Native.Nat.{ℕ, suc, _+_, _<_}
 use native.Mathlib.Omega.{arith}
 use borrow.Author.Tests.{lt-ltb}
 use lib.ListN.{length, getD}
@@ -41,6 +41,14 @@ pub then-fine-right : (a b : Answer) → a then b ≡ fine → b ≡ fine
 then-fine-right fine b e = e
 then-fine-right (refused n p) b e = absurd (refused-not-fine n p e)
 then-fine-right (failed n vs) b e = absurd (failed-not-fine n vs e)
+
+-- five answers that are fine together
+pub then-fine-each : (a b c d e : Answer) → a then b then c then d then e ≡ fine → (a ≡ fine) × (b ≡ fine) × (c ≡ fine) × (d ≡ fine) × (e ≡ fine)
+then-fine-each a b c d e h =
+    let four : a then b then c then d ≡ fine = then-fine-left (a then b then c then d) e h in
+    let three : a then b then c ≡ fine = then-fine-left (a then b then c) d four in
+    let two : a then b ≡ fine = then-fine-left (a then b) c three in
+    (then-fine-left a b two, then-fine-right a b two, then-fine-right (a then b) c three, then-fine-right (a then b then c) d four, then-fine-right (a then b then c then d) e h)
 
 -- words below a limit are in range
 pub below-fine : (limit number place : ℕ) (ws : List ℕ) → ((k : ℕ) → k < length ws → getD ws k 0 < limit) → below limit number place ws ≡ fine

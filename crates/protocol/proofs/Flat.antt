@@ -1,18 +1,16 @@
 -- The words of elements one after the other, and the cells of rows and triangles.
-use mathlib.Core.Path.{_≡_, refl, sym, ap, _∙_}
+use mathlib.Core.Path.{_≡_, sym, ap, ap₂, subst, _∙_}
 use mathlib.Core.List.{List, [], _∷_, _++_, flatMap}
-use Prim.Native.Nat.{ℕ, zero, suc, _+_, _-_, _*_, _≤_, _<_, min, max}
-use native.Mathlib.Nat.{not-suc-le-zero}
+use Prim.Native.Nat.{ℕ, _+_, _-_, _*_, _≤_, _<_}
+use native.Mathlib.Nat.{not-suc-le-zero, min-eq-left, min-eq-right, max-eq-left, max-eq-right}
 use native.Mathlib.Decide.{decLe, decLt}
 use native.Mathlib.Omega.{arith}
-use lib.ListN.{length, getD, take, drop, length-append, List·getD-append}
+use lib.ListN.{length, getD, length-append, List·getD-append}
 use lib.Seq.{getD-append-add}
-use Rattle.lists.specs.Table.{table, cat}
-use Rattle.lists.specs.Sum.{Σ}
 use Rattle.lists.proofs.Sum.{Σ-const, Σ-triangle}
 use Rattle.lists.proofs.Part.{part-of-part, length-flatMap, part-flatMap}
 use Rattle.lists.proofs.Cat.{length-cat-table, cat-table-within, getD-cat-table}
-use Rattle.definitions.specs.Zq.{Q, Canonical}
+use Rattle.definitions.specs.Zq.{Canonical}
 use Rattle.definitions.specs.Rq.{Element, AllCanonical}
 use Rattle.definitions.specs.Ring.{words, element}
 use Rattle.definitions.proofs.Bridge.{element-words}
@@ -58,6 +56,14 @@ element-of-flat ws place es m d from h =
     one : part (flat es) (64 * m) 64 ≡ words (getD es m d)
     one = unfold flat in part-flatMap words 64 length-words es m d h
 
+-- a cell above the diagonal stands where its mirror image does
+pub cell-upper : (i j : ℕ) → i ≤ j → cell i j ≡ triangular j + i
+cell-upper i j h = ap₂ (λ row column. triangular row + column) (max-eq-right h) (min-eq-left h)
+
+-- any other in its row and column
+pub cell-lower : (i j : ℕ) → j ≤ i → cell i j ≡ triangular i + j
+cell-lower i j h = ap₂ (λ row column. triangular row + column) (max-eq-left h) (min-eq-right h)
+
 module _ (r : ℕ) (f : ℕ → ℕ → Element) where
   -- r rows of m cells
   pub length-rows : (m : ℕ) → length (rows r m f) ≡ r * m
@@ -84,14 +90,8 @@ module _ (r : ℕ) (f : ℕ → ℕ → Element) where
   by-halves C mirrored lower i j h l = go (decLe j i)
     where
       go : Dec (j ≤ i) → C (cell i j) i j
-      go (yes below) =
-          let row : max i j ≡ i = omega arith in
-          let column : min i j ≡ j = omega arith in
-          rw (row, column) (lower i j h below)
-      go (no above) =
-          let row : max i j ≡ j = omega arith in
-          let column : min i j ≡ i = omega arith in
-          rw (row, column) (mirrored (triangular j + i) j i (lower j i l (omega arith)))
+      go (yes below) = subst (λ k. C k i j) (sym (cell-lower i j below)) (lower i j h below)
+      go (no above) = let upper : i ≤ j = omega arith in subst (λ k. C k i j) (sym (cell-upper i j upper)) (mirrored (triangular j + i) j i (lower j i l upper))
 
   -- the place of cell (i, j) is among the triangle's
   pub cell-within : (i j : ℕ) → i < r → j < r → cell i j < length (triangle r f)

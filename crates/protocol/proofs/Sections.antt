@@ -9,8 +9,8 @@ use borrow.Author.Tests.{lt-ltb, eq-eqb}
 use lib.Dec.{ltb, eqb}
 use lib.ListN.{length, getD, take, drop, length-append, length-drop}
 use lib.Seq.{take-at, take-append-seam, drop-append-add, drop-at, drop-drop, getD-drop, getD-take}
-use Rattle.definitions.specs.Answer.{Answer, fine, refused, _then_}
-use Rattle.protocol.specs.Layout.{Range, free, under, Section, part, span, start, sections, counted, ends, layout, in-range, ranged}
+use Rattle.definitions.specs.Answer.{fine, refused}
+use Rattle.protocol.specs.Layout.{Range, free, under, Section, part, span, start, sections, counted, layout, in-range, ranged}
 use Rattle.protocol.proofs.Fine.{require-holds, then-both-fine, below-fine}
 
 -- each word is in the range
@@ -22,6 +22,20 @@ InRange (under limit) ws = (k : ℕ) → k < length ws → getD ws k 0 < limit
 pub data Filled : List Section → List (List ℕ) → Type 0 where
   none : Filled [] []
   more : {s : Section} {ws : List ℕ} {ss : List Section} {wss : List (List ℕ)} → length ws ≡ s .count → InRange (s .range) ws → Filled ss wss → Filled (s ∷ ss) (ws ∷ wss)
+
+-- the first sections filled
+pub filled-take : {ss : List Section} {wss : List (List ℕ)} → Filled ss wss → (m : ℕ) → Filled (take m ss) (take m wss)
+filled-take none zero = none
+filled-take none (suc m) = none
+filled-take (more e r f) zero = none
+filled-take (more e r f) (suc m) = more e r (filled-take f m)
+
+-- the later sections filled
+pub filled-drop : {ss : List Section} {wss : List (List ℕ)} → Filled ss wss → (m : ℕ) → Filled (drop m ss) (drop m wss)
+filled-drop none zero = none
+filled-drop none (suc m) = none
+filled-drop (more e r f) zero = more e r f
+filled-drop (more e r f) (suc m) = filled-drop f m
 
 -- words in range are not refused
 in-range-fine : (range : Range) (number place : ℕ) (ws : List ℕ) → InRange range ws → in-range range number place ws ≡ fine
@@ -73,7 +87,7 @@ module _ (s : Section) (ws : List ℕ) (wss : List (List ℕ)) (size : length ws
   rest-from : drop (place + 1 + s .count) words ≡ sections wss
   rest-from = sym (drop-drop (s .count) (place + 1) words) ∙ ap (drop (s .count)) words-from ∙ drop-at ws (sections wss) (s .count) size
 
--- the counts of filled sections are as expected
+-- the counts of filled sections that stand from a place on are as expected
 counted-fine : {ss : List Section} {wss : List (List ℕ)} → Filled ss wss → (number : ℕ) (words : List ℕ) (place : ℕ) → drop place words ≡ sections wss → counted number words place ss ≡ fine
 unfolding counted
 counted-fine none number words place from = refl
@@ -92,7 +106,7 @@ layout-fine {ss} {wss} f number =
     then-both-fine (counted-fine f number (sections wss) 0 refl)
     (require-holds (decLe (length (sections wss)) (0 + span ss)) (refused number (0 + span ss)) (omega (arith, length-sections f)))
 
--- the words of filled sections are in range
+-- the words of filled sections that stand from a place on are in range
 ranged-at : {ss : List Section} {wss : List (List ℕ)} → Filled ss wss → (number : ℕ) (words : List ℕ) (place : ℕ) → drop place words ≡ sections wss → ranged number words place ss ≡ fine
 unfolding ranged
 ranged-at none number words place from = refl
@@ -102,5 +116,6 @@ ranged-at (more {s} {ws} {ss} {wss} e r f) number words place from =
     ∙ in-range-fine (s .range) number (place + 1) ws r)
     (ranged-at f number words (place + 1 + s .count) (rest-from s ws wss e words place from))
 
+-- the words of filled sections are in range
 pub ranged-fine : {ss : List Section} {wss : List (List ℕ)} → Filled ss wss → (number : ℕ) → ranged number (sections wss) 0 ss ≡ fine
 ranged-fine {wss = wss} f number = ranged-at f number (sections wss) 0 refl

@@ -4,7 +4,8 @@ use mathlib.Core.List.{List, [], _∷_, _++_}
 use Prim.Native.Nat.{ℕ, zero, suc, _+_, _*_, _≤_}
 use native.Mathlib.Decide.{decLe}
 use lib.Dec.{ltb, eqb}
-use lib.ListN.{length, getD, take, drop}
+use lib.ListN.{length, getD, take}
+pub use Rattle.lists.specs.Part.{part}
 use Rattle.definitions.specs.Zq.{Q}
 use Rattle.definitions.specs.Answer.{Answer, fine, refused, below, _then_}
 use Rattle.protocol.specs.Checks.{require}
@@ -23,10 +24,6 @@ pub record Section : Type 0 where
 -- sections of canonical words
 abbrev pub canonical : ℕ → Section
 canonical count = record { count = count; range = under Q }
-
--- the words from one place on
-abbrev pub part : List ℕ → ℕ → ℕ → List ℕ
-part words from count = take count (drop from words)
 
 -- "Each slice is sections in a fixed order, each after its count": the words that sections take, counts included
 unfoldable pub span : List Section → ℕ

@@ -1,2 +1,3 @@
 mod Halves
 mod Coefficient
+pub mod Sizes

@@ -1,10 +1,11 @@
 -- The two forms in which the product's kernel takes its factors.
 use mathlib.Core.Bool.{cond}
 use mathlib.Core.List.{List}
-use Prim.Native.Nat.{ℕ, _-_, _<_, _^_}
+use Prim.Native.Nat.{ℕ, _+_, _-_, _*_, _/_, _%_, _<_, _^_}
 use lib.Dec.{ltb}
 use lib.ListN.{length, getD}
 use Rattle.lists.specs.Table.{table}
+use Rattle.lists.specs.Sum.{Σ}
 use Rattle.definitions.specs.Zq.{Q}
 use Rattle.definitions.specs.Rq.{coeff}
 
@@ -23,3 +24,9 @@ extended a = table 128 (extendedCoeff a)
 -- the coefficients from the last to the first
 unfoldable pub reversed : List ℕ → List ℕ
 reversed b = table 64 (λ i. coeff b (63 - i))
+
+-- the upper and the lower halves of 64 products, summed
+unfoldable pub folded : List ℕ → List ℕ → ℕ → ℕ
+folded x y at =
+    Σ 64 (λ i. getD x i 0 * getD y (at + i) 0 % 4294967296)
+    + Σ 64 (λ i. getD x i 0 * getD y (at + i) 0 / 4294967296)

@@ -21,28 +21,24 @@ pub fn sizes_of(a: [u32; 64]) -> [u32; 64]
     sizes
 }
 
-// The sizes that go on after a row of digits is taken.
-pub fn next_sizes(base: u32, sizes: [u32; 64]) -> [u32; 64]
-    requires { ⌜ 1 < base ⌝ }
-    ensures { λ r. ⌜ r ≡ table 64 (λ j. nextSize base (coeff sizes j)) ⌝ }
-{
-    let mut next = [0u32; 64];
-    for j in 0..64 {
-        next[j] = digits::next_size(base, sizes[j]);
-    }
-    next
+// A row of digits, and the sizes that go on.
+pub struct Taken {
+    pub row: [u32; 64],
+    pub sizes: [u32; 64],
 }
 
-// The row of digits that the sizes give, with the coefficients' signs.
-pub fn digit_row(a: [u32; 64], base: u32, sizes: [u32; 64]) -> [u32; 64]
+// The row of digits that the sizes give, with the coefficients' signs: one division a digit.
+pub fn take_row(a: [u32; 64], base: u32, sizes: [u32; 64]) -> Taken
     requires { ⌜ 1 < base ⌝ }
-    ensures { λ r. ⌜ r ≡ table 64 (λ j. digitOf base (coeff a j) (coeff sizes j)) ⌝ }
+    ensures { λ r. ⌜ (r .row ≡ table 64 (λ j. digitOf base (coeff a j) (coeff sizes j))) × (r .sizes ≡ table 64 (λ j. nextSize base (coeff sizes j))) ⌝ }
 {
     let mut row = [0u32; 64];
+    let mut next = [0u32; 64];
     for j in 0..64 {
         row[j] = digits::digit(Zq(a[j]).is_larger_than_half(), base, sizes[j]);
+        next[j] = digits::next_size(base, sizes[j]);
     }
-    row
+    Taken { row, sizes: next }
 }
 
 // Document 01: "the digits of one element are 32 rows of 64, rows past the parts zero".
@@ -55,9 +51,10 @@ pub fn decompose(a: Rq, base: u32, parts: usize) -> [[u32; 64]; 32]
     let mut rows = [[0u32; 64]; 32];
     let mut k = 0;
     while k < parts {
-        let row = digit_row(coeffs, base, sizes);
+        let taken = take_row(coeffs, base, sizes);
+        let row = taken.row;
+        let next = taken.sizes;
         rows[k] = row;
-        let next = next_sizes(base, sizes);
         sizes = next;
         k += 1;
     }

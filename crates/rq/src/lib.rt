@@ -2,3 +2,4 @@
 pub mod digits;
 pub mod product;
 pub mod rq;
+pub mod sums;

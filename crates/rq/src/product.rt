@@ -1,20 +1,18 @@
 // The ring product (`Mul for &Rq` of ring/rq.rs). With E the coefficients of −a and then those of a, and b reversed, coefficient k is the
 // sum of b's 64 entries times E's from k + 1 on: one run of products without a sign, reduced once.
 ghost use mathlib.Core.Path.{_≡_};
-ghost use Prim.Native.Nat.{_+_, _*_, _%_, _^_, _≤_, _<_};
-ghost use lib.ListN.{length, getD};
-ghost use Rattle.lists.specs.Sum.{Σ};
-ghost use Rattle.definitions.specs.Zq.{Q};
+ghost use Prim.Native.Nat.{_+_, _^_, _≤_, _<_};
+ghost use lib.ListN.{length};
 ghost use Rattle.definitions.specs.Rq.{rmul};
-ghost use Rattle.rq.specs.Product.{AllWords, extended, reversed};
+ghost use Rattle.rq.specs.Product.{AllWords, extended, reversed, folded};
 
 // Q as a u64, and 2^32.
-const MODULUS: u64 = 4294967295;
+pub const MODULUS: u64 = 4294967295;
 
-const RADIX: u64 = 4294967296;
+pub const RADIX: u64 = 4294967296;
 
 // A word as a u64.
-fn wide(x: u32) -> u64
+pub fn wide(x: u32) -> u64
     ensures { λ r. ⌜ (r ≡ x) × (r < 2 ^ 32) ⌝ }
 {
     x as u64
@@ -46,11 +44,11 @@ pub fn reverse(b: [u32; 64]) -> [u64; 64]
     out
 }
 
-// The sum of the products of x's 64 entries with y's from `at` on, as a number that is equal to it modulo Q. The sum is kept modulo 2^64
-// beside the sum of the products' upper halves, which together give the sum of the lower halves; 2^32 is 1 modulo Q.
+// The upper and the lower halves of the products of x's 64 entries with y's from `at` on, summed: equal to the products' sum modulo Q, since
+// 2^32 is 1. The products' sum is kept modulo 2^64 beside that of the upper halves, and together they give that of the lower halves.
 pub fn dot(x: &[u64], y: &[u64], at: usize) -> u64
     requires { ⌜ (length (now x) ≡ 64) × (at + 64 ≤ length (now y)) × AllWords (now x) × AllWords (now y) ⌝ }
-    ensures { λ r. ⌜ r % Q ≡ Σ 64 (λ i. getD (now (x .entry)) i 0 * getD (now (y .entry)) (at + i) 0) % Q ⌝ }
+    ensures { λ r. ⌜ (r ≡ folded (now (x .entry)) (now (y .entry)) at) × (r ≤ 2 ^ 39) ⌝ }
 {
     let mut sum: u64 = 0;
     let mut upper: u64 = 0;

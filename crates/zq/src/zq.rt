@@ -8,8 +8,15 @@ ghost use Rattle.definitions.specs.Zq.{Q, Canonical, zadd, zsub, zneg, zmul, is
 // A word; canonical below Q. No operation asks for a canonical word, and each gives one.
 pub struct Zq(pub u32);
 
-// Q as a u64.
-const MODULUS: u64 = 4294967295;
+// 2^32.
+const RADIX: u64 = 4294967296;
+
+// A word modulo Q: Q itself, the largest word, is 0.
+fn canonical(word: u32) -> Zq
+    ensures { λ r. ⌜ r .0 ≡ word % Q ⌝ }
+{
+    if word == Zq::Q { Zq(0) } else { Zq(word) }
+}
 
 impl Zq {
     pub const Q: u32 = 4294967295;
@@ -25,28 +32,32 @@ impl Zq {
     pub fn add(self, rhs: Zq) -> Zq
         ensures { λ r. ⌜ r .0 ≡ zadd (self .0) (rhs .0) ⌝ }
     {
-        let sum = (self.0 as u64 + rhs.0 as u64) % MODULUS;
-        Zq(sum as u32)
+        let sum = std::num::wrapping_add_u32(self.0, rhs.0);
+        // the carry counts 1, since 2^32 is 1 modulo Q
+        if sum < rhs.0 {
+            canonical(sum + 1)
+        } else {
+            canonical(sum)
+        }
     }
 
     pub fn sub(self, rhs: Zq) -> Zq
         ensures { λ r. ⌜ r .0 ≡ zsub (self .0) (rhs .0) ⌝ }
     {
-        let difference = (self.0 as u64 + (MODULUS - rhs.0 as u64)) % MODULUS;
-        Zq(difference as u32)
+        self.add(Zq(Zq::Q - rhs.0))
     }
 
     pub fn neg(self) -> Zq
         ensures { λ r. ⌜ r .0 ≡ zneg (self .0) ⌝ }
     {
-        Zq((Zq::Q - self.0) % Zq::Q)
+        canonical(Zq::Q - self.0)
     }
 
     pub fn mul(self, rhs: Zq) -> Zq
         ensures { λ r. ⌜ r .0 ≡ zmul (self .0) (rhs .0) ⌝ }
     {
-        let product = self.0 as u64 * rhs.0 as u64 % MODULUS;
-        Zq(product as u32)
+        let product = self.0 as u64 * rhs.0 as u64;
+        Zq((product % RADIX) as u32).add(Zq((product / RADIX) as u32))
     }
 
     pub fn is_zero(self) -> bool

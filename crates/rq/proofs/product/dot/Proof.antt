@@ -8,7 +8,8 @@ use lib.ListN.{length, getD}
 use Rattle.lists.specs.Sum.{Σ}
 use Rattle.lists.proofs.Sum.{Σ-suc}
 use Rattle.definitions.proofs.Fits.{product-max}
-use Rattle.rq.proofs.Halves.{halves, lower-small, lower-is, joined, words-products}
+use Rattle.rq.proofs.Halves.{halves, lower-small, lower-is, words-sums}
+use Rattle.rq.specs.Product.{folded}
 use Rattle.rq.proofs.product.dot.Statement.{statement}
 use Rattle.rq.proofs.product.dot.Tie as tie
 
@@ -89,13 +90,15 @@ add-result c =
     omega (arith, lower-at c, lower-small (product (s .x .now) (s .y .now) (s .at)))
 
 returns : tie.Need-returns Inv-loop μ-loop
+unfolding folded
 returns c =
     let s = c .before .before .before .before .before .args in
-    let p = product (s .x .now) (s .y .now) (s .at) in
     let h = c .before .before .before .before .before .pre in
-    ap₂ (λ l u. (l + u) % 4294967295) (lower-at c) (upper-at c)
-    ∙ joined (Σ 64 (λ i. p i / 4294967296)) (Σ 64 (λ i. p i % 4294967296)) (Σ 64 p) (halves 64 p)
-    ∙ ap (λ t. t % 4294967295) (words-products (s .x .now) (s .y .now) (s .at) 64 (omega arith) (omega arith) (h .2) (h .3))
+    let x : 64 ≤ length (s .x .now) = omega arith in
+    let sums = words-sums (s .x .now) (s .y .now) (s .at) x (h .1) (h .2) (h .3) in (
+      ap₂ _+_ (lower-at c ∙ sums (λ p. p % 4294967296)) (upper-at c ∙ sums (λ p. p / 4294967296)),
+      omega (arith, lower-at c, lower-small (product (s .x .now) (s .y .now) (s .at))),
+    )
 
 pub dot-spec : {M : Type 1} → statement M
 dot-spec =

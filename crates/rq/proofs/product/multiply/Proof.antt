@@ -4,7 +4,7 @@ use mathlib.Core.List.{List}
 use Prim.Native.Nat.{ℕ, _+_, _-_, _*_, _%_, _≤_, _<_}
 use native.Mathlib.Omega.{arith}
 use borrow.Author.Needs.{needs}
-use lib.ListN.{length, getD}
+use lib.ListN.{getD}
 use mir.Val.{Fits}
 use mir.Syntax.{w32}
 use Rattle.lists.specs.Table.{padded}
@@ -13,8 +13,9 @@ use Rattle.lists.proofs.Table.{table-ext}
 use Rattle.lists.proofs.Padded.{padded-none, padded-next, padded-done}
 use Rattle.definitions.specs.Zq.{Q}
 use Rattle.definitions.specs.Rq.{rmul, coeff}
-use Rattle.rq.specs.Product.{AllWords, extended, reversed}
-use Rattle.rq.proofs.Coefficient.{coefficient, length-extended, length-reversed, extended-words, reversed-words}
+use Rattle.rq.specs.Product.{extended, reversed}
+use Rattle.rq.proofs.Halves.{folded-mod}
+use Rattle.rq.proofs.Coefficient.{coefficient, kernel-fits}
 use Rattle.rq.proofs.product.multiply.Statement.{statement}
 use Rattle.rq.proofs.product.multiply.Tie as tie
 
@@ -30,20 +31,15 @@ abbrev μ-loop : tie.MeasureT-loop
 
 dot-requires : tie.Need-dot-requires Inv-loop μ-loop
 dot-requires c κs =
-    let a = c .before .before .before .before .before .before .args .a in
-    let b = c .before .before .before .before .before .before .args .b in
-    let x = c .before .before .before .before .reverse .ensures in
-    let y = c .before .before .before .before .before .extend .ensures in
-    let n : length (extended a) ≡ 128 = length-extended a in (
-      rw x (length-reversed b),
-      rw y (omega arith),
-      rw x (reversed-words b (λ i l. let f : Fits w32 (getD b i 0) = search needs in omega arith)),
-      rw y (extended-words a (λ i l. let f : Fits w32 (getD a i 0) = search needs in omega arith)),
-    )
+    let s = c .before .before .before .before .before .before .args in
+    kernel-fits (s .a) (s .b) _ _ _ (c .before .before .before .before .reverse .ensures) (c .before .before .before .before .before .extend .ensures)
+    (λ i l. let f : Fits w32 (getD (s .a) i 0) = search needs in omega arith)
+    (λ i l. let f : Fits w32 (getD (s .b) i 0) = search needs in omega arith)
+    (omega arith)
 
 loop-again : tie.Need-loop-again Inv-loop μ-loop
 unfolding kernel
-loop-again c = (omega arith, padded-next 64 0 _ _ _ _ (c .before .before .before .before .loop .inv .1) (omega arith) (c .dot .ensures))
+loop-again c = (omega arith, padded-next 64 0 _ _ _ _ (c .before .before .before .before .loop .inv .1) (omega arith) (ap (λ t. t % 4294967295) (c .dot .ensures .0) ∙ folded-mod _ _ _))
 
 returns : tie.Need-returns Inv-loop μ-loop
 unfolding rmul kernel

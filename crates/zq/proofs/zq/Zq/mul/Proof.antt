@@ -1,6 +1,6 @@
 -- `Zq::mul` meets its contract.
-use borrow.Author.Needs.{needs}
 use native.Mathlib.Omega.{arith}
+use borrow.Author.Needs.{needs}
 use Rattle.definitions.proofs.Fits.{product-max}
 use Rattle.zq.proofs.zq.Zq.mul.Statement.{statement}
 use Rattle.zq.proofs.zq.Zq.mul.Tie as tie
@@ -10,5 +10,12 @@ mul-product c =
     let s = c .before .before .args in
     omega (arith, product-max {a = s .self .0} {b = s .rhs .0} (omega arith) (omega arith))
 
+cast-t8 : tie.Need-cast-t8
+cast-t8 c =
+    let s = c .before .before .args in
+    omega (arith, product-max {a = s .self .0} {b = s .rhs .0} (omega arith) (omega arith))
+
 pub mul-spec : {M : Type 1} → statement M
-mul-spec = tie.close (tie.spec (λ c. search needs) (λ c. search needs) mul-product (λ c. search needs) (λ c. search needs))
+mul-spec =
+    tie.close
+    (tie.spec (λ c. search needs) (λ c. search needs) mul-product (λ c. search needs) cast-t8 (λ c κs. search needs) (λ c. search needs))

@@ -1,0 +1,229 @@
+//! What is timed: for each kernel a batch of calls of the proved library and the same batch of the published Rust.
+
+use harness::instances::{Instance, Size, LOOSE};
+use harness::random::Random;
+use harness::rust;
+use labrador::ring::rq::Rq;
+use labrador::ring::zq::Zq;
+use labrador::transcript::sponges::shake::{Playback, Tape};
+use labrador::transcript::LabradorTranscript;
+use library::leaf_calls::*;
+use model::refusals::output_need;
+use model::words::{join, Parameters};
+use model::Call;
+use std::hint::black_box;
+
+pub struct Kernel {
+    /// Calls in a batch, and rounds of timing.
+    pub calls: usize,
+    pub rounds: usize,
+    pub ours: Box<dyn FnMut()>,
+    /// What the Rust's batch takes that is not timed.
+    pub prepare: Box<dyn FnMut()>,
+    pub theirs: Box<dyn FnMut()>,
+}
+
+/// Inputs of a batch.
+const BATCH: usize = 64;
+
+fn elements(random: &mut Random) -> Vec<Element> {
+    (0..BATCH)
+        .map(|_| Element {
+            coeffs: random.numbers(64).try_into().expect("64 words"),
+        })
+        .collect()
+}
+
+fn of(element: &Element) -> Rq {
+    rust::element(&element.coeffs)
+}
+
+fn all(elements: &[Element]) -> Vec<Rq> {
+    elements.iter().map(of).collect()
+}
+
+fn leaf(ours: impl FnMut() + 'static, theirs: impl FnMut() + 'static) -> Kernel {
+    Kernel {
+        calls: BATCH,
+        rounds: 2000,
+        ours: Box::new(ours),
+        prepare: Box::new(|| {}),
+        theirs: Box::new(theirs),
+    }
+}
+
+fn product(random: &mut Random) -> Kernel {
+    let (a, b) = (elements(random), elements(random));
+    let (x, y) = (all(&a), all(&b));
+    leaf(
+        move || {
+            for (a, b) in a.iter().zip(&b) {
+                black_box(unsafe { labrador_rq_mul(*black_box(a), *b) });
+            }
+        },
+        move || {
+            for (a, b) in x.iter().zip(&y) {
+                black_box(black_box(a) * b);
+            }
+        },
+    )
+}
+
+fn multiply_add(random: &mut Random) -> Kernel {
+    let a = elements(random);
+    let numbers = random.numbers(BATCH);
+    let x = all(&a);
+    let y: Vec<Zq> = numbers.iter().map(|&c| Zq::new(c)).collect();
+    leaf(
+        move || {
+            let mut sum = Element { coeffs: [0; 64] };
+            for (a, c) in a.iter().zip(&numbers) {
+                let scaled = unsafe { labrador_rq_scale(*black_box(a), *c) };
+                let coeffs = scaled.coeffs;
+                sum.coeffs = unsafe { labrador_rq_add(sum, Element { coeffs }) }.coeffs;
+            }
+            black_box(sum);
+        },
+        move || {
+            let mut sum = Rq::zero();
+            for (a, c) in x.iter().zip(&y) {
+                sum = &sum + &(black_box(a) * c);
+            }
+            black_box(sum);
+        },
+    )
+}
+
+fn digits(random: &mut Random, base: u32, parts: u32) -> Kernel {
+    let a = elements(random);
+    let x = all(&a);
+    let mut rows = vec![0; 32 * 64];
+    leaf(
+        move || {
+            for a in &a {
+                let answer = unsafe { labrador_rq_digits(base, parts, *black_box(a), rows.as_mut_ptr(), rows.len()) };
+                black_box((answer.number, &rows));
+            }
+        },
+        move || {
+            for a in &x {
+                black_box(black_box(a).decompose(Zq::new(base), parts as usize));
+            }
+        },
+    )
+}
+
+fn challenge(random: &mut Random) -> Kernel {
+    let signs: Vec<u32> = (0..41 * BATCH).map(|_| random.word() & 1).collect();
+    let shuffles: Vec<u32> = (0..63 * BATCH).map(|_| random.word()).collect();
+    let words: Vec<ChallengeWords> = signs
+        .chunks(41)
+        .zip(shuffles.chunks(63))
+        .map(|(signs, shuffles)| ChallengeWords {
+            words: [signs, shuffles].concat().try_into().expect("104 words"),
+        })
+        .collect();
+    let tape = Tape::new(vec![], signs, shuffles);
+    let kernel = leaf(
+        move || {
+            for words in &words {
+                black_box(unsafe { labrador_challenge(*black_box(words)) });
+            }
+        },
+        move || {
+            let mut transcript = LabradorTranscript::new(Playback);
+            for _ in 0..BATCH {
+                black_box(transcript.challenge());
+            }
+        },
+    );
+    Kernel {
+        prepare: Box::new(move || tape.clone().load()),
+        ..kernel
+    }
+}
+
+/// A whole call on a statement that is met.
+fn whole(random: &mut Random, call: Call, n: usize, r: usize) -> Kernel {
+    let p = Parameters {
+        n,
+        r,
+        kappa: 4,
+        kappa1: 5,
+        kappa2: 5,
+        ring: 5,
+        constant: 5,
+        log_q: 32,
+        b: 256,
+        t1: 4,
+        t2: 4,
+        beta_sq: LOOSE,
+        beta_prime_sq: LOOSE,
+        bounds: [LOOSE; 4],
+    };
+    let instance = Instance::random(random, p, Size::Bits(8));
+    let (job, randomness) = (instance.job_words(), instance.randomness_words());
+    let rust_job = rust::Job::new(&job);
+    let witness = instance.witness_words();
+    let third = match call {
+        Call::Verify => join(&rust::prove(&rust_job, &randomness, &witness).1),
+        _ => witness,
+    };
+    let theirs: Box<dyn FnMut()> = match call {
+        Call::Verify => {
+            let proof = rust::proof(&rust_job, &third);
+            Box::new(move || assert!(rust::run_verifier(&rust_job, black_box(&proof)).is_ok()))
+        }
+        _ => {
+            let witness = rust::witness(&rust_job, &third);
+            Box::new(move || assert!(rust::run_prover(&rust_job, black_box(&witness)).is_ok()))
+        }
+    };
+    let loaded = randomness.clone();
+    let mut scratch = vec![0; p.scratch_need()];
+    let mut output = vec![0; output_need(&p, call)];
+    Kernel {
+        calls: 1,
+        rounds: 30,
+        ours: Box::new(move || {
+            let handed = library::Handed {
+                job: &job,
+                randomness: &randomness,
+                third: black_box(&third),
+                scratch: &mut scratch,
+                output: &mut output,
+            };
+            assert!(library::whole(call, handed).is_some_and(|answer| answer.is_fine()));
+        }),
+        prepare: Box::new(move || rust::load(&loaded)),
+        theirs,
+    }
+}
+
+/// A kernel's name and how its inputs are made.
+pub type Entry = (&'static str, fn(&mut Random) -> Kernel);
+
+/// Every kernel; the calls on whole slices where the library has them.
+pub fn kernels() -> Vec<Entry> {
+    let mut all: Vec<Entry> = vec![
+        ("element product", product),
+        ("product with a number, added to an accumulator", multiply_add),
+        ("digits of an element, base 16, 8 parts", |random| digits(random, 16, 8)),
+        ("digits of an element, base 65536, 2 parts", |random| {
+            digits(random, 65536, 2)
+        }),
+        ("challenge", challenge),
+    ];
+    if library::HAS_WHOLE_CALLS {
+        all.extend([
+            (
+                "prove, n 4, r 2",
+                (|random| whole(random, Call::Prove, 4, 2)) as fn(&mut Random) -> Kernel,
+            ),
+            ("verify, n 4, r 2", |random| whole(random, Call::Verify, 4, 2)),
+            ("prove, n 16, r 4", |random| whole(random, Call::Prove, 16, 4)),
+            ("verify, n 16, r 4", |random| whole(random, Call::Verify, 16, 4)),
+        ]);
+    }
+    all
+}

@@ -1,0 +1,147 @@
+-- What the functions of this crate store is what the protocol's formulas say, of any job J and randomness R.
+use mathlib.Core.Path.{_≡_, refl, sym, ap, ap₂, _∙_}
+use mathlib.Core.List.{List}
+use Prim.Native.Nat.{ℕ, _+_, _*_, _≤_, _<_}
+use native.Mathlib.Omega.{arith}
+use lib.ListN.{length, getD}
+use Rattle.lists.specs.Table.{table, cat}
+use Rattle.lists.specs.Part.{part, splice}
+use Rattle.algebra.specs.Ops as Ops
+use Rattle.algebra.proofs.Ring.{add-comm}
+use Rattle.algebra.proofs.Sum.{sum-ext}
+use Rattle.algebra.proofs.Dot.{dot-ext}
+use Rattle.definitions.specs.Rq.{Element}
+use Rattle.definitions.specs.Ring.{RqOps, element, scale}
+use Rattle.definitions.proofs.RqRing.{rq-ring}
+use Rattle.inner_product.specs.Run.{run}
+use Rattle.jl.specs.Omega.{omega-element}
+use Rattle.jl.proofs.Formula.{φ″-parts}
+use Rattle.protocol.specs.Parameters.{Parameters, parameters, T}
+use Rattle.protocol.specs.Layout.{start, job-sections, randomness-sections}
+use Rattle.protocol.specs.Views.{Public, public, element-at, cell}
+use Rattle.protocol.specs.Formulas.{flat, rows, sum, _⊕_, _⊗_, a″, φ″, a-sum, φ-sum, b-sum}
+use Rattle.protocol.proofs.Flat.{length-rows, row-cell}
+use Rattle.protocol.proofs.Region.{elements-list, Triangle, Vectors, elements-stored, elements-row, triangle-of, vectors-of}
+use Rattle.aggregate.specs.Weighed.{weighed, both, mixed}
+
+-- the place of element c of constraint x, constraints having so many elements
+constraint-place : (at c width x : ℕ) → at + 64 * c + 64 * width * x ≡ at + 64 * (x * width + c)
+constraint-place at c width x = omega arith
+
+-- the same where the elements are vectors'
+vector-place : (at i m r n x : ℕ) → at + 64 * (i * n + m) + 64 * (r * n) * x ≡ at + 64 * ((x * r + i) * n + m)
+vector-place at i m r n x = omega arith
+
+-- the places of a region's row k
+row-place : (at c width k : ℕ) → at + 64 * c + 64 * width * k ≡ at + 64 * (k * width) + 64 * c
+row-place at c width k = omega arith
+
+-- the place of number x of row k
+number-place : (at count k x : ℕ) → at + k * count + x ≡ at + (k * count + x)
+number-place at count k x = omega arith
+
+-- elements a weighed by alpha and elements b weighed by beta
+mixed-is : (C : List ℕ) (at step count : ℕ) (weights : List ℕ) (alpha beta : ℕ) (S : List ℕ) (from pace number : ℕ) (a b : ℕ → Element)
+    → ((k : ℕ) → k < count → run C at step k ≡ a k) → ((k : ℕ) → k < number → run S from pace k ≡ b k)
+    → mixed C at step count weights alpha beta S from pace number ≡ sum count (λ k. element-at weights alpha k ⊗ a k) ⊕ sum number (λ k. element-at weights beta k ⊗ b k)
+unfolding mixed Ops.dot
+mixed-is C at step count weights alpha beta S from pace number a b p q =
+    ap₂ _⊕_
+    (dot-ext RqOps count (run weights alpha 64) (run weights alpha 64) (run C at step) a (λ k l. refl) p)
+    (dot-ext RqOps number (run weights beta 64) (run weights beta 64) (run S from pace) b (λ k l. refl) q)
+
+-- where the words of the job's section m after the parameters start
+abbrev pub job-at : List ℕ → ℕ → ℕ
+job-at J m = 30 + start (job-sections (parameters J)) m
+
+-- where the words of the randomness's section m start, by the job's parameters
+abbrev pub randomness-at : List ℕ → ℕ → ℕ
+randomness-at J m = start (randomness-sections (parameters J)) m
+
+module _ (J R : List ℕ) where
+  abbrev P : Parameters
+  P = parameters J
+
+  abbrev X : Public
+  X = public J R
+
+  -- cell (i, j) of the constant-term triangles weighed by row k of psi
+  pub a″-is : (k i j : ℕ) → weighed J (job-at J 0) (T P) (P .l) R (randomness-at J 1 + k * P .l) (cell i j) ≡ a″ X k i j
+  unfolding weighed a″
+  a″-is k i j =
+      sum-ext RqOps (P .l) (λ x. scale (run J (job-at J 0 + 64 * cell i j) (64 * T P) x) (getD R (randomness-at J 1 + k * P .l + x) 0)) (λ x. scale (X .a′ x i j) (X .psi k x))
+      (λ x h. ap₂ (λ place number. scale (element (part J place 64)) (getD R number 0)) (constraint-place (job-at J 0) (cell i j) (T P) x) (number-place (randomness-at J 1) (P .l) k x))
+
+  -- element m of vector i of the constant-term vectors weighed by row k of psi
+  pub psi-is : (k i m : ℕ) → weighed J (job-at J 1) (P .r * P .n) (P .l) R (randomness-at J 1 + k * P .l) (i * P .n + m) ≡ sum (P .l) (λ x. scale (X .φ′ x i m) (X .psi k x))
+  unfolding weighed
+  psi-is k i m =
+      sum-ext RqOps (P .l) (λ x. scale (run J (job-at J 1 + 64 * (i * P .n + m)) (64 * (P .r * P .n)) x) (getD R (randomness-at J 1 + k * P .l + x) 0)) (λ x. scale (X .φ′ x i m) (X .psi k x))
+      (λ x h. ap₂ (λ place number. scale (element (part J place 64)) (getD R number 0)) (vector-place (job-at J 1) i m (P .r) (P .n) x) (number-place (randomness-at J 1) (P .l) k x))
+
+  -- element m of vector i of both parts of φ''
+  pub φ″-is : (k i m : ℕ) → both J (job-at J 1) (P .r) (P .n) (P .l) R (randomness-at J 0) (randomness-at J 1 + k * P .l) (randomness-at J 2 + k * 256) i m ≡ φ″ X k i m
+  unfolding both
+  φ″-is k i m =
+      ap (λ e. omega-element R (randomness-at J 0 + i * 256 * (64 * P .n)) (randomness-at J 2 + k * 256) (P .n) m ⊕ e) (psi-is k i m)
+      ∙ add-comm RqOps rq-ring (omega-element R (randomness-at J 0 + i * 256 * (64 * P .n)) (randomness-at J 2 + k * 256) (P .n) m) (sum (P .l) (λ x. scale (X .φ′ x i m) (X .psi k x)))
+      ∙ sym (φ″-parts J R i k m)
+
+  -- the vectors k of the region that `phi_double_prime` fills are φ''_k
+  pub φ″-stored : (S : List ℕ) (to : ℕ) → to + 64 * (P .L * (P .r * P .n)) ≤ length S → (k : ℕ) → k < P .L
+      → Vectors (splice S to (flat (cat (P .L) (λ k. rows (P .r) (P .n) (both J (job-at J 1) (P .r) (P .n) (P .l) R (randomness-at J 0) (randomness-at J 1 + k * P .l) (randomness-at J 2 + k * 256)))))) (to + 64 * (k * (P .r * P .n))) (P .r) (P .n) (φ″ X k)
+  φ″-stored S to h k l =
+      vectors-of (splice S to (flat (cat (P .L) (λ k. rows (P .r) (P .n) (B k))))) (to + 64 * (k * (P .r * P .n))) (P .r) (P .n) (λ m. getD (rows (P .r) (P .n) (B k)) m (B 0 0 0)) (φ″ X k)
+      (elements-list S to (P .L) (P .r * P .n) (λ k. rows (P .r) (P .n) (B k)) (λ k. length-rows (P .r) (B k) (P .n)) h (B 0 0 0) k l)
+      (λ i m p q. row-cell (P .r) (B k) (P .n) i m (B 0 0 0) p q ∙ φ″-is k i m)
+    where
+      B : ℕ → ℕ → ℕ → Element
+      B k = both J (job-at J 1) (P .r) (P .n) (P .l) R (randomness-at J 0) (randomness-at J 1 + k * P .l) (randomness-at J 2 + k * 256)
+
+  -- triangle k of the region that `a_double_prime` fills is a''_k
+  pub a″-stored : (S : List ℕ) (to : ℕ) → to + 64 * (P .L * T P) ≤ length S → (k : ℕ) → k < P .L
+      → Triangle (splice S to (flat (rows (P .L) (T P) (λ k. weighed J (job-at J 0) (T P) (P .l) R (randomness-at J 1 + k * P .l))))) (to + 64 * (k * T P)) (P .r) (a″ X k)
+  a″-stored S to h k l =
+      triangle-of (splice S to (flat (rows (P .L) (T P) W))) (to + 64 * (k * T P)) (P .r) (W k) (a″ X k) (elements-row S to (P .L) (T P) W h k l) (λ i j p q. a″-is k i j)
+    where
+      W : ℕ → ℕ → Element
+      W k = weighed J (job-at J 0) (T P) (P .l) R (randomness-at J 1 + k * P .l)
+
+  -- cell (i, j) of a'' and the ring constraints' triangles mixed, of a region whose triangle k is a''_k
+  pub a-sum-is : (S : List ℕ) (at : ℕ) → ((k : ℕ) → k < P .L → Triangle S (at + 64 * (k * T P)) (P .r) (a″ X k)) → (i j : ℕ) → i < P .r → j < P .r
+      → mixed J (job-at J 3 + 64 * cell i j) (64 * T P) (P .K) R (randomness-at J 3) (randomness-at J 4) S (at + 64 * cell i j) (64 * T P) (P .L) ≡ a-sum X i j
+  unfolding a-sum
+  a-sum-is S at h i j p q =
+      mixed-is J (job-at J 3 + 64 * cell i j) (64 * T P) (P .K) R (randomness-at J 3) (randomness-at J 4) S (at + 64 * cell i j) (64 * T P) (P .L) (λ k. X .a k i j) (λ k. a″ X k i j)
+      (λ k l. ap (λ place. element (part J place 64)) (constraint-place (job-at J 3) (cell i j) (T P) k))
+      (λ k l. ap (λ place. element (part S place 64)) (row-place at (cell i j) (T P) k) ∙ h k l i j p q)
+
+  -- the triangle that `aggregate` fills from such a region is a
+  pub a-stored : (S : List ℕ) (at to : ℕ) → to + 64 * T P ≤ length S → ((k : ℕ) → k < P .L → Triangle S (at + 64 * (k * T P)) (P .r) (a″ X k))
+      → Triangle (splice S to (flat (table (T P) (λ c. mixed J (job-at J 3 + 64 * c) (64 * T P) (P .K) R (randomness-at J 3) (randomness-at J 4) S (at + 64 * c) (64 * T P) (P .L))))) to (P .r) (a-sum X)
+  a-stored S at to h t = triangle-of (splice S to (flat (table (T P) M))) to (P .r) M (a-sum X) (elements-stored S to (T P) M h) (a-sum-is S at t)
+    where
+      M : ℕ → Element
+      M c = mixed J (job-at J 3 + 64 * c) (64 * T P) (P .K) R (randomness-at J 3) (randomness-at J 4) S (at + 64 * c) (64 * T P) (P .L)
+
+  -- element m of vector i of φ'' and the ring constraints' vectors mixed, of a region whose vectors k are φ''_k
+  pub φ-sum-is : (S : List ℕ) (at : ℕ) → ((k : ℕ) → k < P .L → Vectors S (at + 64 * (k * (P .r * P .n))) (P .r) (P .n) (φ″ X k)) → (i m : ℕ) → i < P .r → m < P .n
+      → mixed J (job-at J 4 + 64 * (i * P .n + m)) (64 * (P .r * P .n)) (P .K) R (randomness-at J 3) (randomness-at J 4) S (at + 64 * (i * P .n + m)) (64 * (P .r * P .n)) (P .L) ≡ φ-sum X i m
+  unfolding φ-sum
+  φ-sum-is S at h i m p q =
+      mixed-is J (job-at J 4 + 64 * (i * P .n + m)) (64 * (P .r * P .n)) (P .K) R (randomness-at J 3) (randomness-at J 4) S (at + 64 * (i * P .n + m)) (64 * (P .r * P .n)) (P .L) (λ k. X .φ k i m) (λ k. φ″ X k i m)
+      (λ k l. ap (λ place. element (part J place 64)) (vector-place (job-at J 4) i m (P .r) (P .n) k))
+      (λ k l. ap (λ place. element (part S place 64)) (row-place at (i * P .n + m) (P .r * P .n) k) ∙ h k l i m p q)
+
+  -- the vectors that `aggregate` fills from such a region are φ
+  pub φ-stored : (S : List ℕ) (at to : ℕ) → to + 64 * (P .r * P .n) ≤ length S → ((k : ℕ) → k < P .L → Vectors S (at + 64 * (k * (P .r * P .n))) (P .r) (P .n) (φ″ X k))
+      → Vectors (splice S to (flat (table (P .r * P .n) (λ c. mixed J (job-at J 4 + 64 * c) (64 * (P .r * P .n)) (P .K) R (randomness-at J 3) (randomness-at J 4) S (at + 64 * c) (64 * (P .r * P .n)) (P .L))))) to (P .r) (P .n) (φ-sum X)
+  φ-stored S at to h t = vectors-of (splice S to (flat (table (P .r * P .n) M))) to (P .r) (P .n) M (φ-sum X) (elements-stored S to (P .r * P .n) M h) (φ-sum-is S at t)
+    where
+      M : ℕ → Element
+      M c = mixed J (job-at J 4 + 64 * c) (64 * (P .r * P .n)) (P .K) R (randomness-at J 3) (randomness-at J 4) S (at + 64 * c) (64 * (P .r * P .n)) (P .L)
+
+  -- the ring constraints' right sides and b'' mixed
+  pub b-sum-is : (B : List ℕ) (at : ℕ) → mixed J (job-at J 5) 64 (P .K) R (randomness-at J 3) (randomness-at J 4) B at 64 (P .L) ≡ b-sum X (element-at B at)
+  unfolding b-sum
+  b-sum-is B at = mixed-is J (job-at J 5) 64 (P .K) R (randomness-at J 3) (randomness-at J 4) B at 64 (P .L) (X .b) (element-at B at) (λ k l. refl) (λ k l. refl)

@@ -1,0 +1,4 @@
+pub mod Grid
+pub mod Sums
+pub mod Laws
+pub mod Formed

@@ -1,0 +1,44 @@
+-- The cells of the contracts are those of the prover's formulas.
+use mathlib.Core.Path.{_≡_, refl, ap₂}
+use mathlib.Core.List.{List}
+use Prim.Native.Nat.{ℕ, _+_, _<_}
+use native.Mathlib.Omega.{arith}
+use Rattle.lists.specs.Table.{table}
+use Rattle.lists.proofs.Table.{table-ext}
+use Rattle.lists.proofs.Cat.{cat-ext}
+use Rattle.algebra.proofs.Dot.{dot-ext}
+use Rattle.definitions.specs.Rq.{Element}
+use Rattle.definitions.specs.Ring.{RqOps}
+use Rattle.protocol.specs.Parameters.{Parameters}
+use Rattle.protocol.specs.Layout.{start, witness-sections}
+use Rattle.protocol.specs.Views.{Public, public, witness}
+use Rattle.protocol.specs.Formulas as F
+use Rattle.protocol.specs.Formulas.{_⊕_, dot, rows, triangle}
+use Rattle.rq_matrix.specs.Region.{vector, Holds}
+use Rattle.rq_matrix.proofs.Holds.{read-rows}
+use Rattle.garbage_polynomials.specs.Garbage.{g-of, h-of}
+
+-- cells that agree below the diagonal and on it give equal triangles
+pub triangle-ext : (r : ℕ) (f g : ℕ → ℕ → Element) → ((i j : ℕ) → i < r → j < r → f i j ≡ g i j) → triangle r f ≡ triangle r g
+unfolding triangle
+triangle-ext r f g h = cat-ext r (λ i. table (i + 1) (f i)) (λ i. table (i + 1) (g i)) (λ i l. table-ext (i + 1) (f i) (g i) (λ j m. h i j l (omega arith)))
+
+module _ (J R W : List ℕ) where
+  open Public (public J R) using (P)
+  open Parameters P using (n, r)
+
+  -- g of the witness
+  pub g-formula : triangle r (g-of W (start (witness-sections P) 0) n) ≡ triangle r (F.g (public J R) (witness P W))
+  unfolding F.g
+  g-formula = refl
+
+  -- h of the witness and of the φ that a slice holds
+  pub h-formula : (S : List ℕ) (φ-at : ℕ) → Holds S φ-at (rows r n (F.φ-sum (public J R)))
+      → triangle r (h-of S φ-at W (start (witness-sections P) 0) n) ≡ triangle r (F.h (public J R) (witness P W))
+  unfolding F.h
+  h-formula S φ-at holds =
+      triangle-ext r (h-of S φ-at W (start (witness-sections P) 0) n) (λ i j. dot n (F.φ-sum (public J R) i) (witness P W j) ⊕ dot n (F.φ-sum (public J R) j) (witness P W i))
+      (λ i j l m. ap₂ _⊕_ (line i j l) (line j i m))
+    where
+      line : (i j : ℕ) → i < r → dot n (vector S φ-at n i) (witness P W j) ≡ dot n (F.φ-sum (public J R) i) (witness P W j)
+      line i j l = dot-ext RqOps n (vector S φ-at n i) (F.φ-sum (public J R) i) (witness P W j) (witness P W j) (λ k m. read-rows S φ-at r n (F.φ-sum (public J R)) holds i k l m) (λ k m. refl)

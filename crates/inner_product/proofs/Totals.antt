@@ -1,0 +1,80 @@
+-- Totals that are equal modulo Q to the sums of the coefficients of the first m elements, and what they come to.
+use mathlib.Core.Path.{_≡_, refl, sym, _∙_, ap}
+use mathlib.Core.List.{List}
+use Prim.Native.Nat.{ℕ, _+_, _*_, _%_, _≤_, _<_, _^_}
+use native.Mathlib.Omega.{arith}
+use lib.ListN.{length, getD, replicate, getD-replicate}
+use Rattle.lists.specs.Table.{table}
+use Rattle.lists.specs.Part.{part}
+use Rattle.lists.specs.Sum.{Σ}
+use Rattle.lists.proofs.Table.{table-ext}
+use Rattle.lists.proofs.Sum.{Σ-suc, Σ-ext}
+use Rattle.algebra.specs.Ops.{sum, dot}
+use Rattle.algebra.proofs.Sum.{sum-ext}
+use Rattle.definitions.specs.Zq.{Q}
+use Rattle.definitions.specs.Rq.{coeff, rmul, rscale}
+use Rattle.definitions.specs.Ring.{RqOps, IsElement, words, element, scale}
+use Rattle.definitions.proofs.Bridge.{words-sum, words-element, element-rmul, element-rscale, rmul-element, rscale-element}
+use Rattle.rq.specs.Sums.{Room, Added}
+use Rattle.inner_product.specs.Run.{run}
+
+-- totals of the first m of the elements f 0, f 1, …
+pub record Totals (totals : List ℕ) (m : ℕ) (f : ℕ → List ℕ) : Type 0 where
+  pub value : (k : ℕ) → k < 64 → getD totals k 0 % Q ≡ Σ m (λ i. coeff (f i) k) % Q
+  pub bound : (k : ℕ) → k < 64 → getD totals k 0 ≤ 2 ^ 39 * m
+
+-- none
+pub totals-none : (f : ℕ → List ℕ) → Totals (replicate 64 0) 0 f
+unfolding Σ
+totals-none f = record {
+  value = λ k h. ap (λ v. v % 4294967295) (getD-replicate {A = ℕ} 64 k 0 0 h);
+  bound = λ k h. omega (arith, getD-replicate {A = ℕ} 64 k 0 0 h);
+}
+
+-- one more
+pub totals-next : (totals next : List ℕ) (m : ℕ) (f : ℕ → List ℕ) → Totals totals m f → Added totals (f m) next → Totals next (m + 1) f
+totals-next totals next m f t a = record {
+  value = λ k h.
+      a .value k h ∙ step (getD totals k 0) (Σ m (λ i. coeff (f i) k)) (coeff (f m) k) (t .value k h) ∙ ap (λ v. v % 4294967295) (sym (Σ-suc m (λ i. coeff (f i) k)));
+  bound = λ k h. omega (arith, a .bound k h, t .bound k h);
+}
+  where
+    step : (x y z : ℕ) → x % 4294967295 ≡ y % 4294967295 → (x + z) % 4294967295 ≡ (y + z) % 4294967295
+    step x y z e = omega arith
+
+-- there is room while they are few
+pub totals-room : (totals : List ℕ) (m : ℕ) (f : ℕ → List ℕ) → Totals totals m f → m ≤ 2 ^ 20 → Room totals
+totals-room totals m f t few k h = omega (arith, t .bound k h)
+
+-- reduced, they are the words of the elements' sum
+pub totals-words : (totals : List ℕ) (n : ℕ) (f : ℕ → List ℕ) → Totals totals n f → ((m : ℕ) → IsElement (f m))
+    → table 64 (λ k. getD totals k 0 % Q) ≡ words (sum RqOps n (λ m. element (f m)))
+totals-words totals n f t e =
+    table-ext 64 (λ k. getD totals k 0 % Q) (λ k. Σ n (λ i. coeff (words (element (f i))) k) % Q)
+    (λ k h. t .value k h ∙ ap (λ v. v % Q) (Σ-ext n (λ i. coeff (f i) k) (λ i. coeff (words (element (f i))) k) (λ i l. ap (λ w. coeff w k) (sym (words-element (f i) (e i))))))
+    ∙ sym (words-sum n (λ m. element (f m)))
+
+-- product m of two runs
+abbrev pub product-of : (x : List ℕ) (x-at x-step : ℕ) (y : List ℕ) (y-at y-step : ℕ) → ℕ → List ℕ
+product-of x x-at x-step y y-at y-step m = rmul (part x (x-at + x-step * m) 64) (part y (y-at + y-step * m) 64)
+
+-- the totals of products are the inner product
+pub totals-dot : (x : List ℕ) (x-at x-step : ℕ) (y : List ℕ) (y-at y-step n : ℕ) (totals : List ℕ) → Totals totals n (product-of x x-at x-step y y-at y-step)
+    → table 64 (λ k. getD totals k 0 % Q) ≡ words (dot RqOps n (run x x-at x-step) (run y y-at y-step))
+unfolding dot
+totals-dot x x-at x-step y y-at y-step n totals t =
+    totals-words totals n (product-of x x-at x-step y y-at y-step) t (λ m. rmul-element (part x (x-at + x-step * m) 64) (part y (y-at + y-step * m) 64))
+    ∙ ap words (sum-ext RqOps n (λ m. element (product-of x x-at x-step y y-at y-step m)) (λ m. RqOps .mul (run x x-at x-step m) (run y y-at y-step m))
+    (λ m l. element-rmul (part x (x-at + x-step * m) 64) (part y (y-at + y-step * m) 64)))
+
+-- element m of a run scaled
+abbrev pub scaled-of : (x : List ℕ) (x-at x-step : ℕ) (factors : List ℕ) (at : ℕ) → ℕ → List ℕ
+scaled-of x x-at x-step factors at m = rscale (part x (x-at + x-step * m) 64) (getD factors (at + m) 0)
+
+-- the totals of scaled elements are the linear combination
+pub totals-combination : (x : List ℕ) (x-at x-step : ℕ) (factors : List ℕ) (at n : ℕ) (totals : List ℕ) → Totals totals n (scaled-of x x-at x-step factors at)
+    → table 64 (λ k. getD totals k 0 % Q) ≡ words (sum RqOps n (λ m. scale (run x x-at x-step m) (getD factors (at + m) 0)))
+totals-combination x x-at x-step factors at n totals t =
+    totals-words totals n (scaled-of x x-at x-step factors at) t (λ m. rscale-element (part x (x-at + x-step * m) 64) (getD factors (at + m) 0))
+    ∙ ap words (sum-ext RqOps n (λ m. element (scaled-of x x-at x-step factors at m)) (λ m. scale (run x x-at x-step m) (getD factors (at + m) 0))
+    (λ m l. element-rscale (part x (x-at + x-step * m) 64) (getD factors (at + m) 0)))

@@ -1,0 +1,18 @@
+-- Elements at equal steps in a slice.
+use mathlib.Core.List.{List}
+use Prim.Native.Nat.{ℕ, _+_, _*_, _≤_, _<_, _^_}
+use lib.ListN.{length}
+use Rattle.lists.specs.Part.{part}
+use Rattle.definitions.specs.Rq.{Element}
+use Rattle.definitions.specs.Ring.{element}
+
+-- element m of a run: its first word stands at the place and m steps on
+abbrev pub run : List ℕ → ℕ → ℕ → ℕ → Element
+run words at step m = element (part words (at + step * m) 64)
+
+-- a run of n elements lies within the slice
+pub record Run (words : List ℕ) (at step n : ℕ) : Type 0 where
+  pub within : (m : ℕ) → m < n → at + step * m + 64 ≤ length words
+  pub few : n ≤ 2 ^ 20
+  pub near : step ≤ 2 ^ 40
+  pub first : at ≤ 2 ^ 62

@@ -1,0 +1,68 @@
+// Inner products and linear combinations of elements in lent slices (core/inner_product.rs), one call per scalar kind. A run of elements is given
+// by its slice, the place of its first element and the step from one to the next, in words.
+use rq::rq::Rq;
+use rq::sums;
+ghost use mathlib.Core.Path.{_≡_};
+ghost use Prim.Native.Nat.{_+_, _≤_};
+ghost use lib.ListN.{length, getD};
+ghost use Rattle.algebra.specs.Ops.{sum, dot};
+ghost use Rattle.definitions.specs.Ring.{RqOps, words, scale};
+ghost use Rattle.inner_product.specs.Run.{Run, run};
+
+// The inner product of two runs of n elements.
+pub fn inner_product(
+    x: &[u32],
+    x_at: usize,
+    x_step: usize,
+    y: &[u32],
+    y_at: usize,
+    y_step: usize,
+    n: usize,
+) -> Rq
+    requires { ⌜ Run (now x) «x_at» «x_step» n × Run (now y) «y_at» «y_step» n ⌝ }
+    ensures { λ r. ⌜ r .coeffs ≡ words (dot RqOps n (run (now (x .entry)) «x_at» «x_step») (run (now (y .entry)) «y_at» «y_step»)) ⌝ }
+{
+    let mut totals = [0u64; 64];
+    let mut i = x_at;
+    let mut j = y_at;
+    let mut m = 0;
+    while m < n {
+        let a = words::load(x, i).coeffs;
+        let b = words::load(y, j).coeffs;
+        let next = sums::add_product(totals, a, b);
+        totals = next;
+        i += x_step;
+        j += y_step;
+        m += 1;
+    }
+    Rq {
+        coeffs: sums::reduce(totals),
+    }
+}
+
+// The linear combination of a run of n elements with n numbers.
+pub fn linear_combination(
+    x: &[u32],
+    x_at: usize,
+    x_step: usize,
+    factors: &[u32],
+    at: usize,
+    n: usize,
+) -> Rq
+    requires { ⌜ Run (now x) «x_at» «x_step» n × (at + n ≤ length (now factors)) ⌝ }
+    ensures { λ r. ⌜ r .coeffs ≡ words (sum RqOps n (λ m. scale (run (now (x .entry)) «x_at» «x_step» m) (getD (now (factors .entry)) (at + m) 0))) ⌝ }
+{
+    let mut totals = [0u64; 64];
+    let mut i = x_at;
+    let mut m = 0;
+    while m < n {
+        let a = words::load(x, i).coeffs;
+        let next = sums::add_scaled(totals, a, factors[at + m]);
+        totals = next;
+        i += x_step;
+        m += 1;
+    }
+    Rq {
+        coeffs: sums::reduce(totals),
+    }
+}

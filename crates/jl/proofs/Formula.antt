@@ -1,0 +1,131 @@
+-- Over slices and over the protocol's values: the projection of all vectors is p, the omega part that of φ''. Runs of vectors add up.
+use mathlib.Core.Path.{_≡_, sym, ap, ap₂, _∙_}
+use mathlib.Core.List.{List}
+use Prim.Native.Nat.{ℕ, _+_, _-_, _*_, _/_, _%_, _≤_, _<_}
+use native.Mathlib.Nat.{add-assoc, mod-lt, zero-add, sub-zero, mod-add-mod, add-mod-mod}
+use native.Mathlib.Omega.{arith}
+use lib.ListN.{getD}
+use Rattle.lists.specs.Sum.{Σ}
+use Rattle.lists.specs.Table.{table}
+use Rattle.lists.proofs.Sum.{Σ-ext, Σ-split, Σ-mod-ext}
+use Rattle.lists.proofs.Table.{getD-table, table-ext}
+use Rattle.lists.proofs.Splice.{getD-part}
+use Rattle.algebra.proofs.Sum.{sum-ext}
+use Rattle.definitions.specs.Zq.{Q, zadd}
+use Rattle.definitions.specs.Projection.{entry}
+use Rattle.definitions.specs.Rq.{coeff}
+use Rattle.definitions.specs.Ring.{RqOps, words, element, scale, conj}
+use Rattle.definitions.proofs.Modulo.{mul-mod-second}
+use Rattle.protocol.specs.Parameters.{Parameters, parameters}
+use Rattle.protocol.specs.Layout.{part, start, randomness-sections, witness-sections}
+use Rattle.protocol.specs.Views.{public, witness}
+use Rattle.protocol.specs.Formulas.{_⊕_, sum, coefficient, projection, p, Π-row, φ″}
+use Rattle.jl.specs.Rows.{row-sum}
+use Rattle.jl.specs.Run.{vector-row, run-row, run}
+use Rattle.jl.specs.Omega.{row-element, omega-element}
+
+-- a word of the element of a part is the list's, reduced
+element-word : (l : List ℕ) (at k : ℕ) → k < 64 → coeff (words (element (part l at 64))) k ≡ getD l (at + k) 0 % Q
+unfolding element
+element-word l at k h = getD-table 64 (λ k. coeff (part l at 64) k % Q) k 0 h ∙ ap (λ x. x % Q) (getD-part 0 l at 64 k h)
+
+module _ (J R W : List ℕ) where
+  -- the parameters, and where the projection words and s_1 start
+  P : Parameters
+  P = parameters J
+
+  pi : ℕ
+  pi = start (randomness-sections P) 0
+
+  s : ℕ
+  s = start (witness-sections P) 0
+
+  -- coefficient m of vector i of the witness is its word, reduced
+  witness-coefficient : (i m : ℕ) → coefficient (witness P W i) m ≡ getD W (s + i * (64 * P .n) + m) 0 % Q
+  unfolding s
+  witness-coefficient i m =
+      let place : s + 64 * (i * P .n + m / 64) + m % 64 ≡ s + i * (64 * P .n) + m = omega arith in
+      element-word W (s + 64 * (i * P .n + m / 64)) (m % 64) (mod-lt m (omega arith)) ∙ ap (λ k. getD W k 0 % Q) place
+
+  -- row j of Π_i times s_i
+  vector-is : (i j : ℕ) → vector-row R pi W s (P .n) i j % Q ≡ projection (public J R) (witness P W) i j % Q
+  unfolding P pi row-sum projection
+  vector-is i j =
+      Σ-mod-ext (64 * P .n) Q
+      (λ m. entry (getD R (pi + (i * 256 + j) * (64 * P .n) + m) 0) * getD W (s + i * (64 * P .n) + m) 0)
+      (λ m. entry (getD R (pi + ((i * 256 + j) * (64 * P .n) + m)) 0) * coefficient (witness P W i) m)
+      (λ m h.
+      let place : pi + (i * 256 + j) * (64 * P .n) + m ≡ pi + ((i * 256 + j) * (64 * P .n) + m) = omega arith in
+      ap (λ k. (entry (getD R k 0) * getD W (s + i * (64 * P .n) + m) 0) % Q) place
+      ∙ sym (mul-mod-second Q (entry (getD R (pi + ((i * 256 + j) * (64 * P .n) + m)) 0)) (getD W (s + i * (64 * P .n) + m) 0))
+      ∙ ap (λ x. (entry (getD R (pi + ((i * 256 + j) * (64 * P .n) + m)) 0) * x) % Q) (sym (witness-coefficient i m)))
+
+  -- the run of all vectors at row j
+  pub p-row : (j : ℕ) → run-row R (start (randomness-sections (parameters J)) 0) W (start (witness-sections (parameters J)) 0) (parameters J .n) 0 (parameters J .r) j ≡ p (public J R) (witness (parameters J) W) j
+  unfolding P pi s run-row p
+  p-row j =
+      ap (λ k. Σ k (λ i. vector-row R pi W s (P .n) (0 + i) j) % Q) (sub-zero (P .r))
+      ∙ Σ-mod-ext (P .r) Q
+      (λ i. vector-row R pi W s (P .n) (0 + i) j)
+      (λ i. projection (public J R) (witness P W) i j)
+      (λ i h. ap (λ k. vector-row R pi W s (P .n) k j % Q) (zero-add i) ∙ vector-is i j)
+
+  -- the run of all vectors is p
+  pub run-is-p : run R (start (randomness-sections (parameters J)) 0) W (start (witness-sections (parameters J)) 0) (parameters J .n) 0 (parameters J .r) ≡ table 256 (p (public J R) (witness (parameters J) W))
+  run-is-p = table-ext 256 _ (p (public J R) (witness (parameters J) W)) (λ j h. p-row j)
+
+-- word c of row j of vector i
+row-place : (pi i j w c : ℕ) → pi + i * 256 * w + j * w + c ≡ pi + ((i * 256 + j) * w + c)
+row-place pi i j w c = omega arith
+
+-- the omega part of φ'' of vector i for k, from the place of the vector's first row and that of k's omega
+pub omega-is : (J R : List ℕ) (i k m : ℕ)
+    → omega-element R (start (randomness-sections (parameters J)) 0 + i * 256 * (64 * parameters J .n)) (start (randomness-sections (parameters J)) 2 + k * 256) (parameters J .n) m
+    ≡ sum 256 (λ j. scale (conj (Π-row (public J R) i j m)) (public J R .omega k j))
+unfolding omega-element Π-row
+omega-is J R i k m =
+    sum-ext RqOps 256
+    (λ j. scale (conj (row-element R (pi + i * 256 * w + j * w) m)) (getD R (om + k * 256 + j) 0))
+    (λ j. scale (conj (Π-row (public J R) i j m)) (public J R .omega k j))
+    (λ j h. ap₂ (λ e o. scale (conj (element e)) o) (entries j) (ap (λ x. getD R x 0) (add-assoc om (k * 256) j)))
+  where
+    pi : ℕ
+    pi = start (randomness-sections (parameters J)) 0
+
+    om : ℕ
+    om = start (randomness-sections (parameters J)) 2
+
+    w : ℕ
+    w = 64 * parameters J .n
+
+    entries : (j : ℕ) → table 64 (λ q. entry (getD R (pi + i * 256 * w + j * w + (64 * m + q)) 0)) ≡ table 64 (λ q. entry (getD R (pi + ((i * 256 + j) * w + (64 * m + q))) 0))
+    entries j =
+        table-ext 64 (λ q. entry (getD R (pi + i * 256 * w + j * w + (64 * m + q)) 0)) (λ q. entry (getD R (pi + ((i * 256 + j) * w + (64 * m + q))) 0))
+        (λ q l. ap (λ x. entry (getD R x 0)) (row-place pi i j w (64 * m + q)))
+
+-- φ'' is the part of psi and the omega part
+pub φ″-parts : (J R : List ℕ) (i k m : ℕ)
+    → φ″ (public J R) k i m
+    ≡ sum (parameters J .l) (λ x. scale (public J R .φ′ x i m) (public J R .psi k x))
+    ⊕ omega-element R (start (randomness-sections (parameters J)) 0 + i * 256 * (64 * parameters J .n)) (start (randomness-sections (parameters J)) 2 + k * 256) (parameters J .n) m
+unfolding φ″
+φ″-parts J R i k m = ap (λ e. sum (parameters J .l) (λ x. scale (public J R .φ′ x i m) (public J R .psi k x)) ⊕ e) (sym (omega-is J R i k m))
+
+-- two runs, one after the other, add up to the run of both
+pub runs-add : (R : List ℕ) (pi : ℕ) (W : List ℕ) (s n first mid end j : ℕ) → first ≤ mid → mid ≤ end
+    → run-row R pi W s n first end j ≡ zadd (run-row R pi W s n first mid j) (run-row R pi W s n mid end j)
+unfolding run-row
+runs-add R pi W s n first mid end j a b =
+    let count : end - first ≡ (mid - first) + (end - mid) = omega arith in
+    ap (λ k. Σ k rows % Q) count
+    ∙ ap (λ x. x % Q) (Σ-split (mid - first) (end - mid) rows ∙ ap (λ x. Σ (mid - first) rows + x) later)
+    ∙ sym (mod-add-mod (Σ (mid - first) rows) Q (Σ (end - mid) (λ i. vector-row R pi W s n (mid + i) j)))
+    ∙ sym (add-mod-mod (Σ (mid - first) rows % Q) (Σ (end - mid) (λ i. vector-row R pi W s n (mid + i) j)) Q)
+  where
+    rows : ℕ → ℕ
+    rows i = vector-row R pi W s n (first + i) j
+
+    later : Σ (end - mid) (λ i. rows (mid - first + i)) ≡ Σ (end - mid) (λ i. vector-row R pi W s n (mid + i) j)
+    later =
+        Σ-ext (end - mid) (λ i. rows (mid - first + i)) (λ i. vector-row R pi W s n (mid + i) j)
+        (λ i h. let place : first + (mid - first + i) ≡ mid + i = omega arith in ap (λ k. vector-row R pi W s n k j) place)

@@ -1,0 +1,27 @@
+-- The projection of a run of vectors over the words of slices. The whole p is the run of all vectors.
+use mathlib.Core.List.{List}
+use Prim.Native.Nat.{ℕ, _+_, _-_, _*_, _%_, _≤_}
+use lib.ListN.{length}
+use Rattle.lists.specs.Sum.{Σ}
+use Rattle.lists.specs.Table.{table}
+use Rattle.definitions.specs.Zq.{Q}
+use Rattle.jl.specs.Rows.{row-sum}
+
+-- row j of Π_i times s_i, before the reduction modulo Q. The projection words start at a place of R and s_1 at one of W; a vector has 64·n words
+abbrev pub vector-row : List ℕ → ℕ → List ℕ → ℕ → ℕ → ℕ → ℕ → ℕ
+vector-row R pi W s n i j = row-sum R (pi + (i * 256 + j) * (64 * n)) W (s + i * (64 * n)) (64 * n)
+
+-- row j of the projection of the vectors from `first` up to `end`
+unfoldable pub run-row : List ℕ → ℕ → List ℕ → ℕ → ℕ → ℕ → ℕ → ℕ → ℕ
+run-row R pi W s n first end j = Σ (end - first) (λ i. vector-row R pi W s n (first + i) j) % Q
+
+-- the 256 words of the projection of the vectors from `first` up to `end`
+abbrev pub run : List ℕ → ℕ → List ℕ → ℕ → ℕ → ℕ → ℕ → List ℕ
+run R pi W s n first end = table 256 (run-row R pi W s n first end)
+
+-- the vectors up to `end` and their matrices lie within the slices, and their sums within 64 bits
+pub record Within (R : List ℕ) (pi : ℕ) (W : List ℕ) (s n end : ℕ) : Type 0 where
+  pub matrices : pi + end * 256 * (64 * n) ≤ length R
+  pub vectors : s + end * (64 * n) ≤ length W
+  pub narrow : n ≤ 1024
+  pub few : end ≤ 65536

@@ -1,0 +1,3 @@
+// The projection (core/jl.rs) and its part of the aggregated φ'' (core/aggregate.rs).
+pub mod omega;
+pub mod projection;

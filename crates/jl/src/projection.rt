@@ -1,0 +1,85 @@
+// p, the projection of the witness: sums of words where the projection's entry is 1 and of their negatives where it is −1.
+// A slice is passed whole, with the place of what is read or written.
+ghost use mathlib.Core.Path.{_≡_};
+ghost use Prim.Native.Nat.{_+_, _*_, _%_, _≤_, _<_};
+ghost use lib.ListN.{length};
+ghost use Rattle.lists.specs.Part.{splice};
+ghost use Rattle.definitions.specs.Zq.{Q};
+ghost use Rattle.jl.specs.Rows.{term, row-sum};
+ghost use Rattle.jl.specs.Run.{run-row, run, Within};
+
+// Q as a u64.
+const MODULUS: u64 = 4294967295;
+
+// The word, its negative or 0, as the projection word's entry is 1, −1 or 0. Q less a word is the word with each bit changed.
+pub fn term(code: u32, word: u32) -> u32
+    ensures { λ r. ⌜ r ≡ term code word ⌝ }
+{
+    let mask = if code < 1073741824 { 4294967295 } else { 0 };
+    if code < 2147483648 { word ^ mask } else { 0 }
+}
+
+// The sum of `count` terms. Their lower and upper halves are summed in 32 bits.
+fn row(randomness: &[u32], at: usize, witness: &[u32], wt: usize, count: usize) -> u64
+    requires { ⌜ (at + count ≤ length (now randomness)) × (wt + count ≤ length (now witness)) × (count ≤ 65536) ⌝ }
+    ensures { λ r. ⌜ (r % Q ≡ row-sum (now (randomness .entry)) at (now (witness .entry)) wt count % Q) × (r ≤ Q * count) ⌝ }
+{
+    let mut low: u32 = 0;
+    let mut high: u32 = 0;
+    let mut m = 0;
+    while m < count {
+        let t = term(randomness[at + m], witness[wt + m]);
+        low += t % 65536;
+        high += t / 65536;
+        m += 1;
+    }
+    high as u64 * 65536 + low as u64
+}
+
+// Row j of the projection of the vectors from `first` up to `end`.
+fn row_of_run(
+    randomness: &[u32],
+    pi_at: usize,
+    witness: &[u32],
+    s_at: usize,
+    n: usize,
+    first: usize,
+    end: usize,
+    j: usize,
+) -> u32
+    requires { ⌜ Within (now randomness) «pi_at» (now witness) «s_at» n end × (j < 256) ⌝ }
+    ensures { λ r. ⌜ r ≡ run-row (now (randomness .entry)) «pi_at» (now (witness .entry)) «s_at» n first end j ⌝ }
+{
+    let width = 64 * n;
+    let mut sum: u64 = 0;
+    let mut i = first;
+    while i < end {
+        let at = pi_at + (i * 256 + j) * width;
+        let wt = s_at + i * width;
+        sum += row(randomness, at, witness, wt, width);
+        i += 1;
+    }
+    (sum % MODULUS) as u32
+}
+
+// The projection of the vectors from `first` up to `end`, 256 words stored from `out_at` on. The projection words start at `pi_at` and s_1 at `s_at`.
+pub fn project_run(
+    randomness: &[u32],
+    pi_at: usize,
+    witness: &[u32],
+    s_at: usize,
+    n: usize,
+    first: usize,
+    end: usize,
+    out: &mut [u32],
+    out_at: usize,
+)
+    requires { ⌜ Within (now randomness) «pi_at» (now witness) «s_at» n end × («out_at» + 256 ≤ length (now out)) ⌝ }
+    ensures { λ _. ⌜ now (out .exit) ≡ splice (now (out .entry)) «out_at» (run (now (randomness .entry)) «pi_at» (now (witness .entry)) «s_at» n first end) ⌝ }
+{
+    let mut j = 0;
+    while j < 256 {
+        out[out_at + j] = row_of_run(randomness, pi_at, witness, s_at, n, first, end, j);
+        j += 1;
+    }
+}

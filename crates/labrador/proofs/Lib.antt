@@ -1,0 +1,3 @@
+mod Result
+mod Owned
+pub mod Rows

@@ -1,0 +1,5 @@
+// The exported calls.
+pub mod answers;
+pub mod digits;
+pub mod elements;
+pub mod numbers;

@@ -1,0 +1,6 @@
+pub mod Small
+mod Decimal
+pub mod Runs
+pub mod Parsing
+pub mod Chunks
+pub mod Laws

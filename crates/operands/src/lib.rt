@@ -1,0 +1,3 @@
+// What a leaf call finds of its operands.
+pub mod leaf;
+pub mod scan;

@@ -1,0 +1,92 @@
+-- Refusals and their places on short slices, as one table under one proof against the definitions.
+use mathlib.Core.Path.{refl}
+use mathlib.Core.List.{List, [], _∷_, _++_}
+use Prim.Native.Nat.{ℕ}
+use native.Mathlib.Decide.{decLe, ℕ-discrete}
+use lib.ListN.{take, set, replicate}
+use Rattle.definitions.specs.Zq.{Q}
+use Rattle.definitions.specs.Answer.{Answer, fine, refused, below}
+use Rattle.definitions.proofs.Table.{Row, _is_, Holds}
+use Rattle.protocol.specs.Parameters.{parameters, limits, kappa-is-L}
+use Rattle.protocol.specs.Layout.{span, sections, counted, layout, ranged, job-refusal, randomness-refusal, witness-refusal, transcript-refusal}
+use Rattle.protocol.specs.Prover.{round₁, prove-refusal}
+
+-- words that are all 0
+abbrev pub zeros : ℕ → List ℕ
+zeros n = replicate n 0
+
+-- section one with n = r = κ₁ = κ₂ = K = l = t₁ = t₂ = 1, κ = 4, log_q = 32, b = 2, and the greatest word in every bound
+abbrev pub section-one : List ℕ
+section-one = 29 ∷ 1 ∷ 1 ∷ 4 ∷ 1 ∷ 1 ∷ 1 ∷ 1 ∷ 32 ∷ 2 ∷ 1 ∷ 1 ∷ replicate 18 4294967295
+
+-- the job of these parameters whose other sections are zero
+abbrev pub job : List ℕ
+job = section-one ++ sections (zeros 64 ∷ zeros 64 ∷ zeros 1 ∷ zeros 64 ∷ zeros 64 ∷ zeros 64 ∷ zeros 256 ∷ zeros 256 ∷ zeros 64 ∷ zeros 64 ∷ [])
+
+-- its witness of zeros
+abbrev pub zero-witness : List ℕ
+zero-witness = sections (zeros 64 ∷ [])
+
+-- its transcript of zeros
+abbrev pub zero-transcript : List ℕ
+zero-transcript = sections (zeros 64 ∷ zeros 256 ∷ zeros 256 ∷ zeros 64 ∷ zeros 64 ∷ zeros 256 ∷ zeros 64 ∷ zeros 64 ∷ [])
+
+-- refusals of section one alone with one word changed
+abbrev pub section-one-with : ℕ → ℕ → Answer
+section-one-with place word = job-refusal (set section-one place word)
+
+-- the randomness where n = 0, which leaves its first section empty: signs of 1 and the greatest shuffle words
+abbrev pub randomness : List ℕ
+randomness = sections (zeros 0 ∷ zeros 4 ∷ zeros 1024 ∷ zeros 64 ∷ zeros 256 ∷ replicate 41 1 ∷ replicate 63 4294967295 ∷ [])
+
+-- refusals of its first m sections
+abbrev pub randomness-of : ℕ → List ℕ → Answer
+randomness-of = randomness-refusal (parameters (set section-one 1 0))
+
+-- refusals of a transcript
+abbrev pub transcript-of : List ℕ → Answer
+transcript-of = transcript-refusal (parameters job)
+
+-- the first round's refusals of randomness, witness, scratch and output
+abbrev pub first-round : List ℕ → List ℕ → ℕ → ℕ → Answer
+first-round = prove-refusal round₁ job
+
+-- slices and what they are refused for
+abbrev pub examples : List Row
+examples =
+    -- an empty job; a wrong count; a job that ends within section one
+    ((job-refusal [] ∷ job-refusal (28 ∷ zeros 29) ∷ job-refusal (take 12 job) ∷ [])
+    is (refused 3 0 ∷ refused 3 0 ∷ refused 3 12 ∷ []))
+    -- section one alone with n = 65, and with n = 64
+    ∷ ((section-one-with 1 65 ∷ section-one-with 1 64 ∷ []) is (refused 4 1 ∷ refused 3 30 ∷ []))
+    -- κ₂ = 17 and K = 65: the first is named
+    ∷ (job-refusal (set (set section-one 5 17) 6 65) is refused 4 5)
+    -- log_q = 15, 33, and 31, at which L is 5 and κ is not
+    ∷ ((section-one-with 8 15 ∷ section-one-with 8 33 ∷ section-one-with 8 31 ∷ []) is (refused 4 8 ∷ refused 4 8 ∷ refused 5 3 ∷ []))
+    -- b = 1, b = 4294967295
+    ∷ ((section-one-with 9 1 ∷ section-one-with 9 4294967295 ∷ []) is (refused 4 9 ∷ refused 4 9 ∷ []))
+    -- a whole job; one that ends early; one with a surplus word; one with a word Q
+    ∷ ((job-refusal job ∷ job-refusal (take 500 job) ∷ job-refusal (job ++ (0 ∷ [])) ∷ job-refusal (set job 1000 Q) ∷ [])
+    is (fine ∷ refused 3 500 ∷ refused 3 1001 ∷ refused 6 1000 ∷ []))
+    -- seven sections of randomness, shuffle words of 4294967295 among them; with a psi word Q; with a sign word 2; where five sections are due
+    ∷ ((randomness-of 7 randomness ∷ randomness-of 7 (set randomness 2 Q) ∷ randomness-of 7 (set randomness 1354 2) ∷ randomness-of 5 randomness ∷ [])
+    is (fine ∷ refused 8 2 ∷ refused 8 1354 ∷ refused 7 1353 ∷ []))
+    -- a wrong count is named before a word out of range, though that stands before it
+    ∷ (randomness-of 7 (set (set randomness 2 Q) 1395 62) is refused 7 1395)
+    -- a transcript; an empty one; one with a word Q
+    ∷ ((transcript-of zero-transcript ∷ transcript-of [] ∷ transcript-of (set zero-transcript 66 Q) ∷ []) is (fine ∷ refused 9 0 ∷ refused 10 66 ∷ []))
+    -- a transcript that ends early; one that does after a wrong count
+    ∷ ((transcript-of (take 400 zero-transcript) ∷ transcript-of (take 400 (set zero-transcript 65 255)) ∷ []) is (refused 9 400 ∷ refused 9 65 ∷ []))
+    -- the first round takes an empty randomness only
+    ∷ (first-round (0 ∷ []) zero-witness 5184 65 is refused 7 0)
+    -- an empty witness; one with a surplus word; one with a word Q
+    ∷ ((first-round [] [] 5184 65 ∷ first-round [] (zero-witness ++ (0 ∷ [])) 5184 65 ∷ first-round [] (set zero-witness 64 Q) 5184 65 ∷ [])
+    is (refused 11 0 ∷ refused 11 65 ∷ refused 12 64 ∷ []))
+    -- scratch and output each one word short; output alone; neither
+    ∷ ((first-round [] zero-witness 5183 64 ∷ first-round [] zero-witness 5184 64 ∷ first-round [] zero-witness 5184 65 ∷ []) is (refused 1 5184 ∷ refused 2 65 ∷ fine ∷ []))
+    ∷ []
+
+-- each row of the table holds
+pub examples-hold : Holds examples
+unfolding job-refusal randomness-refusal witness-refusal transcript-refusal prove-refusal counted limits kappa-is-L layout ranged span sections below decLe ℕ-discrete
+examples-hold = (refl, (refl, (refl, (refl, (refl, (refl, (refl, (refl, (refl, (refl, (refl, (refl, (refl, tt)))))))))))))

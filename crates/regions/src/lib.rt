@@ -1,0 +1,61 @@
+// The regions of the lent scratch: places in words, one region after the other from the scratch's first word on.
+ghost use Prim.Native.Nat.{_≤_};
+ghost use Rattle.regions.specs.Laid.{Laid};
+
+pub struct Regions {
+    // φ'': L·r·n elements
+    pub phi2: usize,
+    // a'': L triangles; h's triangle takes their place once a and b'' are made
+    pub a2: usize,
+    // φ: r·n elements
+    pub phi: usize,
+    // a: a triangle
+    pub a: usize,
+    // g: a triangle
+    pub g: usize,
+    // r challenges
+    pub challenges: usize,
+    // t: r·κ elements
+    pub t: usize,
+    // z: n elements
+    pub z: usize,
+    // the digits of one element: 32 elements
+    pub digits: usize,
+    // u1 or u2: 16 elements
+    pub u: usize,
+    // b'': 16 elements
+    pub b2: usize,
+}
+
+// The regions for r vectors of n elements, κ rows of A and L aggregated equations.
+pub fn lay_out(n: usize, r: usize, kappa: usize, l: usize) -> Regions
+    requires { ⌜ (n ≤ 64) × (r ≤ 16) × (kappa ≤ 16) × (l ≤ 16) ⌝ }
+    ensures { λ s. ⌜ Laid n r kappa l s ⌝ }
+{
+    let width = r * n;
+    let cells = r * (r + 1) / 2;
+    let phi2 = 0;
+    let a2 = phi2 + 64 * (l * width);
+    let phi = a2 + 64 * (l * cells);
+    let a = phi + 64 * width;
+    let g = a + 64 * cells;
+    let challenges = g + 64 * cells;
+    let t = challenges + 64 * r;
+    let z = t + 64 * (r * kappa);
+    let digits = z + 64 * n;
+    let u = digits + 2048;
+    let b2 = u + 1024;
+    Regions {
+        phi2,
+        a2,
+        phi,
+        a,
+        g,
+        challenges,
+        t,
+        z,
+        digits,
+        u,
+        b2,
+    }
+}

@@ -1,0 +1,65 @@
+// What the replay prints.
+use crate::counts;
+use libc::STDOUT_FILENO;
+
+// The name of a kind of records.
+pub fn print_name(kind: u32) {
+    match kind {
+        1 => io::write_all(STDOUT_FILENO, b"zq_add"),
+        2 => io::write_all(STDOUT_FILENO, b"zq_sub"),
+        3 => io::write_all(STDOUT_FILENO, b"zq_mul"),
+        4 => io::write_all(STDOUT_FILENO, b"zq_neg"),
+        5 => io::write_all(STDOUT_FILENO, b"zq_centre"),
+        6 => io::write_all(STDOUT_FILENO, b"zq_digits"),
+        7 => io::write_all(STDOUT_FILENO, b"projection_entry"),
+        8 => io::write_all(STDOUT_FILENO, b"rq_add"),
+        9 => io::write_all(STDOUT_FILENO, b"rq_sub"),
+        10 => io::write_all(STDOUT_FILENO, b"rq_mul"),
+        11 => io::write_all(STDOUT_FILENO, b"rq_scale"),
+        12 => io::write_all(STDOUT_FILENO, b"rq_conj"),
+        13 => io::write_all(STDOUT_FILENO, b"rq_norm"),
+        14 => io::write_all(STDOUT_FILENO, b"rq_digits"),
+        15 => io::write_all(STDOUT_FILENO, b"challenge"),
+        _ => io::write_all(STDOUT_FILENO, b"unknown"),
+    }
+    ;
+}
+
+// `differs` with the record's kind and number.
+pub fn differs(kind: u32, record: u64) {
+    io::write_all(STDOUT_FILENO, b"differs ");
+    print_name(kind);
+    io::write_all(STDOUT_FILENO, b" record ");
+    io::print_decimal(STDOUT_FILENO, record);
+    io::write_all(STDOUT_FILENO, b"\n");
+}
+
+// A kind's name and how many records of it were the same, of how many.
+pub fn counted(kind: u32, same: u64, all: u64) {
+    print_name(kind);
+    io::write_all(STDOUT_FILENO, b" ");
+    io::print_decimal(STDOUT_FILENO, same);
+    io::write_all(STDOUT_FILENO, b" of ");
+    io::print_decimal(STDOUT_FILENO, all);
+    io::write_all(STDOUT_FILENO, b"\n");
+}
+
+// Every kind's counts.
+pub fn all(tally: &[u64]) {
+    for kind in 1..16 {
+        counted(
+            kind,
+            counts::read(tally, counts::same_of(kind)),
+            counts::read(tally, counts::all_of(kind)),
+        );
+    }
+}
+
+// Whether the file was read to its last record.
+pub fn whole(tally: &[u64]) {
+    if counts::read(tally, counts::WHOLE) == 1 {
+        io::write_all(STDOUT_FILENO, b"whole\n");
+    } else {
+        io::write_all(STDOUT_FILENO, b"not whole\n");
+    }
+}

@@ -1,0 +1,6 @@
+pub mod Place
+pub mod Word
+pub mod Fill
+pub mod Mirror
+pub mod Holds
+pub mod Formula

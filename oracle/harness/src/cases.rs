@@ -1,0 +1,282 @@
+//! A case of a call on whole slices, with the answer that is expected of it.
+
+use crate::instances::Instance;
+use crate::leaves::Leaves;
+use crate::record::Recorder;
+use crate::rust;
+use crate::tally::Tally;
+use model::refusals::{fit, output_need, Handed};
+use model::words::{join, read_witness, Job, Parameters, Randomness, Transcript};
+use model::{checks, conditions, formulas, Answer, Call};
+
+pub struct Case {
+    /// What the case is for.
+    pub purpose: &'static str,
+    pub call: Call,
+    pub job: Vec<u32>,
+    pub randomness: Vec<u32>,
+    /// The verifier's transcript, the witness of any other call.
+    pub third: Vec<u32>,
+    /// The lengths of the lent buffers.
+    pub scratch: usize,
+    pub output: usize,
+    pub expected: Expected,
+}
+
+#[derive(Clone, Debug, PartialEq, Eq)]
+pub struct Expected {
+    pub answer: Answer,
+    /// None where the buffers are left alone; else scratch is zero to the length needed, and these are the first
+    /// words of the output.
+    pub worked: Option<Vec<u32>>,
+}
+
+impl Case {
+    /// Parameters and purpose, for a difference.
+    pub fn describe(&self) -> String {
+        let parameters = self.job.get(1..30).map(Parameters::read);
+        format!("{} ({}) {parameters:?}", self.call.name(), self.purpose)
+    }
+
+    /// The scratch that the work needs.
+    pub fn scratch_need(&self) -> usize {
+        Parameters::read(&self.job[1..30]).scratch_need()
+    }
+}
+
+/// Headings of the tally.
+pub const CALLS: &str = "answers of the calls";
+pub const CONDITIONS: &str = "demand 3's conditions";
+pub const PURPOSES: &str = "purposes";
+
+pub struct Context {
+    pub tally: Tally,
+    pub recorder: Option<Recorder>,
+}
+
+impl Context {
+    /// The answers that a call can give.
+    fn answers(call: Call) -> Vec<u32> {
+        match call {
+            Call::Prove | Call::Round(4 | 5) => [(0..=8).collect::<Vec<u32>>(), (11..=16).collect()].concat(),
+            Call::Round(1) => [(0..=7).collect::<Vec<u32>>(), (11..=15).collect()].concat(),
+            Call::Round(_) => [(0..=8).collect::<Vec<u32>>(), (11..=15).collect()].concat(),
+            Call::Verify => [vec![0, 1], (3..=10).collect(), (14..=16).collect(), (21..=29).collect()].concat(),
+        }
+    }
+
+    pub fn new(recorder: Option<Recorder>) -> Self {
+        let mut tally = Tally::default();
+        for call in Call::ALL {
+            for number in Context::answers(call) {
+                tally.must_occur(CALLS, row(call, number));
+            }
+        }
+        for number in [0, 13, 14, 15, 16, 21, 22, 23, 27] {
+            tally.must_occur(CONDITIONS, format!("{number:>2}"));
+        }
+        Leaves::must_occur(&mut tally);
+        Context { tally, recorder }
+    }
+
+    pub fn leaves(&mut self) -> Leaves<'_> {
+        Leaves {
+            tally: &mut self.tally,
+            recorder: &mut self.recorder,
+        }
+    }
+
+    /// Counts a case, compares the library's answer with the expected one, and records it.
+    pub fn take(&mut self, case: Case) {
+        self.tally.occurred(CALLS, row(case.call, case.expected.answer.number));
+        self.tally.occurred(PURPOSES, case.purpose);
+        self.tally.library(&case);
+        if let Some(recorder) = &mut self.recorder {
+            recorder.case(&case);
+        }
+    }
+
+    /// A case that is refused before the work, with the number and the place that it is made for.
+    pub fn unfit(&mut self, case: Case, aim: (u32, usize)) {
+        let handed = Handed {
+            job: &case.job,
+            randomness: &case.randomness,
+            third: &case.third,
+            scratch: case.scratch,
+            output: case.output,
+        };
+        let answer = fit(case.call, handed).err().unwrap_or_default();
+        self.tally.compare(
+            "model of refusals 1 to 12 with the fault planted",
+            &answer,
+            &Answer::refused(aim.0, aim.1),
+            || case.describe(),
+        );
+        let expected = Expected { answer, worked: None };
+        self.take(Case { expected, ..case });
+    }
+
+    /// The prover's whole call and its rounds on an instance, by one run of the Rust. Gives the transcript back where
+    /// it is made.
+    pub fn prover(&mut self, purpose: &'static str, instance: &Instance, spare: usize) -> Option<Vec<u32>> {
+        let p = &instance.parameters;
+        let job = instance.job_words();
+        let randomness = instance.randomness_words();
+        let witness = instance.witness_words();
+        let (answer, mut sections) = rust::prove(&rust::Job::new(&job), &randomness, &witness);
+        if answer.number == 16 {
+            // rounds 1 to 3 do not reach D
+            let lifted = rust::Job::with_bound_d(&job, u128::MAX);
+            sections = rust::prove(&lifted, &randomness, &witness).1;
+        }
+
+        let described = || format!("prove ({purpose}) {p:?}");
+        let values = Job::read(&job);
+        let drawn = Randomness::read(p, &randomness);
+        let s = read_witness(p, &witness);
+        let (made, modelled) = formulas::transcript(&values, &drawn, &s);
+        self.tally
+            .compare("model's prover with the Rust's, answer", &modelled, &answer, described);
+        if !sections.is_empty() {
+            let ours = made.sections();
+            self.tally.compare(
+                "model's prover with the Rust's, transcript",
+                &ours,
+                &sections,
+                described,
+            );
+        }
+
+        for call in Call::ALL {
+            let (Call::Prove | Call::Round(_)) = call else {
+                continue;
+            };
+            let need = output_need(p, call);
+            let reached = !matches!(call, Call::Round(1..=3));
+            let refused = answer.number > 0 && (reached || answer.number < 16);
+            let (first, past) = call.output_sections();
+            let expected = Expected {
+                answer: if refused { answer } else { Answer::FINE },
+                worked: Some(if refused {
+                    vec![0; need]
+                } else {
+                    join(&sections[first..past])
+                }),
+            };
+            self.take(Case {
+                purpose,
+                call,
+                job: job.clone(),
+                randomness: join(&instance.randomness[..call.randomness_sections()]),
+                third: witness.clone(),
+                scratch: p.scratch_need() + spare,
+                output: need + spare,
+                expected,
+            });
+        }
+
+        if answer.number > 0 {
+            self.tally.occurred(CONDITIONS, format!("{:>2}", answer.number));
+            return None;
+        }
+        // demand 3: the verdict on the prover's own transcript is that of the four conditions
+        let transcript = join(&sections);
+        let verdict = self.verifier(purpose, instance, &transcript, spare);
+        let breach = conditions::first_breach(&values, &drawn, &s);
+        self.tally
+            .compare("four conditions with the Rust's verdict", &breach, &verdict, described);
+        self.tally.occurred(CONDITIONS, format!("{:>2}", breach.number));
+        Some(transcript)
+    }
+
+    /// The verifier on a transcript: the Rust's verdict.
+    pub fn verifier(&mut self, purpose: &'static str, instance: &Instance, transcript: &[u32], spare: usize) -> Answer {
+        let p = &instance.parameters;
+        let job = instance.job_words();
+        let randomness = instance.randomness_words();
+        let answer = rust::verify(&rust::Job::new(&job), &randomness, transcript);
+        let modelled = checks::verdict(
+            &Job::read(&job),
+            &Randomness::read(p, &randomness),
+            &Transcript::read(p, transcript),
+        );
+        self.tally
+            .compare("model's verifier with the Rust's", &modelled, &answer, || {
+                format!("verify ({purpose}) {p:?}")
+            });
+        self.take(Case {
+            purpose,
+            call: Call::Verify,
+            job,
+            randomness,
+            third: transcript.to_vec(),
+            scratch: p.scratch_need() + spare,
+            output: 0,
+            expected: Expected {
+                answer,
+                worked: Some(vec![]),
+            },
+        });
+        answer
+    }
+}
+
+impl Tally {
+    /// Compares the library's answer with the expected one.
+    pub fn library(&mut self, case: &Case) {
+        if let Some(ours) = ours(case) {
+            let expected = Seen {
+                answer: case.expected.answer,
+                ..Seen::default()
+            };
+            self.compare("library with the expected answer", &ours, &expected, || case.describe());
+        }
+    }
+}
+
+/// What is seen of a call of the library: its answer, and the first word of each buffer that is not as expected.
+#[derive(Debug, Default, PartialEq, Eq)]
+struct Seen {
+    answer: Answer,
+    scratch: Option<usize>,
+    output: Option<usize>,
+}
+
+/// Words behind each lent buffer, which no call may touch.
+const GUARD: usize = 16;
+
+/// The library's call on a case, with buffers whose words are all known beforehand.
+fn ours(case: &Case) -> Option<Seen> {
+    if !library::HAS_WHOLE_CALLS {
+        return None;
+    }
+    let before = |length: usize| -> Vec<u32> { (0..length + GUARD).map(|k| 0xc0de_0000 ^ k as u32).collect() };
+    let mut scratch = before(case.scratch);
+    let mut output = before(case.output);
+    let answer = library::whole(
+        case.call,
+        library::Handed {
+            job: &case.job,
+            randomness: &case.randomness,
+            third: &case.third,
+            scratch: &mut scratch[..case.scratch],
+            output: &mut output[..case.output],
+        },
+    )?;
+    let mut scratch_after = before(case.scratch);
+    let mut output_after = before(case.output);
+    if let Some(words) = &case.expected.worked {
+        scratch_after[..case.scratch_need()].fill(0);
+        output_after[..words.len()].copy_from_slice(words);
+    }
+    let first = |x: &[u32], y: &[u32]| x.iter().zip(y).position(|(a, b)| a != b);
+    Some(Seen {
+        answer,
+        scratch: first(&scratch, &scratch_after),
+        output: first(&output, &output_after),
+    })
+}
+
+fn row(call: Call, number: u32) -> String {
+    format!("{:<8}{number:>2}", call.name())
+}

@@ -1,0 +1,12 @@
+//! The published Rust on words, the cases, and their comparison and recording.
+
+pub mod cases;
+pub mod instances;
+pub mod leaves;
+pub mod random;
+pub mod record;
+pub mod replay;
+pub mod rust;
+pub mod tally;
+pub mod unfit;
+pub mod whole;
