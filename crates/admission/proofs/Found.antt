@@ -14,9 +14,9 @@ use Rattle.layout.proofs.Then.{require-fails}
 use Rattle.protocol.specs.Parameters.{Parameters}
 use Rattle.relation.specs.declared.env_params.EnvironmentParameters.{EnvironmentParameters}
 use Rattle.relation.specs.Parameters.{parametersOf}
-use Rattle.admission.specs.declared.slices.Checked.{Checked}
-use Rattle.admission.specs.declared.slices.Admitted.{Admitted}
-use Rattle.admission.specs.declared.slices.Admitted.the-variants as A
+use Rattle.admission.specs.declared.answers.Checked.{Checked}
+use Rattle.admission.specs.declared.answers.Admitted.{Admitted}
+use Rattle.admission.specs.declared.answers.Admitted.the-variants as A
 use Rattle.admission.specs.Admission.{ofChecked, ofAdmitted, At}
 
 -- a slice that is examined against a table, whose sections are those listed

@@ -19,7 +19,7 @@ use Rattle.relation.specs.Parameters.{parametersOf}
 use Rattle.relation.specs.SectionOne.{section-one, Sound}
 use Rattle.relation.proofs.Limits.{sound}
 use Rattle.sizes.specs.Sizes.{Sized}
-use Rattle.admission.specs.Admission.{public-refusal, Handed, Provable, Verifiable}
+use Rattle.admission.specs.Admission.{Handed, Provable, Verifiable}
 
 -- what is refused nothing after a layout and ranges
 slice-laid : (a b : ℕ) (words : List ℕ) (place : ℕ) (ss : List Section) → place ≤ length words → layout a words place ss then ranged b words place ss ≡ fine → Laid words place ss
@@ -50,12 +50,9 @@ module _ (J : List ℕ) (e : job-refusal J ≡ fine) where
 pub sized : (J : List ℕ) (Q : Parameters) → Sound J → Q ≡ parameters J → Sized Q
 sized J Q s e = subst Sized (sym e) (record { within = s .within; aggregated = s .aggregated .1 })
 
--- so are those of a job that is refused nothing, alone or with its randomness
+-- so are those of a job that is refused nothing
 pub job-sized : (J : List ℕ) (Q : Parameters) → fine ≡ job-refusal J → Q ≡ parameters J → Sized Q
 job-sized J Q e same = sized J Q (job-sound J (sym e)) same
-
-pub public-sized : (J R : List ℕ) (m : ℕ) (Q : Parameters) → fine ≡ public-refusal J m R → Q ≡ parameters J → Sized Q
-public-sized J R m Q e same = sized J Q (job-sound J (then-fine-left (job-refusal J) (randomness-refusal (parameters J) m R) (sym e))) same
 
 randomness-laid : (P : Parameters) (m : ℕ) (R : List ℕ) → randomness-refusal P m R ≡ fine → Laid R 0 (take m (randomness-sections P))
 unfolding randomness-refusal

@@ -28,13 +28,18 @@ stays R.DigitsOfH b = refl
 pub stops-at : (r : Refusal) {a : Answer} (b : Answer) → ofRefusal r ≡ a → ofRefusal r ≡ a then b
 stops-at r b e = stays r b ∙ ap (λ x. x then b) e
 
--- three answers one after the other
-module _ (a b c : Answer) where
-  pub stage₁ : (r : Refusal) → ofRefusal r ≡ a → ofRefusal r ≡ a then b then c
-  stage₁ r e = stops-at r c (stops-at r b e)
+-- four answers one after the other
+module _ (a b c d : Answer) where
+  pub stage₁ : (r : Refusal) → ofRefusal r ≡ a → ofRefusal r ≡ a then b then c then d
+  stage₁ r e = stops-at r d (stops-at r c (stops-at r b e))
 
-  pub stage₂ : fine ≡ a → (r : Refusal) → ofRefusal r ≡ b → ofRefusal r ≡ a then b then c
-  stage₂ f r e = stops-at r c (goes-on f e)
+  module _ (f : fine ≡ a) where
+    pub stage₂ : (r : Refusal) → ofRefusal r ≡ b → ofRefusal r ≡ a then b then c then d
+    stage₂ r e = stops-at r d (stops-at r c (goes-on f e))
 
-  pub stage₃ : fine ≡ a → fine ≡ b → {z : Answer} → z ≡ c → z ≡ a then b then c
-  stage₃ f g e = goes-on (goes-on f g) e
+    module _ (g : fine ≡ b) where
+      pub stage₃ : (r : Refusal) → ofRefusal r ≡ c → ofRefusal r ≡ a then b then c then d
+      stage₃ r e = stops-at r d (goes-on (goes-on f g) e)
+
+      pub stage₄ : fine ≡ c → {z : Answer} → z ≡ d → z ≡ a then b then c then d
+      stage₄ h e = goes-on (goes-on (goes-on f g) h) e

@@ -3,9 +3,9 @@ use mathlib.Core.Path.{_≡_}
 use mathlib.Core.List.{List}
 use Prim.Native.Nat.{ℕ, _≤_}
 use lib.ListN.{take}
-use Rattle.definitions.specs.Answer.{Answer, fine, ofRefusal, _then_}
+use Rattle.definitions.specs.Answer.{Answer, fine, ofRefusal}
 use Rattle.protocol.specs.Parameters.{parameters}
-use Rattle.protocol.specs.Layout.{span, job-sections, randomness-sections, witness-sections, transcript-sections, job-refusal, randomness-refusal, scratch-need}
+use Rattle.protocol.specs.Layout.{span, job-sections, randomness-sections, witness-sections, transcript-sections, scratch-need}
 use Rattle.protocol.specs.Prover as P
 use Rattle.layout.specs.Laid.{Laid}
 use Rattle.relation.specs.declared.env_params.EnvironmentParameters.{EnvironmentParameters}
@@ -13,10 +13,10 @@ use Rattle.relation.specs.Parameters.{parametersOf}
 use Rattle.relation.specs.SectionOne.{Sound}
 use Rattle.admission.specs.declared.calls.Call.{Call}
 use Rattle.admission.specs.declared.calls.Call.the-variants as C
-use Rattle.admission.specs.declared.slices.Checked.{Checked}
-use Rattle.admission.specs.declared.slices.Checked.the-variants as K
-use Rattle.admission.specs.declared.slices.Admitted.{Admitted}
-use Rattle.admission.specs.declared.slices.Admitted.the-variants as A
+use Rattle.admission.specs.declared.answers.Checked.{Checked}
+use Rattle.admission.specs.declared.answers.Checked.the-variants as K
+use Rattle.admission.specs.declared.answers.Admitted.{Admitted}
+use Rattle.admission.specs.declared.answers.Admitted.the-variants as A
 
 -- the call of document 01
 abbrev pub callOf : Call → P.Call
@@ -35,10 +35,6 @@ ofChecked (K.Refused r) = ofRefusal r
 abbrev pub ofAdmitted : Admitted → Answer
 ofAdmitted (A.Refused r) = ofRefusal r
 ofAdmitted (A.Fit p) = fine
-
--- "section one by 3, then 4, 5; other job sections 3, 6; 7, 8"
-abbrev pub public-refusal : List ℕ → ℕ → List ℕ → Answer
-public-refusal J handed R = job-refusal J then randomness-refusal (parameters J) handed R
 
 -- a fact of the parameters of a call that is refused nothing
 abbrev pub At : Admitted → (EnvironmentParameters → Type 0) → Type 0

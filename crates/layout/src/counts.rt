@@ -36,12 +36,12 @@ pub fn count(words: &[u32], place: usize, s: Sections) -> Counted
     let mut m = 0;
     while m < s.len {
         let expected = counts[m];
-        if len <= at {
-            return Counted::Wrong(len);
+        if at < len {
+            if wide(words[at]) != expected {
+                return Counted::Wrong(at);
+            }
         }
-        if wide(words[at]) != expected {
-            return Counted::Wrong(at);
-        }
+        // the count is missing, or too few words follow it
         if len - at <= expected {
             return Counted::Wrong(len);
         }
@@ -52,7 +52,7 @@ pub fn count(words: &[u32], place: usize, s: Sections) -> Counted
 }
 
 // The first place at which the sections from a place on do not take the slice to its end.
-pub fn misplaced(words: &[u32], place: usize, s: Sections) -> Found
+pub fn first_wrong(words: &[u32], place: usize, s: Sections) -> Found
     requires { ⌜ (s .len ≤ 10) × (place ≤ length (now words)) ⌝ }
     ensures { λ r. ⌜ ((number : ℕ) → ofFound number r ≡ layout number (now (words .entry)) place (listed s)) ⌝ }
 {

@@ -41,7 +41,7 @@ fn pass(words: &[u32], from: usize, end: usize, greatest: u32) -> usize
 }
 
 // Nested loops over sections and their words, left by a label at the first word above its section's greatest.
-pub fn first_out_of_range(words: &[u32], place: usize, s: Sections) -> Found
+pub fn first_wrong(words: &[u32], place: usize, s: Sections) -> Found
     requires { ⌜ (s .len ≤ 10) × (place + span (listed s) ≤ length (now words)) ⌝ }
     ensures { λ r. ⌜ ((number : ℕ) → ofFound number r ≡ ranged number (now (words .entry)) place (listed s)) ⌝ }
 {

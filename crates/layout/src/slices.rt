@@ -22,9 +22,9 @@ pub fn examine(words: &[u32], place: usize, s: Sections) -> Examined
     requires { ⌜ (s .len ≤ 10) × (place ≤ length (now words)) ⌝ }
     ensures { λ r. ⌜ ((a b : ℕ) → ofExamined a b r ≡ layout a (now (words .entry)) place (listed s) then ranged b (now (words .entry)) place (listed s)) ⌝ }
 {
-    match counts::misplaced(words, place, s) {
+    match counts::first_wrong(words, place, s) {
         Found::At(at) => Examined::Layout(at),
-        Found::Nowhere => match ranges::first_out_of_range(words, place, s) {
+        Found::Nowhere => match ranges::first_wrong(words, place, s) {
             Found::At(at) => Examined::Word(at),
             Found::Nowhere => Examined::Fit,
         },

@@ -43,12 +43,12 @@ limited-fine least greatest place x e =
     let low = cond-no (ltb x least) (cond (ltb greatest x) (refused 4 place) fine) 4 place e in
     (ltb-false x least (low .0), ltb-false greatest x (cond-no (ltb greatest x) fine 4 place (low .1) .0))
 
--- the least and the greatest values, in the order of the parameters' words
+-- the least and the greatest values by place; the count is 29
 abbrev pub least : List ℕ
-least = 1 ∷ 1 ∷ 1 ∷ 1 ∷ 1 ∷ 1 ∷ 1 ∷ 16 ∷ 2 ∷ 1 ∷ 1 ∷ []
+least = 29 ∷ 1 ∷ 1 ∷ 1 ∷ 1 ∷ 1 ∷ 1 ∷ 1 ∷ 16 ∷ 2 ∷ 1 ∷ 1 ∷ []
 
 abbrev pub greatest : List ℕ
-greatest = 64 ∷ 16 ∷ 16 ∷ 16 ∷ 16 ∷ 64 ∷ 64 ∷ 32 ∷ 4294967294 ∷ 32 ∷ 32 ∷ []
+greatest = 29 ∷ 64 ∷ 16 ∷ 16 ∷ 16 ∷ 16 ∷ 64 ∷ 64 ∷ 32 ∷ 4294967294 ∷ 32 ∷ 32 ∷ []
 
 -- the limits one after the other are those of the lists
 pub limits-first : (J : List ℕ) → first 11 (limit-at least greatest J) ≡ limits (parameters J)

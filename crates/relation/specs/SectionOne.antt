@@ -15,9 +15,9 @@ use Rattle.relation.specs.Parameters.{parametersOf}
 abbrev pub section-one : List ℕ → Answer
 section-one J = counted 3 J 0 first-section then limits (parameters J) then kappa-is-L (parameters J)
 
--- the test of parameter k, of lists of least and greatest values
+-- the test of parameter k, counted from 0, of lists of least and greatest values by place
 abbrev pub limit-at : List ℕ → List ℕ → List ℕ → ℕ → Answer
-limit-at least greatest J k = limited (getD least k 0) (getD greatest k 0) (k + 1) (getD J (k + 1) 0)
+limit-at least greatest J k = let place = k + 1 in limited (getD least place 0) (getD greatest place 0) place (getD J place 0)
 
 abbrev pub ofSectionOne : SectionOne → Answer
 ofSectionOne (S.Refused r) = ofRefusal r

@@ -32,18 +32,19 @@ fn first_sections() -> Sections
     }
 }
 
-// The first parameter below its least or above its greatest value.
-fn first_out_of_limits(job: &[u32], least: [u32; 11], greatest: [u32; 11]) -> Found
+// The first parameter below its least or above its greatest value; the tables go by place, and the count's is not looked at.
+fn first_out_of_limits(job: &[u32], least: [u32; 12], greatest: [u32; 12]) -> Found
     requires { ⌜ 30 ≤ length (now job) ⌝ }
     ensures { λ r. ⌜ ofFound 4 r ≡ first 11 (limit-at least greatest (now (job .entry))) ⌝ }
 {
     for k in 0..11 {
-        let value = job[k + 1];
-        if value < least[k] {
-            return Found::At(k + 1);
+        let place = k + 1;
+        let value = job[place];
+        if value < least[place] {
+            return Found::At(place);
         }
-        if greatest[k] < value {
-            return Found::At(k + 1);
+        if greatest[place] < value {
+            return Found::At(place);
         }
     }
     Found::Nowhere
@@ -67,8 +68,8 @@ fn within_limits(job: &[u32]) -> SectionOne
     requires { ⌜ 30 ≤ length (now job) ⌝ }
     ensures { λ r. ⌜ (ofSectionOne r ≡ limits (parameters (now (job .entry))) then kappa-is-L (parameters (now (job .entry)))) × Reads (now (job .entry)) r ⌝ }
 {
-    let least = [1, 1, 1, 1, 1, 1, 1, 16, 2, 1, 1];
-    let greatest = [64, 16, 16, 16, 16, 64, 64, 32, 4294967294, 32, 32];
+    let least = [29, 1, 1, 1, 1, 1, 1, 1, 16, 2, 1, 1];
+    let greatest = [29, 64, 16, 16, 16, 16, 64, 64, 32, 4294967294, 32, 32];
     match first_out_of_limits(job, least, greatest) {
         Found::At(place) => SectionOne::Refused(Refusal::ParameterOutOfLimits(place)),
         Found::Nowhere => kappa_is_l(job),

@@ -1,5 +1,6 @@
 -- `count` meets its contract. The invariant: the sections before m are there.
 use mathlib.Core.Path.{_∙_}
+use mathlib.Core.Logic.{⊎-elim}
 use Prim.Native.Nat.{_-_, _≤_}
 use native.Mathlib.Omega.{arith}
 use borrow.Author.Needs.{needs}
@@ -18,25 +19,28 @@ loop-holds : tie.Need-loop-holds Inv-loop μ-loop
 loop-holds c = (omega arith, reached-none _ _ _ (omega arith))
 
 returns : tie.Need-returns Inv-loop μ-loop
-returns c = let l = c .before .before .before .loop in (reached-past _ _ _ _ _ (l .inv .1) (omega arith) (omega arith), tt)
-
-returns-2 : tie.Need-returns-2 Inv-loop μ-loop
-returns-2 c =
+returns c =
     let l = c .before .before .before .before .before .before .loop in
     (reached-wrong _ _ _ _ _ (l .inv .1) (omega arith) (omega arith) (λ e. c .if3 .taken (c .before .wide .ensures ∙ e)), tt)
 
-returns-3 : tie.Need-returns-3 Inv-loop μ-loop
-returns-3 c =
-    let l = c .before .before .before .before .before .before .before .loop in
-    (reached-short _ _ _ _ _ (l .inv .1) (omega arith) (omega arith) (omega arith) (omega arith), tt)
+returns-2 : tie.Need-returns-2 Inv-loop μ-loop
+returns-2 c =
+    let l = c .before .before .before .before .loop in
+    ⊎-elim
+    (λ w. (reached-short _ _ _ _ _ (l .inv .1) (omega arith) (omega arith) (omega arith) (omega arith), tt))
+    (λ w. (reached-past _ _ _ _ _ (l .inv .1) (omega arith) (omega arith), tt))
+    (c .before .if2 .came)
 
 loop-again : tie.Need-loop-again Inv-loop μ-loop
 loop-again c =
-    let l = c .before .before .before .before .before .before .before .loop in
-    (omega arith, reached-next _ _ _ _ _ (l .inv .1) (omega arith) (omega arith) (omega arith) (omega arith))
+    let l = c .before .before .before .before .loop in
+    ⊎-elim
+    (λ w. (omega arith, reached-next _ _ _ _ _ (l .inv .1) (omega arith) (omega arith) (omega arith) (omega arith)))
+    (λ w. absurd (omega arith))
+    (c .before .if2 .came)
 
-returns-4 : tie.Need-returns-4 Inv-loop μ-loop
-returns-4 c =
+returns-3 : tie.Need-returns-3 Inv-loop μ-loop
+returns-3 c =
     let l = c .before .before .loop in
     (reached-all _ _ _ _ _ (l .inv .1) (omega arith), reached-end _ _ _ _ _ (l .inv .1) (omega arith))
 
@@ -49,16 +53,15 @@ count-spec =
     loop-holds
     (λ c. omega arith)
     (λ c. omega arith)
-    returns
     (λ c. omega arith)
     (λ c. omega arith)
     (λ c κs. search needs)
-    returns-2
+    returns
     (λ c. omega arith)
-    returns-3
+    returns-2
     (λ c. omega arith)
     (λ c. omega arith)
     (λ c. omega arith)
     (λ c. omega arith)
     loop-again
-    returns-4)
+    returns-3)

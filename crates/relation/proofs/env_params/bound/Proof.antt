@@ -1,4 +1,5 @@
 -- `bound` meets its contract.
+use native.Mathlib.Nat.{add-comm}
 use native.Mathlib.Omega.{arith}
 use Rattle.definitions.specs.Answer.{value128}
 use borrow.Author.Needs.{needs}
@@ -7,7 +8,7 @@ use Rattle.relation.proofs.env_params.bound.Tie as tie
 
 returns : tie.Need-returns
 unfolding value128
-returns c = omega arith
+returns c = rw (c .before .before .before .before .wide .ensures .0, c .before .before .wide2 .ensures .0, c .wide3 .ensures .0) (add-comm _ _)
 
 pub bound-spec : {M : Type 1} → statement M
 bound-spec =

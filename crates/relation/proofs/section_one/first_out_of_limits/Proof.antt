@@ -26,8 +26,8 @@ returns c =
     let l = c .before .before .before .loop in
     let s = c .before .before .before .before .args in
     let value = getD (s .job .now) (l .k + 1) 0 in
-    let low = getD (s .t2) (l .k) 0 in
-    let high = getD (s .t3) (l .k) 0 in
+    let low = getD (s .t2) (l .k + 1) 0 in
+    let high = getD (s .t3) (l .k + 1) 0 in
     first-found 11 (l .k) _ (omega arith) (l .inv .1) (limited-low low high (l .k + 1) value (omega arith))
 
 returns-2 : tie.Need-returns-2 Inv-loop μ-loop
@@ -35,8 +35,8 @@ returns-2 c =
     let l = c .before .before .before .before .loop in
     let s = c .before .before .before .before .before .args in
     let value = getD (s .job .now) (l .k + 1) 0 in
-    let low = getD (s .t2) (l .k) 0 in
-    let high = getD (s .t3) (l .k) 0 in
+    let low = getD (s .t2) (l .k + 1) 0 in
+    let high = getD (s .t3) (l .k + 1) 0 in
     first-found 11 (l .k) _ (omega arith) (l .inv .1) (limited-high low high (l .k + 1) value (omega arith) (omega arith))
 
 loop-again : tie.Need-loop-again Inv-loop μ-loop
@@ -44,8 +44,8 @@ loop-again c =
     let l = c .before .before .before .before .loop in
     let s = c .before .before .before .before .before .args in
     let value = getD (s .job .now) (l .k + 1) 0 in
-    let low = getD (s .t2) (l .k) 0 in
-    let high = getD (s .t3) (l .k) 0 in
+    let low = getD (s .t2) (l .k + 1) 0 in
+    let high = getD (s .t3) (l .k + 1) 0 in
     (omega arith, first-next (l .k) _ (l .inv .1) (limited-within low high (l .k + 1) value (omega arith) (omega arith)))
 
 returns-3 : tie.Need-returns-3 Inv-loop μ-loop
@@ -67,9 +67,7 @@ first-out-of-limits-spec =
     (λ c. omega arith)
     (λ c. omega arith)
     (λ c. omega arith)
-    (λ c. omega arith)
     returns
-    (λ c. omega arith)
     (λ c. omega arith)
     (λ c. omega arith)
     returns-2

@@ -1,0 +1,41 @@
+// The job: 3, 4, 5 and 6.
+use crate::answers::Admitted;
+use crate::answers::Checked;
+use definitions::answers::Refusal;
+use layout::slices::Examined;
+use relation::env_params::EnvironmentParameters;
+use relation::section_one;
+use relation::section_one::SectionOne;
+ghost use mathlib.Core.Path.{_≡_};
+ghost use Rattle.definitions.specs.Answer.{_then_};
+ghost use Rattle.protocol.specs.Parameters.{parameters};
+ghost use Rattle.protocol.specs.Layout.{layout, ranged, job-sections, job-refusal};
+ghost use Rattle.relation.specs.Parameters.{parametersOf};
+ghost use Rattle.relation.specs.SectionOne.{Sound};
+ghost use Rattle.admission.specs.Admission.{ofChecked, ofAdmitted, At};
+
+// "other job sections 3, 6"
+fn sections(job: &[u32], p: EnvironmentParameters) -> Checked
+    requires { ⌜ Sound (now job) × (parametersOf p ≡ parameters (now job)) ⌝ }
+    ensures { λ r. ⌜ ofChecked r ≡ layout 3 (now (job .entry)) 30 (job-sections (parametersOf p)) then ranged 6 (now (job .entry)) 30 (job-sections (parametersOf p)) ⌝ }
+{
+    match layout::slices::examine(job, 30, sizes::slices::job_sections(p)) {
+        Examined::Layout(place) => Checked::Refused(Refusal::JobLayout(place)),
+        Examined::Word(place) => Checked::Refused(Refusal::JobWord(place)),
+        Examined::Fit => Checked::Fine,
+    }
+}
+
+// "section one by 3, then 4, 5; other job sections 3, 6"
+pub fn check(job: &[u32]) -> Admitted
+    ensures { λ r. ⌜ ofAdmitted r ≡ job-refusal (now (job .entry)) ⌝ }
+    ensures { λ r. ⌜ At r (λ p. parametersOf p ≡ parameters (now (job .entry))) ⌝ }
+{
+    match section_one::read(job) {
+        SectionOne::Refused(refusal) => Admitted::Refused(refusal),
+        SectionOne::Read(p) => match sections(job, p) {
+            Checked::Refused(refusal) => Admitted::Refused(refusal),
+            Checked::Fine => Admitted::Fit(p),
+        },
+    }
+}
