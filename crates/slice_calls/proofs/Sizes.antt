@@ -7,7 +7,7 @@ use native.Mathlib.Omega.{arith}
 use borrow.Author.Tests.{leb-true, eqb-true}
 use lib.Dec.{leb, eqb}
 use Rattle.protocol.specs.Parameters.{triangular}
-use Rattle.slice_calls.specs.Fits.{inner-product-fits, projection-fits, psi-place, omega-place, phi-fits, u1-fits, t-fits, g-fits, z-fits, u2-fits}
+use Rattle.slice_calls.specs.Fits.{inner-product-fits, projection-fits, psi-place, omega-place, phi-fits, u1-fits, t-fits, g-fits, z-fits, u2-fits, linear-combination-fits, challenges-fits, h-fits}
 use Rattle.slice_calls.proofs.Tests.{both, three}
 
 -- of an inner product
@@ -147,3 +147,26 @@ u2-sizes matrix from out rows cells parts base e =
     let m = u2-limits rows cells parts base (h .0) in
     let l = three (eqb matrix (64 * (rows * (cells * parts)))) (eqb from (64 * cells)) (eqb out (64 * rows)) (h .1) in
     (m .0, m .1, m .3, eqb-true matrix (64 * (rows * (cells * parts))) (l .0), eqb-true from (64 * cells) (l .1), eqb-true out (64 * rows) (l .2))
+
+-- of a linear combination
+pub linear-combination-sizes : (x factors out n : ℕ) → linear-combination-fits x factors out n ≡ true → (n ≤ 64) × (x ≡ 64 * n) × (factors ≡ n) × (out ≡ 64)
+linear-combination-sizes x factors out n e =
+    let h = both (leb n 64) (eqb x (64 * n) && eqb factors n && eqb out 64) e in
+    let l = three (eqb x (64 * n)) (eqb factors n) (eqb out 64) (h .1) in
+    (leb-true n 64 (h .0), eqb-true x (64 * n) (l .0), eqb-true factors n (l .1), eqb-true out 64 (l .2))
+
+-- of challenges
+pub challenges-sizes : (words out r : ℕ) → challenges-fits words out r ≡ true → (r ≤ 16) × (words ≡ 41 * r + 63 * r) × (out ≡ 64 * r)
+challenges-sizes words out r e =
+    let h = both (leb r 16) (eqb words (41 * r + 63 * r) && eqb out (64 * r)) e in
+    let l = both (eqb words (41 * r + 63 * r)) (eqb out (64 * r)) (h .1) in
+    (leb-true r 16 (h .0), eqb-true words (41 * r + 63 * r) (l .0), eqb-true out (64 * r) (l .1))
+
+-- of h, with a product of the sizes
+pub h-sizes : (s scratch n r : ℕ) → h-fits s scratch n r ≡ true
+    → (n ≤ 64) × (r ≤ 16) × (r * n ≤ 16 * 64) × (s ≡ 64 * (r * n)) × (scratch ≡ 64 * (r * n) + 64 * triangular r)
+h-sizes s scratch n r e =
+    let h = both (leb n 64 && leb r 16) (eqb s (64 * (r * n)) && eqb scratch (64 * (r * n) + 64 * triangular r)) e in
+    let m = projection-limits n r (h .0) in
+    let l = both (eqb s (64 * (r * n))) (eqb scratch (64 * (r * n) + 64 * triangular r)) (h .1) in
+    (m .0, m .1, m .2, eqb-true s (64 * (r * n)) (l .0), eqb-true scratch (64 * (r * n) + 64 * triangular r) (l .1))

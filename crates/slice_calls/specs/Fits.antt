@@ -47,3 +47,15 @@ z-fits s c out n r = (leb n 64 && leb r 16) && (eqb s (64 * (r * n)) && eqb c (6
 abbrev pub u2-fits : (matrix from out rows cells parts base : ℕ) → Bool
 u2-fits matrix from out rows cells parts base =
     (leb cells 136 && leb parts 32 && (leb rows 16 && leb 2 base)) && (eqb matrix (64 * (rows * (cells * parts))) && eqb from (64 * cells) && eqb out (64 * rows))
+
+-- n elements, n numbers, and an element
+abbrev pub linear-combination-fits : (x factors out n : ℕ) → Bool
+linear-combination-fits x factors out n = leb n 64 && (eqb x (64 * n) && eqb factors n && eqb out 64)
+
+-- the sign words and the shuffle words of r challenges, and r elements
+abbrev pub challenges-fits : (words out r : ℕ) → Bool
+challenges-fits words out r = leb r 16 && (eqb words (41 * r + 63 * r) && eqb out (64 * r))
+
+-- r vectors of n elements, and as many with a triangle of r rows behind them
+abbrev pub h-fits : (s scratch n r : ℕ) → Bool
+h-fits s scratch n r = (leb n 64 && leb r 16) && (eqb s (64 * (r * n)) && eqb scratch (64 * (r * n) + 64 * triangular r))

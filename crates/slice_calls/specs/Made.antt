@@ -2,11 +2,14 @@
 use mathlib.Core.List.{List}
 use Prim.Native.Nat.{ℕ, _+_, _*_}
 use Rattle.lists.specs.Table.{table, cat}
-use Rattle.definitions.specs.Ring.{RqOps}
+use lib.ListN.{getD}
+use Rattle.lists.specs.Part.{part}
+use Rattle.definitions.specs.Ring.{RqOps, element, words, scale}
+use Rattle.definitions.specs.Challenge.{challenge}
 use Rattle.inner_product.specs.Run.{run}
 use Rattle.protocol.specs.Formulas.{_⊗_, sum, dot, flat, rows, triangle, times}
 use Rattle.rq_matrix.specs.Region.{vector}
-use Rattle.garbage_polynomials.specs.Garbage.{g-of}
+use Rattle.garbage_polynomials.specs.Garbage.{g-of, h-of}
 use Rattle.aggregate.specs.Weighed.{both}
 use Rattle.commitments.specs.Cells.{entry-of, digits-at}
 use Rattle.slice_calls.specs.Fits.{psi-place, omega-place}
@@ -36,3 +39,15 @@ z-made s c n r = flat (table n (λ m. sum r (λ i. vector s 0 n i m ⊗ run c 0 
 -- u2 of the matrix D and the cells of h
 abbrev pub u2-made : List ℕ → List ℕ → (number cells parts base : ℕ) → List ℕ
 u2-made matrix from number cells parts base = flat (table number (times (entry-of matrix 0 (cells * parts)) (digits-at from 0 cells base parts)))
+
+-- the linear combination of n elements with n numbers
+abbrev pub linear-combination-made : List ℕ → List ℕ → ℕ → List ℕ
+linear-combination-made x factors n = words (sum n (λ m. scale (run x 0 64 m) (getD factors (0 + m) 0)))
+
+-- the challenges of r times 41 sign words and r times 63 shuffle words
+abbrev pub challenges-made : List ℕ → ℕ → List ℕ
+challenges-made from r = flat (table r (λ i. element (challenge (part from (0 + 41 * i) 41) (part from (41 * r + 63 * i) 63))))
+
+-- h of the vectors φ that the scratch starts with
+abbrev pub h-made : List ℕ → List ℕ → (n r : ℕ) → List ℕ
+h-made s scratch n r = flat (triangle r (h-of scratch 0 s 0 n))

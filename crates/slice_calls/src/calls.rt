@@ -3,14 +3,15 @@ use crate::fits;
 use crate::work;
 ghost use mathlib.Core.Path.{_≡_};
 ghost use mathlib.Core.Bool.{cond};
+ghost use Prim.Native.Nat.{_*_};
 ghost use lib.ListN.{length};
 ghost use Rattle.lists.specs.Part.{splice};
 ghost use Rattle.definitions.specs.Ring.{words};
 ghost use Rattle.inner_product.specs.Run.{run};
 ghost use Rattle.jl.specs.Run.{run as projection-of};
 ghost use Rattle.protocol.specs.Formulas.{dot};
-ghost use Rattle.slice_calls.specs.Fits.{inner-product-fits, projection-fits, phi-fits, u1-fits, t-fits, g-fits, z-fits, u2-fits};
-ghost use Rattle.slice_calls.specs.Made.{phi-made, u1-made, t-made, g-made, z-made, u2-made};
+ghost use Rattle.slice_calls.specs.Fits.{inner-product-fits, projection-fits, phi-fits, u1-fits, t-fits, g-fits, z-fits, u2-fits, linear-combination-fits, challenges-fits, h-fits};
+ghost use Rattle.slice_calls.specs.Made.{phi-made, u1-made, t-made, g-made, z-made, u2-made, linear-combination-made, challenges-made, h-made};
 
 // The inner product of two vectors of n elements.
 #[no_mangle]
@@ -185,6 +186,53 @@ pub extern "C" fn slice_u2(
         base,
     ) {
         work::u2(matrix, from, rows, cells, parts, base, out);
+        true
+    } else {
+        false
+    }
+}
+
+// The linear combination of n elements with n numbers.
+#[no_mangle]
+pub extern "C" fn slice_linear_combination(
+    x: &[u32],
+    factors: &[u32],
+    n: usize,
+    out: &mut [u32],
+) -> bool
+    ensures { λ b. ⌜ b ≡ linear-combination-fits (length (now (x .entry))) (length (now (factors .entry))) (length (now (out .entry))) n ⌝ }
+    ensures { λ b. ⌜ now (out .exit) ≡ cond b (splice (now (out .entry)) 0 (linear-combination-made (now (x .entry)) (now (factors .entry)) n)) (now (out .entry)) ⌝ }
+{
+    if fits::linear_combination_fits(x.len(), factors.len(), out.len(), n) {
+        work::linear_combination(x, factors, n, out);
+        true
+    } else {
+        false
+    }
+}
+
+// The challenges of r times 41 sign words and, behind them all, r times 63 shuffle words.
+#[no_mangle]
+pub extern "C" fn slice_challenges(words: &[u32], r: usize, out: &mut [u32]) -> bool
+    ensures { λ b. ⌜ b ≡ challenges-fits (length (now (words .entry))) (length (now (out .entry))) r ⌝ }
+    ensures { λ b. ⌜ now (out .exit) ≡ cond b (splice (now (out .entry)) 0 (challenges-made (now (words .entry)) r)) (now (out .entry)) ⌝ }
+{
+    if fits::challenges_fits(words.len(), out.len(), r) {
+        work::challenges(words, r, out);
+        true
+    } else {
+        false
+    }
+}
+
+// h of r vectors of n elements and of the vectors φ that the scratch starts with, behind these.
+#[no_mangle]
+pub extern "C" fn slice_h(s: &[u32], n: usize, r: usize, scratch: &mut [u32]) -> bool
+    ensures { λ b. ⌜ b ≡ h-fits (length (now (s .entry))) (length (now (scratch .entry))) n r ⌝ }
+    ensures { λ b. ⌜ now (scratch .exit) ≡ cond b (splice (now (scratch .entry)) (64 * (r * n)) (h-made (now (s .entry)) (now (scratch .entry)) n r)) (now (scratch .entry)) ⌝ }
+{
+    if fits::h_fits(s.len(), scratch.len(), n, r) {
+        work::h(s, n, r, scratch);
         true
     } else {
         false

@@ -1,6 +1,6 @@
 // Whether the slices hold exactly the operands that the sizes tell.
 ghost use mathlib.Core.Path.{_≡_};
-ghost use Rattle.slice_calls.specs.Fits.{inner-product-fits, projection-fits, phi-fits, u1-fits, t-fits, g-fits, z-fits, u2-fits};
+ghost use Rattle.slice_calls.specs.Fits.{inner-product-fits, projection-fits, phi-fits, u1-fits, t-fits, g-fits, z-fits, u2-fits, linear-combination-fits, challenges-fits, h-fits};
 
 // An inner product of two vectors of n elements.
 pub fn inner_product_fits(x: usize, y: usize, out: usize, n: usize) -> bool
@@ -119,6 +119,39 @@ pub fn u2_fits(
 {
     if (cells <= 136) & (parts <= 32) & ((rows <= 16) & (2 <= base)) {
         (matrix == 64 * (rows * (cells * parts))) & (from == 64 * cells) & (out == 64 * rows)
+    } else {
+        false
+    }
+}
+
+// The linear combination of n elements.
+pub fn linear_combination_fits(x: usize, factors: usize, out: usize, n: usize) -> bool
+    ensures { λ b. ⌜ b ≡ linear-combination-fits x factors out n ⌝ }
+{
+    if n <= 64 {
+        (x == 64 * n) & (factors == n) & (out == 64)
+    } else {
+        false
+    }
+}
+
+// The challenges of r times 41 sign words and 63 shuffle words.
+pub fn challenges_fits(words: usize, out: usize, r: usize) -> bool
+    ensures { λ b. ⌜ b ≡ challenges-fits words out r ⌝ }
+{
+    if r <= 16 {
+        (words == 41 * r + 63 * r) & (out == 64 * r)
+    } else {
+        false
+    }
+}
+
+// h of r vectors of n elements.
+pub fn h_fits(s: usize, scratch: usize, n: usize, r: usize) -> bool
+    ensures { λ b. ⌜ b ≡ h-fits s scratch n r ⌝ }
+{
+    if (n <= 64) & (r <= 16) {
+        (s == 64 * (r * n)) & (scratch == 64 * (r * n) + 64 * (r * (r + 1) / 2))
     } else {
         false
     }

@@ -8,7 +8,7 @@ use labrador::commitments::ajtai_commitment::AjtaiScheme;
 use labrador::commitments::common_instances::AjtaiInstances;
 use labrador::commitments::outer_commitments::{compute_u1, compute_u2, DecompositionParameters};
 use labrador::core::aggregate::ZeroConstantFunctionsAggregation;
-use labrador::core::garbage_polynomials::compute_g;
+use labrador::core::garbage_polynomials::{compute_g, compute_h};
 use labrador::core::inner_product::compute_linear_combination;
 use labrador::core::jl::Projection;
 use labrador::relation::env_params::EnvironmentParameters;
@@ -19,7 +19,7 @@ use labrador::ring::zq::Zq;
 use labrador::transcript::sponges::shake::{Playback, Tape};
 use labrador::transcript::LabradorTranscript;
 use library::slices::{slice_call, SliceCall};
-use model::words::Parameters;
+use model::words::{Parameters, SHUFFLES, SIGNS};
 
 /// Heading of the tally.
 const SLICES: &str = "answers of the slice calls";
@@ -46,6 +46,9 @@ pub fn lengths(call: SliceCall, sizes: &[usize]) -> ([usize; 2], usize) {
         (SliceCall::T, &[rows, n, r]) => ([D * rows * n, D * r * n], D * r * rows),
         (SliceCall::G, &[n, r]) => ([D * r * n, 0], D * r * (r + 1) / 2),
         (SliceCall::Z, &[n, r]) => ([D * r * n, D * r], D * n),
+        (SliceCall::LinearCombination, &[n]) => ([D * n, n], D),
+        (SliceCall::Challenges, &[r]) => ([(SIGNS + SHUFFLES) * r, 0], D * r),
+        (SliceCall::H, &[n, r]) => ([D * r * n, 0], D * r * n + D * r * (r + 1) / 2),
         (SliceCall::U2, &[rows, cells, parts]) => ([D * rows * cells * parts, D * cells], D * rows),
         _ => panic!("the sizes of {}", call.name()),
     }
@@ -112,6 +115,9 @@ pub enum Operands {
     T(AjtaiScheme, Vec<RqVector>),
     G(Vec<RqVector>),
     Z(Vec<RqVector>, Vec<Rq>),
+    LinearCombination(Vec<Rq>, Vec<Zq>),
+    Challenges(Tape, usize),
+    H(Vec<RqVector>, Vec<RqVector>),
     U2 {
         crs: AjtaiInstances,
         h: RqMatrix,
@@ -189,6 +195,15 @@ impl Operands {
             (SliceCall::T, &[_, n, _]) => Operands::T(scheme(first, n), vectors(second, n)),
             (SliceCall::G, &[n, _]) => Operands::G(vectors(first, n)),
             (SliceCall::Z, &[n, _]) => Operands::Z(vectors(first, n), elements(second)),
+            (SliceCall::LinearCombination, _) => {
+                Operands::LinearCombination(elements(first), second.iter().map(|&w| Zq::new(w)).collect())
+            }
+            (SliceCall::Challenges, &[r]) => {
+                let (signs, shuffles) = first.split_at(SIGNS * r);
+                Operands::Challenges(Tape::new(vec![], signs.to_vec(), shuffles.to_vec()), r)
+            }
+            // the second words are φ, which the output starts with
+            (SliceCall::H, &[n, _]) => Operands::H(vectors(first, n), vectors(second, n)),
             (SliceCall::U2, &[_, cells, parts]) => Operands::U2 {
                 crs: AjtaiInstances {
                     commitment_scheme_a: no_scheme(),
@@ -234,6 +249,14 @@ impl Operands {
             Operands::G(s) => Made::Vectors(compute_g(s).elements().to_vec()),
             // as the prover makes it
             Operands::Z(s, c) => Made::Vectors(vec![compute_linear_combination(s, c)]),
+            Operands::LinearCombination(x, numbers) => Made::Element(compute_linear_combination(x, numbers)),
+            Operands::Challenges(tape, r) => {
+                tape.clone().load();
+                let drawn = LabradorTranscript::new(Playback).generate_challenges(71.0, *r);
+                assert_eq!(Tape::left(), (0, 0, 0), "no challenge is drawn again");
+                Made::Vectors(vec![drawn])
+            }
+            Operands::H(s, phi) => Made::Vectors(compute_h(s, phi).elements().to_vec()),
             Operands::U2 { crs, h, base, parts } => {
                 let parts = DecompositionParameters::new(*base, *parts).expect("within limits");
                 Made::Vectors(vec![compute_u2(crs, h, parts)])
@@ -242,9 +265,13 @@ impl Operands {
     }
 }
 
-/// Random inputs, of canonical words.
+/// Random inputs, of canonical words; signs are 0 or 1.
 pub fn inputs(random: &mut Random, call: SliceCall, sizes: &[usize]) -> [Vec<u32>; 2] {
-    lengths(call, sizes).0.map(|length| random.numbers(length))
+    let mut made = lengths(call, sizes).0.map(|length| random.numbers(length));
+    if call == SliceCall::Challenges {
+        made[0][..SIGNS * sizes[0]].iter_mut().for_each(|sign| *sign &= 1);
+    }
+    made
 }
 
 /// Words behind each lent buffer.
@@ -269,7 +296,7 @@ fn take(tally: &mut Tally, random: &mut Random, call: SliceCall, sizes: &[usize]
     let made = inputs(random, call, sizes);
     let given = [&made[0][..], &made[1][..]];
     let (_, length) = lengths(call, sizes);
-    let before: Vec<u32> = (0..length + GUARD).map(|_| random.word()).collect();
+    let before = random.numbers(length + GUARD);
     let kind = match call {
         SliceCall::InnerProduct => "slice calls: inner product with the Rust's",
         SliceCall::Projection => "slice calls: p with the Rust's",
@@ -279,12 +306,23 @@ fn take(tally: &mut Tally, random: &mut Random, call: SliceCall, sizes: &[usize]
         SliceCall::G => "slice calls: g with the Rust's",
         SliceCall::Z => "slice calls: z with the Rust's",
         SliceCall::U2 => "slice calls: u2 with the Rust's",
+        SliceCall::LinearCombination => "slice calls: linear combination with the Rust's",
+        SliceCall::Challenges => "slice calls: challenges with the Rust's",
+        SliceCall::H => "slice calls: h with the Rust's",
     };
     let Some(ours) = run(call, given, sizes, base, &before, length) else {
         return;
     };
-    let mut expected = Operands::new(call, given, sizes, base).run().words();
-    expected.extend(&before[length..]);
+    let kept = match call {
+        SliceCall::H => &before[..given[0].len()],
+        _ => &[],
+    };
+    let read = match call {
+        SliceCall::H => [given[0], kept],
+        _ => given,
+    };
+    let done = Operands::new(call, read, sizes, base).run().words();
+    let expected = [kept, &done, &before[length..]].concat();
     let described = || format!("{} {sizes:?} base {base}", call.name());
     tally.compare(kind, &ours, &(true, expected), described);
     tally.occurred(SLICES, format!("{:<14} done", call.name()));
@@ -292,7 +330,8 @@ fn take(tally: &mut Tally, random: &mut Random, call: SliceCall, sizes: &[usize]
     let refuse = |tally: &mut Tally, given: [&[u32]; 2], sizes: &[usize], base: u32, length: usize| {
         refused(tally, call, given, sizes, base, &before, length)
     };
-    for which in 0..if call == SliceCall::G { 1 } else { 2 } {
+    let two = !matches!(call, SliceCall::G | SliceCall::H | SliceCall::Challenges);
+    for which in 0..1 + usize::from(two) {
         let longer = [given[which], &[1]].concat();
         for other in [&longer[..], &given[which][1..]] {
             let mut given = given;
@@ -346,7 +385,7 @@ fn refused(
 }
 
 /// Sizes just above their limits, with slices of the lengths that they tell.
-const ABOVE: [(SliceCall, &[usize]); 22] = [
+const ABOVE: [(SliceCall, &[usize]); 26] = [
     (SliceCall::InnerProduct, &[65]),
     (SliceCall::Projection, &[65, 1]),
     (SliceCall::Projection, &[1, 17]),
@@ -369,6 +408,10 @@ const ABOVE: [(SliceCall, &[usize]); 22] = [
     (SliceCall::U2, &[17, 1, 1]),
     (SliceCall::U2, &[1, 137, 1]),
     (SliceCall::U2, &[1, 1, 33]),
+    (SliceCall::LinearCombination, &[65]),
+    (SliceCall::Challenges, &[17]),
+    (SliceCall::H, &[65, 1]),
+    (SliceCall::H, &[1, 17]),
 ];
 
 /// Each call on `count` random sizes beside the ends of their ranges.
@@ -404,9 +447,14 @@ pub fn all(tally: &mut Tally, random: &mut Random, count: usize) {
     take(tally, random, SliceCall::Z, &[64, 1], 2);
     take(tally, random, SliceCall::U2, &[16, 136, 1], 256);
     take(tally, random, SliceCall::U2, &[1, 3, 32], 2);
+    take(tally, random, SliceCall::LinearCombination, &[64], 2);
+    take(tally, random, SliceCall::Challenges, &[16], 2);
+    take(tally, random, SliceCall::H, &[1, 16], 2);
+    take(tally, random, SliceCall::H, &[64, 1], 2);
     for _ in 0..count {
         let n = 1 + random.below(64);
         take(tally, random, SliceCall::InnerProduct, &[n], 2);
+        take(tally, random, SliceCall::LinearCombination, &[n], 2);
         let small = |random: &mut Random| 1 + random.below(4);
         let (n, r) = (small(random), small(random));
         take(tally, random, SliceCall::Projection, &[n, r], 2);
@@ -423,6 +471,8 @@ pub fn all(tally: &mut Tally, random: &mut Random, count: usize) {
         take(tally, random, SliceCall::U2, &[kappa1, r * (r + 1) / 2, t1], base);
         take(tally, random, SliceCall::T, &[kappa, n, r], 2);
         take(tally, random, SliceCall::G, &[n, r], 2);
+        take(tally, random, SliceCall::H, &[n, r], 2);
+        take(tally, random, SliceCall::Challenges, &[r], 2);
         take(tally, random, SliceCall::Z, &[n, r], 2);
     }
 }

@@ -19,10 +19,16 @@ pub enum SliceCall {
     Z,
     /// D and h; rows, cells and parts of h.
     U2,
+    /// x and numbers; n.
+    LinearCombination,
+    /// Sign words and shuffle words, and nothing; r.
+    Challenges,
+    /// s and nothing; n, r. The output starts with φ.
+    H,
 }
 
 impl SliceCall {
-    pub const ALL: [SliceCall; 8] = [
+    pub const ALL: [SliceCall; 11] = [
         SliceCall::InnerProduct,
         SliceCall::Projection,
         SliceCall::Phi,
@@ -31,6 +37,9 @@ impl SliceCall {
         SliceCall::G,
         SliceCall::Z,
         SliceCall::U2,
+        SliceCall::LinearCombination,
+        SliceCall::Challenges,
+        SliceCall::H,
     ];
 
     pub fn name(self) -> &'static str {
@@ -43,6 +52,9 @@ impl SliceCall {
             SliceCall::G => "g",
             SliceCall::Z => "z",
             SliceCall::U2 => "u2",
+            SliceCall::LinearCombination => "combination",
+            SliceCall::Challenges => "challenges",
+            SliceCall::H => "h",
         }
     }
 }
@@ -129,6 +141,30 @@ mod exported {
             out: *mut u32,
             out_length: usize,
         ) -> bool;
+        pub fn slice_linear_combination(
+            x: *const u32,
+            x_length: usize,
+            factors: *const u32,
+            factors_length: usize,
+            n: usize,
+            out: *mut u32,
+            out_length: usize,
+        ) -> bool;
+        pub fn slice_challenges(
+            words: *const u32,
+            words_length: usize,
+            r: usize,
+            out: *mut u32,
+            out_length: usize,
+        ) -> bool;
+        pub fn slice_h(
+            s: *const u32,
+            s_length: usize,
+            n: usize,
+            r: usize,
+            scratch: *mut u32,
+            scratch_length: usize,
+        ) -> bool;
     }
 }
 
@@ -164,6 +200,9 @@ pub fn slice_call(
             SliceCall::T => slice_t(a, a_length, b, b_length, sizes[0], sizes[1], sizes[2], to, length),
             SliceCall::G => slice_g(a, a_length, sizes[0], sizes[1], to, length),
             SliceCall::Z => slice_z(a, a_length, b, b_length, sizes[0], sizes[1], to, length),
+            SliceCall::LinearCombination => slice_linear_combination(a, a_length, b, b_length, sizes[0], to, length),
+            SliceCall::Challenges => slice_challenges(a, a_length, sizes[0], to, length),
+            SliceCall::H => slice_h(a, a_length, sizes[0], sizes[1], to, length),
             SliceCall::U2 => slice_u2(a, a_length, b, b_length, sizes[0], sizes[1], sizes[2], base, to, length),
         }
     };

@@ -1,0 +1,17 @@
+-- `slice_linear_combination` meets its contract.
+use mathlib.Core.Path.{refl, sym, _∙_}
+use borrow.Author.Needs.{needs}
+use Rattle.slice_calls.proofs.calls.slice_linear_combination.Statement.{statement}
+use Rattle.slice_calls.proofs.calls.slice_linear_combination.Tie as tie
+
+linear-combination-requires : tie.Need-linear-combination-requires
+linear-combination-requires c κs = sym (c .before .before .linear-combination-fits .ensures) ∙ c .before .if1 .taken
+
+returns : tie.Need-returns
+returns c = (sym (c .before .before .before .before .if1 .taken) ∙ c .before .before .before .before .before .linear-combination-fits .ensures, c .before .before .linear-combination .ensures)
+
+returns-2 : tie.Need-returns-2
+returns-2 c = (sym (c .if1 .left) ∙ c .before .linear-combination-fits .ensures, refl)
+
+pub slice-linear-combination-spec : {M : Type 1} → statement M
+slice-linear-combination-spec = tie.close (tie.spec (λ c κs. search needs) linear-combination-requires (λ c. search needs) returns returns-2)

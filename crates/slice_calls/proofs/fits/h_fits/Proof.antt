@@ -1,0 +1,16 @@
+-- `h_fits` meets its contract.
+use native.Mathlib.Omega.{arith}
+use Rattle.slice_calls.proofs.Tests.{passed, failed}
+use Rattle.slice_calls.proofs.Sizes.{g-limits}
+use Rattle.slice_calls.proofs.fits.h_fits.Statement.{statement}
+use Rattle.slice_calls.proofs.fits.h_fits.Tie as tie
+
+-- the sizes within their limits
+returns : tie.Need-returns
+returns c = passed _ _ (c .if1 .taken)
+
+returns-2 : tie.Need-returns-2
+returns-2 c = failed _ _ (c .if1 .left)
+
+pub h-fits-spec : {M : Type 1} → statement M
+h-fits-spec = tie.close (tie.spec (λ c. omega (arith, g-limits (c .before .args .n) (c .before .args .r) (c .if1 .taken))) (λ c. omega (arith, g-limits (c .before .args .n) (c .before .args .r) (c .if1 .taken))) (λ c. omega (arith, g-limits (c .before .args .n) (c .before .args .r) (c .if1 .taken))) (λ c. omega (arith, g-limits (c .before .args .n) (c .before .args .r) (c .if1 .taken))) (λ c. omega (arith, g-limits (c .before .args .n) (c .before .args .r) (c .if1 .taken))) (λ c. omega (arith, g-limits (c .before .args .n) (c .before .args .r) (c .if1 .taken))) (λ c. omega (arith, g-limits (c .before .args .n) (c .before .args .r) (c .if1 .taken))) (λ c. omega (arith, g-limits (c .before .args .n) (c .before .args .r) (c .if1 .taken))) returns returns-2)

@@ -1,0 +1,15 @@
+-- `linear_combination_fits` meets its contract.
+use native.Mathlib.Omega.{arith}
+use borrow.Author.Tests.{le-leb, lt-leb}
+use Rattle.slice_calls.proofs.Tests.{passed, failed}
+use Rattle.slice_calls.proofs.fits.linear_combination_fits.Statement.{statement}
+use Rattle.slice_calls.proofs.fits.linear_combination_fits.Tie as tie
+
+returns : tie.Need-returns
+returns c = passed _ _ (le-leb _ _ (c .if1 .taken))
+
+returns-2 : tie.Need-returns-2
+returns-2 c = failed _ _ (lt-leb _ _ (c .if1 .left))
+
+pub linear-combination-fits-spec : {M : Type 1} → statement M
+linear-combination-fits-spec = tie.close (tie.spec (λ c. omega arith) returns returns-2)
