@@ -4,12 +4,12 @@ use mathlib.Core.List.{List, _++_, flatMap}
 use Prim.Native.Nat.{ℕ, zero, suc, _+_, _*_, _≤_, _<_}
 use native.Mathlib.Numerals.{add-one}
 use native.Mathlib.Omega.{arith}
-use lib.ListN.{length, getD, take, drop, take-append-drop}
+use lib.ListN.{length, take, drop, take-append-drop}
 use lib.Seq.{take-add, drop-drop}
 use Rattle.lists.specs.Table.{table}
 use Rattle.lists.specs.Part.{part, splice}
 use Rattle.lists.proofs.Table.{length-table, table-ext, table-suc}
-use Rattle.lists.proofs.Splice.{splice-eq, splice-again, length-part, getD-part, getD-splice-within, part-splice-after}
+use Rattle.lists.proofs.Splice.{splice-eq, splice-again, length-part, getD-part, getD-splice-within}
 use Rattle.algebra.proofs.Ring.{nil-add}
 use Rattle.definitions.specs.Rq.{Element}
 use Rattle.definitions.specs.Ring.{RqOps, IsElement, element}
@@ -18,8 +18,8 @@ use Rattle.definitions.proofs.Bridge.{words-element}
 use Rattle.inner_product.specs.Run.{run}
 use Rattle.protocol.specs.Formulas.{_⊕_, flat}
 use Rattle.protocol.proofs.Flat.{length-flat, flat-canonical}
-use Rattle.protocol.proofs.Stored.{flat-append, flat-one}
-use Rattle.rq_matrix.proofs.Holds.{read-table, holds-stored}
+use Rattle.protocol.proofs.Stored.{flat-append, flat-one, stored-rest}
+use Rattle.protocol.proofs.Region.{elements-stored}
 use Rattle.commitments.specs.Cells.{CanonicalFrom}
 
 -- 64 words for each element
@@ -32,16 +32,9 @@ stored-canonical l l′ at n f h e i m =
     let w : length (flat (table n f)) ≡ 64 * n = length-flat-table n f in
     rw (e, getD-splice-within l at (flat (table n f)) i 0 (omega arith) (omega arith)) (flat-canonical (table n f) i (omega arith))
 
--- element k of stored elements
-pub run-stored : (l : List ℕ) (at n : ℕ) (f : ℕ → Element) → at + 64 * n ≤ length l → (k : ℕ) → k < n → run (splice l at (flat (table n f))) at 64 k ≡ f k
-run-stored l at n f h =
-    read-table (splice l at (flat (table n f))) at n f (holds-stored l at (table n f) (omega (arith, length-flat-table n f)))
-
 -- the element after the first k stored ones is as it was
 pub run-rest : (l l′ : List ℕ) (at k place : ℕ) (f : ℕ → Element) → l′ ≡ splice l at (flat (table k f)) → place ≡ at + 64 * k → element (part l′ place 64) ≡ run l at 64 k
-run-rest l l′ at k place f e p =
-    ap₂ (λ w q. element (part w q 64)) e p
-    ∙ ap element (part-splice-after 0 l at (flat (table k f)) (at + 64 * k) 64 (omega (arith, length-flat-table k f)))
+run-rest l l′ at k place f e p = ap element (ap (λ q. part l′ q 64) p ∙ stored-rest l l′ at k f (at + 64 * k) 64 e (omega arith))
 
 -- elements added to stored ones
 pub store-added : (l l′ l″ : List ℕ) (at n : ℕ) (f g : ℕ → Element) → at + 64 * n ≤ length l → l′ ≡ splice l at (flat (table n f))
@@ -51,7 +44,7 @@ store-added l l′ l″ at n f g h e e′ =
     e′
     ∙ ap (λ x. splice x at (flat (table n (λ k. run x at 64 k ⊕ g k)))) e
     ∙ ap (λ t. splice (splice l at (flat (table n f))) at (flat t))
-    (table-ext n (λ k. run (splice l at (flat (table n f))) at 64 k ⊕ g k) sums (λ k m. ap (λ x. x ⊕ g k) (run-stored l at n f h k m)))
+    (table-ext n (λ k. run (splice l at (flat (table n f))) at 64 k ⊕ g k) sums (λ k m. ap (λ x. x ⊕ g k) (elements-stored l at n f h k m)))
     ∙ splice-again 0 l at (flat (table n f)) (flat (table n sums)) (w ∙ sym (length-flat-table n sums)) (omega arith)
   where
     sums : ℕ → Element

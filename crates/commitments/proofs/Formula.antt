@@ -1,36 +1,35 @@
 -- What the commitments store and what the norm tests answer is what the protocol's formulas say.
-use mathlib.Core.Path.{_≡_, refl, sym, _∙_, ap, ap₂, fun-ext}
+use mathlib.Core.Path.{_≡_, refl, sym, _∙_, ap, ap₂}
 use mathlib.Core.Bool.{cond}
 use mathlib.Core.List.{List, flatMap}
-use Prim.Native.Nat.{ℕ, _+_, _*_, _≤_, _<_}
+use Prim.Native.Nat.{ℕ, _+_, _*_}
 use native.Mathlib.Decide.{decLe}
 use native.Mathlib.Omega.{arith}
 use lib.Dec.{leb}
-use lib.ListN.{length}
 use Rattle.lists.specs.Table.{table}
-use Rattle.lists.proofs.Table.{is-table, table-ext}
+use Rattle.lists.proofs.Table.{table-ext}
 use Rattle.lists.proofs.Sum.{Σ-const, Σ-triangle}
 use Rattle.lists.proofs.Cat.{cat-ext, cat-runs}
-use Rattle.definitions.specs.Answer.{Answer, fine, refused}
+use Rattle.definitions.specs.Answer.{fine, refused}
 use Rattle.definitions.specs.Rq.{Element}
-use Rattle.definitions.specs.Ring.{RqOps}
 use Rattle.inner_product.specs.Run.{run}
 use Rattle.protocol.specs.Checks.{require, first}
-use Rattle.protocol.specs.Parameters.{Parameters, parameters, triangular, T}
+use Rattle.protocol.specs.Parameters.{Parameters, parameters, triangular}
 use Rattle.protocol.specs.Layout.{start, job-sections, witness-sections, transcript-sections}
-use Rattle.protocol.specs.Views.{Public, public, witness, cell, Message, message}
+use Rattle.protocol.specs.Views.{public, witness, cell, message}
 use Rattle.protocol.specs.Formulas as F
-use Rattle.protocol.specs.Formulas.{_⊕_, dot, flat, norm-of, rows, triangle, digit-element, digits-of, times, t-digits, g-digits, h-digits}
+use Rattle.protocol.specs.Formulas.{_⊕_, dot, norm-of, rows, triangle, digits-of, times, t-digits, g-digits, h-digits}
 use Rattle.protocol.specs.Prover.{witness-norm, t-norm, g-norm, h-norm}
 use Rattle.protocol.specs.Verifier.{z-parts}
-use Rattle.protocol.proofs.Flat.{cell-lower, element-of-flat}
-use Rattle.rq_matrix.specs.Region.{vector, Holds}
+use Rattle.protocol.proofs.Flat.{cell-lower}
+use Rattle.protocol.proofs.Region.{Vectors, Triangle, rows-ext}
+use Rattle.rq_matrix.specs.Region.{vector}
 use Rattle.commitments.specs.declared.outer_commitments.Digits.{Digits}
 use Rattle.commitments.specs.Cells.{digits-at}
 use Rattle.commitments.proofs.Answers.{require-leb}
 
 -- r rows of m of the elements f 0, f 1, … are all of them
-pub rows-table : (r m : ℕ) (f : ℕ → Element) → rows r m (λ i k. f (i * m + k)) ≡ table (r * m) f
+rows-table : (r m : ℕ) (f : ℕ → Element) → rows r m (λ i k. f (i * m + k)) ≡ table (r * m) f
 unfolding rows
 rows-table r m f =
     cat-ext r (λ i. table m (λ k. f (i * m + k))) (λ i. table m (λ k. f (_ + k))) (λ i h. ap (λ n. table m (λ k. f (n + k))) (sym (Σ-const i m)))
@@ -38,7 +37,7 @@ rows-table r m f =
     ∙ ap (λ n. table n f) (Σ-const r m)
 
 -- a triangle of r rows of the elements f 0, f 1, … is all of them
-pub triangle-table : (r : ℕ) (f : ℕ → Element) → triangle r (λ i j. f (cell i j)) ≡ table (triangular r) f
+triangle-table : (r : ℕ) (f : ℕ → Element) → triangle r (λ i j. f (cell i j)) ≡ table (triangular r) f
 unfolding triangle
 triangle-table r f =
     cat-ext r (λ i. table (i + 1) (λ j. f (cell i j))) (λ i. table (i + 1) (λ k. f (_ + k)))
@@ -46,16 +45,24 @@ triangle-table r f =
     ∙ cat-runs r (λ i. i + 1) f
     ∙ ap (λ n. table n f) (Σ-triangle r)
 
--- the elements that a region holds, read one after the other
-pub held : (ws : List ℕ) (at n : ℕ) (es : List Element) → Holds ws at es → length es ≡ n → table n (run ws at 64) ≡ es
-held ws at n es holds e = sym (is-table n es (run ws at 64) (RqOps .nil) e (λ i h. sym (element-of-flat ws at es i (RqOps .nil) holds (rw e h))))
+-- the cells of vectors in a slice, one after the other
+vectors-cells : (ws : List ℕ) (at r m : ℕ) (f : ℕ → ℕ → Element) → Vectors ws at r m f → table (r * m) (run ws at 64) ≡ rows r m f
+vectors-cells ws at r m f h = sym (rows-table r m (run ws at 64)) ∙ rows-ext r m (λ i k. run ws at 64 (i * m + k)) f h
+
+-- the cells of a triangle in a slice, one after the other
+triangle-cells : (ws : List ℕ) (at r : ℕ) (f : ℕ → ℕ → Element) → Triangle ws at r f → table (triangular r) (run ws at 64) ≡ triangle r f
+unfolding triangle
+triangle-cells ws at r f h =
+    sym (triangle-table r (run ws at 64))
+    ∙ cat-ext r (λ i. table (i + 1) (λ j. run ws at 64 (cell i j))) (λ i. table (i + 1) (f i))
+    (λ i k. table-ext (i + 1) (λ j. run ws at 64 (cell i j)) (f i) (λ j l. h i j k (omega arith)))
 
 -- the digits of cells from a place on
 abbrev pub digits : ℕ → ℕ → ℕ → Digits
 digits at cells parts = record { at = at; cells = cells; parts = parts }
 
 module _ (J R : List ℕ) where
-  open Parameters (parameters J) using (n, r, κ, κ₁, κ₂, b, t₁, t₂, bound-A, bound-B, bound-C, bound-D)
+  open Parameters (parameters J) using (n, r, κ, b, t₁, t₂, bound-A, bound-B, bound-C, bound-D)
 
   -- the places of the job's sections
   abbrev at : ℕ → ℕ
@@ -75,53 +82,39 @@ module _ (J R : List ℕ) where
   -- cells of t, g and h in a slice
   module _ (S : List ℕ) where
     -- u1, as `compute_u1` stores it
-    pub u₁-is : (t-at g-at : ℕ) (t g : ℕ → ℕ → Element) → table (r * κ) (run S t-at 64) ≡ rows r κ t → table (triangular r) (run S g-at 64) ≡ triangle r g
+    pub u₁-is : (t-at g-at : ℕ) (t g : ℕ → ℕ → Element) → Vectors S t-at r κ t → Triangle S g-at r g
         → (λ k. times (vector J (at 7) (r * κ * t₁)) (digits-at S (digits t-at (r * κ) t₁) b) k ⊕ times (vector J (at 8) (triangular r * t₂)) (digits-at S (digits g-at (triangular r) t₂) b) k) ≡ F.u₁-of (public J R) t g
     unfolding F.u₁-of
     u₁-is t-at g-at t g e e′ =
-        ap₂ (λ x y k. times (vector J (at 7) (r * κ * t₁)) (digits-of b t₁ x) k ⊕ times (vector J (at 8) (triangular r * t₂)) (digits-of b t₂ y) k) e e′
+        ap₂ (λ x y k. times (vector J (at 7) (r * κ * t₁)) (digits-of b t₁ x) k ⊕ times (vector J (at 8) (triangular r * t₂)) (digits-of b t₂ y) k) (vectors-cells S t-at r κ t e) (triangle-cells S g-at r g e′)
 
     -- u2, as `compute_u2` stores it
-    pub u₂-is : (h-at : ℕ) (h : ℕ → ℕ → Element) → table (triangular r) (run S h-at 64) ≡ triangle r h
+    pub u₂-is : (h-at : ℕ) (h : ℕ → ℕ → Element) → Triangle S h-at r h
         → times (vector J (at 9) (triangular r * t₁)) (digits-at S (digits h-at (triangular r) t₁) b) ≡ F.u₂-of (public J R) h
     unfolding F.u₂-of
-    u₂-is h-at h e = ap (λ x k. times (vector J (at 9) (triangular r * t₁)) (digits-of b t₁ x) k) e
+    u₂-is h-at h e = ap (λ x k. times (vector J (at 9) (triangular r * t₁)) (digits-of b t₁ x) k) (triangle-cells S h-at r h e)
 
     -- 14, as `t_within` answers it
-    pub t-norm-is : (t-at : ℕ) (t : ℕ → ℕ → Element) → table (r * κ) (run S t-at 64) ≡ rows r κ t
+    pub t-norm-is : (t-at : ℕ) (t : ℕ → ℕ → Element) → Vectors S t-at r κ t
         → t-norm (public J R) t ≡ cond (leb (norm-of (digits-at S (digits t-at (r * κ) t₁) b)) bound-B) fine (refused 14 0)
     unfolding t-norm
-    t-norm-is t-at t e = require-leb (norm-of (t-digits (public J R) t)) bound-B (refused 14 0) ∙ ap (λ x. cond (leb (norm-of (digits-of b t₁ x)) bound-B) fine (refused 14 0)) (sym e)
+    t-norm-is t-at t e = require-leb (norm-of (t-digits (public J R) t)) bound-B (refused 14 0) ∙ ap (λ x. cond (leb (norm-of (digits-of b t₁ x)) bound-B) fine (refused 14 0)) (sym (vectors-cells S t-at r κ t e))
 
     -- 15, as `g_within` answers it
-    pub g-norm-is : (g-at : ℕ) (g : ℕ → ℕ → Element) → table (triangular r) (run S g-at 64) ≡ triangle r g
+    pub g-norm-is : (g-at : ℕ) (g : ℕ → ℕ → Element) → Triangle S g-at r g
         → g-norm (public J R) g ≡ cond (leb (norm-of (digits-at S (digits g-at (triangular r) t₂) b)) bound-C) fine (refused 15 0)
     unfolding g-norm
-    g-norm-is g-at g e = require-leb (norm-of (g-digits (public J R) g)) bound-C (refused 15 0) ∙ ap (λ x. cond (leb (norm-of (digits-of b t₂ x)) bound-C) fine (refused 15 0)) (sym e)
+    g-norm-is g-at g e = require-leb (norm-of (g-digits (public J R) g)) bound-C (refused 15 0) ∙ ap (λ x. cond (leb (norm-of (digits-of b t₂ x)) bound-C) fine (refused 15 0)) (sym (triangle-cells S g-at r g e))
 
     -- 16, as `h_within` answers it
-    pub h-norm-is : (h-at : ℕ) (h : ℕ → ℕ → Element) → table (triangular r) (run S h-at 64) ≡ triangle r h
+    pub h-norm-is : (h-at : ℕ) (h : ℕ → ℕ → Element) → Triangle S h-at r h
         → h-norm (public J R) h ≡ cond (leb (norm-of (digits-at S (digits h-at (triangular r) t₁) b)) bound-D) fine (refused 16 0)
     unfolding h-norm
-    h-norm-is h-at h e = require-leb (norm-of (h-digits (public J R) h)) bound-D (refused 16 0) ∙ ap (λ x. cond (leb (norm-of (digits-of b t₁ x)) bound-D) fine (refused 16 0)) (sym e)
+    h-norm-is h-at h e = require-leb (norm-of (h-digits (public J R) h)) bound-D (refused 16 0) ∙ ap (λ x. cond (leb (norm-of (digits-of b t₁ x)) bound-D) fine (refused 16 0)) (sym (triangle-cells S h-at r h e))
 
-  -- a transcript's words
-  module _ (X : List ℕ) where
-    open Message (message (parameters J) X) using (z, t, g, h)
-
-    -- its cells of t
-    pub t-cells : table (r * κ) (run X (start (transcript-sections (parameters J)) 5) 64) ≡ rows r κ t
-    t-cells = sym (rows-table r κ (run X (start (transcript-sections (parameters J)) 5) 64))
-
-    -- its cells of g
-    pub g-cells : table (triangular r) (run X (start (transcript-sections (parameters J)) 6) 64) ≡ triangle r g
-    g-cells = sym (triangle-table r (run X (start (transcript-sections (parameters J)) 6) 64))
-
-    -- its cells of h
-    pub h-cells : table (triangular r) (run X (start (transcript-sections (parameters J)) 7) 64) ≡ triangle r h
-    h-cells = sym (triangle-table r (run X (start (transcript-sections (parameters J)) 7) 64))
-
-    -- the two digits of each element of z
-    pub z-digits : digits-at X (digits (start (transcript-sections (parameters J)) 4) n 2) b ≡ flatMap (z-parts (public J R) (message (parameters J) X)) (table n z)
-    unfolding digits-of table
-    z-digits = refl
+  -- the two digits of each element of a transcript's z, as check 23 takes them
+  pub z-digits : (X : List ℕ)
+      → digits-at X (digits (start (transcript-sections (parameters J)) 4) n 2) b
+      ≡ flatMap (z-parts (public J R) (message (parameters J) X)) (table n (message (parameters J) X .z))
+  unfolding digits-of table
+  z-digits X = refl

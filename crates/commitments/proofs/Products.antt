@@ -7,7 +7,6 @@ use native.Mathlib.Omega.{arith}
 use lib.ListN.{length, getD, length-append, List·getD-append}
 use lib.Seq.{getD-append-add}
 use Rattle.lists.specs.Table.{table}
-use Rattle.lists.specs.Part.{part}
 use Rattle.lists.proofs.Table.{length-table, getD-table, table-suc}
 use Rattle.lists.proofs.Part.{length-flatMap}
 use Rattle.lists.proofs.Additive.{flatMap-append}

@@ -1,11 +1,10 @@
 -- Rows of digits of any 64 words: 4294967295, which stands for 0, has the digits of 0.
 use mathlib.Core.Path.{_≡_, refl, sym, _∙_, ap}
 use mathlib.Core.List.{List}
-use Prim.Native.Nat.{ℕ, _+_, _%_, _≤_, _<_, _^_}
+use Prim.Native.Nat.{ℕ, _%_, _<_, _^_}
 use native.Mathlib.Nat.{zero-add, mod-eq-of-lt}
 use native.Mathlib.Decide.{decLt}
 use native.Mathlib.Omega.{arith}
-use Rattle.lists.specs.Table.{table}
 use Rattle.lists.proofs.Table.{table-ext, getD-table}
 use Rattle.definitions.specs.Zq.{Q, Canonical, size}
 use Rattle.definitions.specs.Digits.{sizeAfter, digit}

@@ -1,7 +1,6 @@
 -- Squared norms of elements and of their digits, of any words.
 use mathlib.Core.Path.{_≡_, refl, sym, _∙_, ap}
 use mathlib.Core.List.{List, [], _∷_}
-use mathlib.Core.Bool.{Bool}
 use Prim.Native.Nat.{ℕ, zero, suc, _+_, _*_, _%_, _≤_, _<_, _^_}
 use native.Mathlib.Nat.{mul-zero, mul-le-mul-right}
 use native.Mathlib.Decide.{decLe}
@@ -13,7 +12,7 @@ use Rattle.lists.specs.Table.{table}
 use Rattle.lists.specs.Part.{part}
 use Rattle.lists.specs.Sum.{Σ}
 use Rattle.lists.proofs.Sum.{Σ-ext, Σ-split}
-use Rattle.lists.proofs.Splice.{length-part, getD-part}
+use Rattle.lists.proofs.Splice.{getD-part}
 use Rattle.lists.proofs.Additive.{additive-table}
 use Rattle.definitions.specs.Zq.{Q}
 use Rattle.definitions.specs.Norm.{square, norm}
@@ -21,7 +20,7 @@ use Rattle.definitions.specs.Rq.{Element, coeff, digitRow}
 use Rattle.definitions.specs.Ring.{words, element}
 use Rattle.inner_product.specs.Run.{run}
 use Rattle.norms.proofs.Part.{norm-part}
-use Rattle.protocol.specs.Formulas.{flat, norm-of, digits-of}
+use Rattle.protocol.specs.Formulas.{norm-of}
 use Rattle.protocol.specs.Conditions.{digits-norm}
 use Rattle.protocol.proofs.Norms.{norm-table, norm-of-additive, norm-of-one}
 use Rattle.rq_vector.proofs.Rows.{AllFit, of-word, row-of-words}

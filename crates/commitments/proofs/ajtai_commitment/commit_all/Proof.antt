@@ -1,14 +1,13 @@
 -- `commit_all` meets its contract. The invariant: the commitments to the first i vectors are stored.
 use mathlib.Core.Path.{_≡_, refl, _∙_, ap}
-use Prim.Native.Nat.{ℕ, _+_, _-_, _*_, _≤_, _<_}
+use Prim.Native.Nat.{ℕ, _+_, _-_, _*_, _≤_}
 use native.Mathlib.Omega.{arith}
 use lib.ListN.{length}
 use Rattle.lists.specs.Table.{table}
 use Rattle.lists.specs.Part.{splice}
 use Rattle.definitions.specs.Rq.{Element}
 use Rattle.protocol.specs.Formulas.{dot, flat, rows}
-use Rattle.protocol.proofs.Flat.{length-rows}
-use Rattle.protocol.proofs.Stored.{lists-none, lists-next}
+use Rattle.protocol.proofs.Stored.{rows-none, rows-next, rows-all}
 use Rattle.rq_matrix.specs.Region.{vector}
 use Rattle.rq_matrix.proofs.Place.{rows-within, run-vector}
 use Rattle.rq_matrix.proofs.Fill.{length-filled}
@@ -27,8 +26,7 @@ abbrev μ-loop : tie.MeasureT-loop
 μ-loop matrix m-at count n vectors at r out₀ out-at step out-step start₀ place₀ i₀ out start place i = r - i
 
 loop-holds : tie.Need-loop-holds Inv-loop μ-loop
-unfolding rows
-loop-holds c = (omega arith, omega arith, omega arith, lists-none _ _ _, refl)
+loop-holds c = (omega arith, omega arith, omega arith, rows-none _ _ _ _, refl)
 
 matrix-vector-requires : tie.Need-matrix-vector-requires Inv-loop μ-loop
 matrix-vector-requires c κs =
@@ -43,7 +41,6 @@ add-place : tie.Need-add-place Inv-loop μ-loop
 add-place c = let s = c .before .before .before .before .before .before .before .before .before .args in omega (arith, rows-within (c .before .before .before .before .before .loop .i) (s .r) (s .count) (omega arith))
 
 loop-again : tie.Need-loop-again Inv-loop μ-loop
-unfolding rows
 loop-again c =
     let s = c .before .before .before .before .before .before .before .before .before .args in
     let l = c .before .before .before .before .before .loop in
@@ -55,7 +52,7 @@ loop-again c =
       e
           ∙ ap (λ v. splice (l .out) (l .place) (flat (table (s .count) (λ k. dot (s .n) (vector (s .matrix .now) (s .m-at) (s .n) k) v)))) (run-vector (s .vectors .now) (s .at) (s .n) (l .i) (l .start) (l .inv .1))
           ∙ ap (λ p. splice (l .out) p (flat (table (s .count) (f (l .i))))) (l .inv .2)
-          ∙ lists-next (s .out .now) (l .out) (s .out-at) (l .i) (l .i * s .count) (λ i. table (s .count) (f i)) (l .inv .3) (length-rows (l .i) f (s .count)),
+          ∙ rows-next (s .out .now) (l .out) (s .out-at) (l .i) (s .count) f (l .inv .3),
       length-filled _ _ _ _ e ∙ l .inv .4,
     )
 
@@ -63,8 +60,7 @@ returns : tie.Need-returns Inv-loop μ-loop
 returns c =
     let s = c .before .before .before .before .before .args in
     let l = c .before .loop in
-    let done : l .i ≡ s .r = omega arith in
-    l .inv .3 ∙ ap (λ i. splice (s .out .now) (s .out-at) (flat (rows i (s .count) (λ i k. dot (s .n) (vector (s .matrix .now) (s .m-at) (s .n) k) (vector (s .vectors .now) (s .at) (s .n) i))))) done
+    rows-all (s .out .now) (l .out) (s .out-at) (l .i) (s .r) (s .count) (λ i k. dot (s .n) (vector (s .matrix .now) (s .m-at) (s .n) k) (vector (s .vectors .now) (s .at) (s .n) i)) (l .inv .3) (omega arith)
 
 pub commit-all-spec : {M : Type 1} → statement M
 commit-all-spec =

@@ -1,17 +1,18 @@
 -- `add_products` meets its contract. The invariant: the first k inner products are added, and `row` stands at the next row's part.
-use mathlib.Core.Path.{_≡_, refl, _∙_, ap, ap₂}
-use Prim.Native.Nat.{ℕ, _+_, _-_, _*_, _≤_, _<_}
+use mathlib.Core.Path.{_≡_, refl, _∙_, ap}
+use Prim.Native.Nat.{ℕ, _+_, _-_, _*_, _≤_}
 use native.Mathlib.Omega.{arith}
 use borrow.Author.Needs.{needs}
 use lib.ListN.{length}
 use Rattle.lists.specs.Table.{table}
 use Rattle.lists.specs.Part.{part, splice}
 use Rattle.definitions.specs.Rq.{Element}
-use Rattle.definitions.specs.Ring.{words, element}
+use Rattle.definitions.specs.Ring.{element}
 use Rattle.inner_product.specs.Run.{run}
 use Rattle.protocol.specs.Formulas.{_⊕_, dot, flat}
+use Rattle.protocol.proofs.Stored.{stored-none}
 use Rattle.rq_matrix.proofs.Word.{stands-for, words-of-sum}
-use Rattle.rq_matrix.proofs.Fill.{length-filled, fill-none, fill-next}
+use Rattle.rq_matrix.proofs.Fill.{length-filled, fill-next}
 use Rattle.commitments.proofs.Added.{run-rest}
 use Rattle.commitments.proofs.outer_commitments.add_products.Statement.{statement}
 use Rattle.commitments.proofs.outer_commitments.add_products.Tie as tie
@@ -63,7 +64,7 @@ add-products-spec =
     (tie.spec
     Inv-loop
     μ-loop
-    (λ c. (omega arith, omega arith, omega arith, fill-none _ _ _, refl))
+    (λ c. (omega arith, omega arith, omega arith, stored-none _ _ _, refl))
     inner-product-requires
     (λ c κs. omega arith)
     (λ c κs. search needs)

@@ -1,13 +1,13 @@
 -- `decompose_to` meets its contract. The invariant: the sizes are those after k digits, and the first k rows are stored.
-use mathlib.Core.Path.{_≡_, refl, sym, _∙_, ap}
-use Prim.Native.Nat.{_+_, _-_, _*_, _≤_, _<_}
+use mathlib.Core.Path.{_≡_, refl, _∙_, ap}
+use Prim.Native.Nat.{_+_, _-_, _*_, _≤_}
 use native.Mathlib.Omega.{arith}
 use borrow.Author.Needs.{needs}
 use lib.ListN.{length, getD}
 use mir.Val.{Fits}
 use mir.Syntax.{w32}
 use Rattle.lists.specs.Table.{table}
-use Rattle.lists.specs.Part.{part, splice}
+use Rattle.lists.specs.Part.{splice}
 use Rattle.lists.proofs.Splice.{length-splice}
 use Rattle.definitions.specs.Ring.{element}
 use Rattle.protocol.specs.Formulas.{flat, digit-element}

@@ -1,5 +1,5 @@
 -- `elements_norm` meets its contract.
-use mathlib.Core.Path.{_∙_, ap}
+use mathlib.Core.Path.{_∙_}
 use native.Mathlib.Omega.{arith}
 use borrow.Author.Needs.{needs}
 use Rattle.rq_vector.proofs.Squares.{norm-of-run}
