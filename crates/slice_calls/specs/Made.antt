@@ -4,15 +4,19 @@ use Prim.Native.Nat.{ℕ, _+_, _*_}
 use Rattle.lists.specs.Table.{table, cat}
 use lib.ListN.{getD}
 use Rattle.lists.specs.Part.{part}
+use Rattle.definitions.specs.Rq.{Element}
 use Rattle.definitions.specs.Ring.{RqOps, element, words, scale}
 use Rattle.definitions.specs.Challenge.{challenge}
 use Rattle.inner_product.specs.Run.{run}
-use Rattle.protocol.specs.Formulas.{_⊗_, sum, dot, flat, rows, triangle, times}
-use Rattle.rq_matrix.specs.Region.{vector}
-use Rattle.garbage_polynomials.specs.Garbage.{g-of, h-of}
+use Rattle.protocol.specs.Formulas.{_⊗_, sum, dot, flat, rows, triangle, times, digits-of}
+use Rattle.rq_matrix.specs.Region.{vector, gram}
+use Rattle.garbage_polynomials.specs.Garbage.{h-of}
 use Rattle.aggregate.specs.Weighed.{both}
-use Rattle.commitments.specs.Cells.{entry-of, digits-at}
 use Rattle.slice_calls.specs.Fits.{psi-place, omega-place}
+
+-- the digits of cells from a place on, cell after cell
+abbrev pub digits-from : List ℕ → (at cells base parts : ℕ) → List Element
+digits-from words at cells base parts = digits-of base parts (table cells (run words at 64))
 
 -- φ'' for each row of psi and of omega
 abbrev pub phi-made : List ℕ → List ℕ → (r n count number : ℕ) → List ℕ
@@ -22,15 +26,15 @@ phi-made phi randomness r n count number =
 -- u1 of the matrices B and C and the cells of t and g
 abbrev pub u1-made : List ℕ → List ℕ → (number t-cells t-parts g-cells g-parts base : ℕ) → List ℕ
 u1-made matrices from number t-cells t-parts g-cells g-parts base =
-    flat (table number (λ k. RqOps .add (times (entry-of matrices 0 (t-cells * t-parts)) (digits-at from 0 t-cells base t-parts) k) (times (entry-of matrices (64 * (number * (t-cells * t-parts))) (g-cells * g-parts)) (digits-at from (64 * t-cells) g-cells base g-parts) k)))
+    flat (table number (λ k. RqOps .add (times (vector matrices 0 (t-cells * t-parts)) (digits-from from 0 t-cells base t-parts) k) (times (vector matrices (64 * (number * (t-cells * t-parts))) (g-cells * g-parts)) (digits-from from (64 * t-cells) g-cells base g-parts) k)))
 
 -- the commitments to r vectors
 abbrev pub t-made : List ℕ → List ℕ → (number n r : ℕ) → List ℕ
-t-made matrix s number n r = flat (rows r number (λ i k. dot n (entry-of matrix 0 n k) (entry-of s 0 n i)))
+t-made matrix s number n r = flat (rows r number (λ i k. dot n (vector matrix 0 n k) (vector s 0 n i)))
 
 -- the inner products of r vectors
 abbrev pub g-made : List ℕ → (n r : ℕ) → List ℕ
-g-made s n r = flat (triangle r (g-of s 0 n))
+g-made s n r = flat (triangle r (gram s 0 n))
 
 -- the sum of r vectors, each times its factor
 abbrev pub z-made : List ℕ → List ℕ → (n r : ℕ) → List ℕ
@@ -38,7 +42,7 @@ z-made s c n r = flat (table n (λ m. sum r (λ i. vector s 0 n i m ⊗ run c 0 
 
 -- u2 of the matrix D and the cells of h
 abbrev pub u2-made : List ℕ → List ℕ → (number cells parts base : ℕ) → List ℕ
-u2-made matrix from number cells parts base = flat (table number (times (entry-of matrix 0 (cells * parts)) (digits-at from 0 cells base parts)))
+u2-made matrix from number cells parts base = flat (table number (times (vector matrix 0 (cells * parts)) (digits-from from 0 cells base parts)))
 
 -- the linear combination of n elements with n numbers
 abbrev pub linear-combination-made : List ℕ → List ℕ → ℕ → List ℕ

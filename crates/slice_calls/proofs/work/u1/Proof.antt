@@ -39,8 +39,10 @@ compute-u1-requires c κs =
     let a = c .before .before .before .before .args in
     let h = u1-lengths (length (a .matrices .now)) (length (a .from .now)) (length (a .out .now)) (a .rows) (a .t-cells) (a .t-parts) (a .g-cells) (a .g-parts) (a .base) (c .before .before .before .before .pre) in
     let m = u1-limits (a .rows) (a .t-cells) (a .t-parts) (a .g-cells) (a .g-parts) (a .base) (h .0) in (
-      record { matrix-within = omega (arith, h .1); cells-within = omega (arith, h .2); few-parts = omega (arith, m); few-cells = omega (arith, m) },
-      record { matrix-within = omega (arith, h .1); cells-within = omega (arith, h .2); few-parts = omega (arith, m); few-cells = omega (arith, m) },
+      omega (arith, h .1),
+      record { within = omega (arith, h .2); few-cells = omega (arith, m); few-parts = omega (arith, m) },
+      omega (arith, h .1),
+      record { within = omega (arith, h .2); few-cells = omega (arith, m); few-parts = omega (arith, m) },
       omega (arith, m),
       omega (arith, h .3),
     )

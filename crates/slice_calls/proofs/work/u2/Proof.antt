@@ -10,7 +10,8 @@ compute-u2-requires : tie.Need-compute-u2-requires
 compute-u2-requires c κs =
     let a = c .before .before .before .before .args in
     let h = u2-sizes (length (a .matrix .now)) (length (a .from .now)) (length (a .out .now)) (a .rows) (a .cells) (a .parts) (a .base) (c .before .before .before .before .pre) in (
-      record { matrix-within = omega (arith, h); cells-within = omega (arith, h); few-parts = omega (arith, h); few-cells = omega (arith, h) },
+      omega (arith, h),
+      record { within = omega (arith, h); few-cells = omega (arith, h); few-parts = omega (arith, h) },
       omega (arith, h),
       omega (arith, h),
     )
