@@ -1,28 +1,65 @@
-// Replays the published Rust's recorded answers on the leaf calls. It prints how many of each kind are the same, and a
-// `differs` line for each that is not.
+// Replays the published Rust's recorded answers on the leaf calls, and those of the calls on whole slices as far as they are refused before the work.
+// It prints how many of each kind are the same, and a `differs` line for each that is not.
+mod calls;
 mod counts;
 mod leaves;
 mod report;
+mod slices;
 mod words;
 
 // The kind of a file's last record, whose body counts the others.
 const END: u32 = 63;
 
-// Replays a record and counts it. Answers whether more records can follow.
-fn take(kind: u32, body: &[u8], tally: &mut [u64]) -> bool {
-    let record = counts::read(tally, counts::RECORDS);
-    if kind == END {
-        if words::at(body, 0) as u64 == record {
-            counts::bump(tally, counts::WHOLE);
-        }
-        return false;
-    }
-    counts::bump(tally, counts::RECORDS);
+// Words put into a slice, a slice's length, and a call.
+const PUT: u32 = 32;
+
+const LENGTH: u32 = 33;
+
+const CALL: u32 = 34;
+
+// Counts a leaf call.
+fn take_leaf(kind: u32, body: &[u8], record: u64, tally: &mut [u64]) {
     counts::bump(tally, counts::all_of(kind));
     if leaves::same(kind, body) {
         counts::bump(tally, counts::same_of(kind));
     } else {
         report::differs(kind, record);
+    }
+}
+
+// Counts a call on whole slices.
+fn take_call(body: &[u8], record: u64, run: &[u32], lengths: &[usize], tally: &mut [u64]) {
+    let number = calls::number(body);
+    counts::bump(tally, counts::all_calls_of(number));
+    if calls::same(body, run, lengths) {
+        counts::bump(tally, counts::same_calls_of(number));
+    } else {
+        report::differs(CALL, record);
+    }
+}
+
+// Ends a file.
+fn end(body: &[u8], tally: &mut [u64]) {
+    let records = counts::read(tally, counts::RECORDS);
+    counts::clear(tally, counts::RECORDS);
+    if words::at(body, 0) as u64 == records {
+        counts::bump(tally, counts::WHOLE);
+    }
+}
+
+// Replays a record and counts it. Answers whether more records can follow.
+fn take(kind: u32, body: &[u8], run: &mut [u32], lengths: &mut [usize], tally: &mut [u64]) -> bool {
+    let record = counts::read(tally, counts::RECORDS);
+    if kind == END {
+        end(body, tally);
+        return false;
+    }
+    counts::bump(tally, counts::RECORDS);
+    match kind {
+        PUT => slices::put(body, run),
+        LENGTH => slices::resize(body, lengths),
+        CALL => take_call(body, record, run, lengths, tally),
+        _ => take_leaf(kind, body, record, tally),
     }
     true
 }
@@ -36,15 +73,22 @@ fn read_part(fd: i32, length: usize, bytes: &mut [u8]) -> bool {
 }
 
 // Replays a record whose body is the first bytes of a buffer.
-fn take_part(kind: u32, length: usize, bytes: &[u8], tally: &mut [u64]) -> bool {
+fn take_part(
+    kind: u32,
+    length: usize,
+    bytes: &[u8],
+    run: &mut [u32],
+    lengths: &mut [usize],
+    tally: &mut [u64],
+) -> bool {
     if length > bytes.len() {
         return false;
     }
-    take(kind, &bytes[..length], tally)
+    take(kind, &bytes[..length], run, lengths, tally)
 }
 
 // Reads one record and replays it. Answers whether more records can follow.
-fn read_record(fd: i32, tally: &mut [u64]) -> bool {
+fn read_record(fd: i32, run: &mut [u32], lengths: &mut [usize], tally: &mut [u64]) -> bool {
     let mut head = [0u8; 8];
     let got = io::read_full(fd, &mut head);
     if got < 8 {
@@ -59,27 +103,35 @@ fn read_record(fd: i32, tally: &mut [u64]) -> bool {
     if !read_part(fd, 4 * length, &mut bytes) {
         return false;
     }
-    take_part(kind, 4 * length, &bytes, tally)
+    take_part(kind, 4 * length, &bytes, run, lengths, tally)
 }
 
 // Reads records until a file's last one. A proved loop has to end, so it counts down from a number that no file uses up.
-fn read_all(fd: i32, tally: &mut [u64]) {
+fn read_all(fd: i32, run: &mut [u32], lengths: &mut [usize], tally: &mut [u64]) {
     let mut turns = u64::MAX;
-    while turns > 0 && read_record(fd, tally) {
+    while turns > 0 && read_record(fd, run, lengths, tally) {
         turns -= 1;
     }
 }
 
-fn main() {
-    let path = b"leaves";
+// Replays the records of a file.
+fn read_file(path: &[u8], tally: &mut [u64]) {
     let fd = os::open_read(path);
     if fd < 0 {
         os::fail(path);
         return;
     }
-    let mut tally = [0u64; 64];
-    read_all(fd, &mut tally);
+    let mut run = [0u32; slices::WORDS];
+    let mut lengths = [0usize; 4];
+    read_all(fd, &mut run, &mut lengths, tally);
     libc::close(fd);
+}
+
+fn main() {
+    let mut tally = [0u64; 64];
+    read_file(b"leaves", &mut tally);
+    read_file(b"calls", &mut tally);
     report::all(&tally);
+    report::calls(&tally);
     report::whole(&tally);
 }

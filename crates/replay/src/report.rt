@@ -20,6 +20,7 @@ pub fn print_name(kind: u32) {
         13 => io::write_all(STDOUT_FILENO, b"rq_norm"),
         14 => io::write_all(STDOUT_FILENO, b"rq_digits"),
         15 => io::write_all(STDOUT_FILENO, b"challenge"),
+        34 => io::write_all(STDOUT_FILENO, b"call"),
         _ => io::write_all(STDOUT_FILENO, b"unknown"),
     }
     ;
@@ -34,9 +35,8 @@ pub fn differs(kind: u32, record: u64) {
     io::write_all(STDOUT_FILENO, b"\n");
 }
 
-// A kind's name and how many records of it were the same, of how many.
-pub fn counted(kind: u32, same: u64, all: u64) {
-    print_name(kind);
+// How many records were the same, of how many.
+fn counted(same: u64, all: u64) {
     io::write_all(STDOUT_FILENO, b" ");
     io::print_decimal(STDOUT_FILENO, same);
     io::write_all(STDOUT_FILENO, b" of ");
@@ -44,20 +44,41 @@ pub fn counted(kind: u32, same: u64, all: u64) {
     io::write_all(STDOUT_FILENO, b"\n");
 }
 
-// Every kind's counts.
+// The counts of every leaf call.
 pub fn all(tally: &[u64]) {
     for kind in 1..16 {
+        print_name(kind);
         counted(
-            kind,
             counts::read(tally, counts::same_of(kind)),
             counts::read(tally, counts::all_of(kind)),
         );
     }
 }
 
-// Whether the file was read to its last record.
+// A refusal before the work; `admitted` where there is none.
+fn print_refusal(number: u32) {
+    if number == 0 {
+        io::write_all(STDOUT_FILENO, b"admitted");
+    } else {
+        io::write_all(STDOUT_FILENO, b"refusal ");
+        io::print_decimal(STDOUT_FILENO, number as u64);
+    }
+}
+
+// The counts of the calls on whole slices, by their refusal before the work.
+pub fn calls(tally: &[u64]) {
+    for number in 0..13 {
+        print_refusal(number);
+        counted(
+            counts::read(tally, counts::same_calls_of(number)),
+            counts::read(tally, counts::all_calls_of(number)),
+        );
+    }
+}
+
+// Whether both files were read to their last records.
 pub fn whole(tally: &[u64]) {
-    if counts::read(tally, counts::WHOLE) == 1 {
+    if counts::read(tally, counts::WHOLE) == 2 {
         io::write_all(STDOUT_FILENO, b"whole\n");
     } else {
         io::write_all(STDOUT_FILENO, b"not whole\n");
