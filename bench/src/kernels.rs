@@ -10,6 +10,7 @@ use labrador::transcript::sponges::shake::{Playback, Tape};
 use labrador::transcript::LabradorTranscript;
 use library::leaf_calls::*;
 use library::slices::{slice_call, SliceCall};
+use model::leaves::Q;
 use model::refusals::output_need;
 use model::words::{join, Parameters};
 use model::Call;
@@ -222,6 +223,57 @@ fn whole(random: &mut Random, call: Call, n: usize, r: usize) -> Kernel {
     }
 }
 
+/// The tests before the work: a call on fit slices that is lent no scratch, so that it is refused once every word of the
+/// slices has been judged. Beside it a plain scan of the same words.
+fn judged(random: &mut Random) -> Kernel {
+    let p = Parameters {
+        n: 16,
+        r: 4,
+        kappa: 4,
+        kappa1: 5,
+        kappa2: 5,
+        ring: 64,
+        constant: 64,
+        log_q: 32,
+        b: 256,
+        t1: 4,
+        t2: 4,
+        beta_sq: LOOSE,
+        beta_prime_sq: LOOSE,
+        bounds: [LOOSE; 4],
+    };
+    let instance = Instance::random(random, p, Size::Bits(8));
+    let slices = [
+        instance.job_words(),
+        instance.randomness_words(),
+        instance.witness_words(),
+    ];
+    let scanned = slices.clone();
+    let need = p.scratch_need() as u64;
+    Kernel {
+        calls: 1,
+        rounds: 100,
+        ours: Box::new(move || {
+            let handed = library::Handed {
+                job: &slices[0],
+                randomness: &slices[1],
+                third: black_box(&slices[2]),
+                scratch: &mut [],
+                output: &mut [],
+            };
+            let answer = library::whole(Call::Prove, handed);
+            assert!(answer.is_some_and(|answer| answer.number == 1 && answer.place == need));
+        }),
+        prepare: Box::new(|| {}),
+        theirs: Box::new(move || {
+            let above = black_box(&scanned)
+                .iter()
+                .map(|words| words.iter().filter(|&&word| word >= Q).count());
+            black_box(above.sum::<usize>());
+        }),
+    }
+}
+
 /// A kernel's name and how its inputs are made.
 pub type Entry = (&'static str, fn(&mut Random) -> Kernel);
 
@@ -262,6 +314,7 @@ pub fn kernels() -> Vec<Entry> {
             ("verify, n 4, r 2", |random| whole(random, Call::Verify, 4, 2)),
             ("prove, n 16, r 4", |random| whole(random, Call::Prove, 16, 4)),
             ("verify, n 16, r 4", |random| whole(random, Call::Verify, 16, 4)),
+            ("tests before the work, 1.7 million words, against a plain scan", judged),
         ]);
     }
     all
