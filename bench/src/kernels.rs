@@ -254,14 +254,7 @@ fn judged(random: &mut Random) -> Kernel {
         calls: 1,
         rounds: 100,
         ours: Box::new(move || {
-            let handed = library::Handed {
-                job: &slices[0],
-                randomness: &slices[1],
-                third: black_box(&slices[2]),
-                scratch: &mut [],
-                output: &mut [],
-            };
-            let answer = library::whole(Call::Prove, handed);
+            let answer = library::slices::judged([&slices[0], &slices[1], black_box(&slices[2])], 0, 0);
             assert!(answer.is_some_and(|answer| answer.number == 1 && answer.place == need));
         }),
         prepare: Box::new(|| {}),
@@ -303,6 +296,7 @@ pub fn kernels() -> Vec<Entry> {
             ("u1, r 4, κ and κ1 4, base 256, 4 parts", |random| {
                 slice(random, SliceCall::U1, u1_sizes(4, 4, 4, 4, 4))
             }),
+            ("tests before the work, 1.7 million words, against a plain scan", judged),
         ]);
     }
     if library::HAS_WHOLE_CALLS {
@@ -314,7 +308,6 @@ pub fn kernels() -> Vec<Entry> {
             ("verify, n 4, r 2", |random| whole(random, Call::Verify, 4, 2)),
             ("prove, n 16, r 4", |random| whole(random, Call::Prove, 16, 4)),
             ("verify, n 16, r 4", |random| whole(random, Call::Verify, 16, 4)),
-            ("tests before the work, 1.7 million words, against a plain scan", judged),
         ]);
     }
     all

@@ -165,7 +165,48 @@ mod exported {
             scratch: *mut u32,
             scratch_length: usize,
         ) -> bool;
+        pub fn slice_judged(
+            job: *const u32,
+            job_length: usize,
+            randomness: *const u32,
+            randomness_length: usize,
+            witness: *const u32,
+            witness_length: usize,
+            scratch: usize,
+            output: usize,
+        ) -> super::Judged;
     }
+}
+
+/// A refusal's number, 0 where nothing is refused, and its place.
+#[repr(C)]
+#[derive(Clone, Copy, Debug, PartialEq, Eq)]
+pub struct Judged {
+    pub number: u32,
+    pub place: u64,
+}
+
+#[cfg(not(slice_calls))]
+pub fn judged(_: [&[u32]; 3], _: usize, _: usize) -> Option<Judged> {
+    None
+}
+
+/// The tests before the work of the whole prover, with the lengths of the lent buffers.
+#[cfg(slice_calls)]
+pub fn judged([job, randomness, witness]: [&[u32]; 3], scratch: usize, output: usize) -> Option<Judged> {
+    // The call takes slices of any length and any words.
+    Some(unsafe {
+        exported::slice_judged(
+            job.as_ptr(),
+            job.len(),
+            randomness.as_ptr(),
+            randomness.len(),
+            witness.as_ptr(),
+            witness.len(),
+            scratch,
+            output,
+        )
+    })
 }
 
 #[cfg(not(slice_calls))]
