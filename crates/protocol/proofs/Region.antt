@@ -16,11 +16,8 @@ use Rattle.definitions.specs.Ring.{element}
 use Rattle.protocol.specs.Parameters.{triangular}
 use Rattle.protocol.specs.Views.{element-at, cell}
 use Rattle.protocol.specs.Formulas.{flat, rows}
+pub use Rattle.protocol.specs.Region.{Elements, Triangle, Vectors}
 use Rattle.protocol.proofs.Flat.{length-flat, element-of-flat, length-rows, row-cell, row-cell-within, cell-within, length-triangle}
-
--- the elements from a place on are f 0, …, f (n − 1)
-abbrev pub Elements : List ℕ → ℕ → ℕ → (ℕ → Element) → Type 0
-Elements words at n f = (m : ℕ) → m < n → element-at words at m ≡ f m
 
 -- equal elements
 pub elements-ext : (words : List ℕ) (at n : ℕ) (f g : ℕ → Element) → ((m : ℕ) → m < n → f m ≡ g m) → Elements words at n f → Elements words at n g
@@ -40,14 +37,6 @@ elements-stored l at n f a m k =
     element-of-flat (splice l at (flat (table n f))) at (table n f) m (f 0)
     (part-splice-same 0 l at (flat (table n f)) (omega (arith, length-flat (table n f), length-table n f))) (omega (arith, length-table n f))
     ∙ getD-table n f m (f 0) k
-
--- cell (i, j) of a triangle of r rows from a place on is f i j, mirrored above the diagonal
-abbrev pub Triangle : List ℕ → ℕ → ℕ → (ℕ → ℕ → Element) → Type 0
-Triangle words at r f = (i j : ℕ) → i < r → j < r → element-at words at (cell i j) ≡ f i j
-
--- element m of vector i, of r vectors of n elements from a place on, is f i m
-abbrev pub Vectors : List ℕ → ℕ → ℕ → ℕ → (ℕ → ℕ → Element) → Type 0
-Vectors words at r n f = (i m : ℕ) → i < r → m < n → element-at words at (i * n + m) ≡ f i m
 
 -- r vectors of n elements that are stored
 pub vectors-stored : (l : List ℕ) (at r n : ℕ) (f : ℕ → ℕ → Element) → at + 64 * (r * n) ≤ length l → Vectors (splice l at (flat (rows r n f))) at r n f

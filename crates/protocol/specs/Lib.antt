@@ -2,6 +2,7 @@ pub mod Checks
 pub mod Parameters
 pub mod Layout
 pub mod Views
+pub mod Region
 pub mod Formulas
 pub mod Prover
 pub mod Verifier

@@ -13,7 +13,5 @@ pub record Laid (n r κ L : ℕ) (s : Regions) : Type 0 where
   pub g : s .g ≡ s .a + 64 * triangular r
   pub challenges : s .challenges ≡ s .g + 64 * triangular r
   pub t : s .t ≡ s .challenges + 64 * r
-  pub z : s .z ≡ s .t + 64 * (r * κ)
-  pub digits : s .digits ≡ s .z + 64 * n
-  pub u : s .u ≡ s .digits + 64 * 32
+  pub u : s .u ≡ s .t + 64 * (r * κ)
   pub b2 : s .b2 ≡ s .u + 64 * 16

@@ -5,11 +5,11 @@ ghost use Rattle.regions.specs.Laid.{Laid};
 pub struct Regions {
     // φ'': L·r·n elements
     pub phi2: usize,
-    // a'': L triangles; h's triangle takes their place once a and b'' are made
+    // a'': L triangles
     pub a2: usize,
     // φ: r·n elements
     pub phi: usize,
-    // a: a triangle
+    // a triangle: h in the prover's work, a in the verifier's
     pub a: usize,
     // g: a triangle
     pub g: usize,
@@ -17,11 +17,7 @@ pub struct Regions {
     pub challenges: usize,
     // t: r·κ elements
     pub t: usize,
-    // z: n elements
-    pub z: usize,
-    // the digits of one element: 32 elements
-    pub digits: usize,
-    // u1 or u2: 16 elements
+    // u1 or u2, as the verifier works them out: 16 elements
     pub u: usize,
     // b'': 16 elements
     pub b2: usize,
@@ -41,9 +37,7 @@ pub fn lay_out(n: usize, r: usize, kappa: usize, l: usize) -> Regions
     let g = a + 64 * cells;
     let challenges = g + 64 * cells;
     let t = challenges + 64 * r;
-    let z = t + 64 * (r * kappa);
-    let digits = z + 64 * n;
-    let u = digits + 2048;
+    let u = t + 64 * (r * kappa);
     let b2 = u + 1024;
     Regions {
         phi2,
@@ -53,8 +47,6 @@ pub fn lay_out(n: usize, r: usize, kappa: usize, l: usize) -> Regions
         g,
         challenges,
         t,
-        z,
-        digits,
         u,
         b2,
     }

@@ -35,7 +35,6 @@ lay-out-spec =
     tie.close
     (tie.spec
     (λ c. omega (arith, bounds c))
-    (λ c. omega arith)
     (λ c. omega (arith, bounds c))
     (λ c. omega (arith, bounds c))
     (λ c. omega (arith, bounds c))
@@ -49,12 +48,10 @@ lay-out-spec =
     (λ c. omega (arith, bounds c))
     (λ c. omega (arith, bounds c))
     (λ c. omega (arith, bounds c))
-    (λ c. omega arith)
     (λ c. omega (arith, bounds c))
     (λ c. omega (arith, bounds c))
     (λ c. omega (arith, bounds c))
     (λ c. omega (arith, bounds c))
-    (λ c. omega arith)
     (λ c. omega (arith, bounds c))
     (λ c. omega (arith, bounds c))
     (λ c. omega (arith, bounds c))
