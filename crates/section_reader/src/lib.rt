@@ -1,6 +1,6 @@
 // "A record with the lent slice and a position reads the sections." The borrow checker covers no function over such a record,
 // so each is thin and proved by hand; the work is in `section_at` and `behind_at`, which take the slice and the position.
-// Callers use `section_from`, whose parameters are plain.
+// Callers use `section_from`, whose parameters are plain, and go on behind the section that it gives.
 ghost use mathlib.Core.Path.{_≡_};
 ghost use lib.ListN.{length};
 ghost use Rattle.section_reader.specs.Read.{readAt, behindAt, Inside};
@@ -17,7 +17,7 @@ pub enum Read {
     Section(usize, usize),
     // a count that passes the slice's end
     Short,
-    // no count
+    // no count: the slice ends before the position or at it
     End,
 }
 
@@ -63,13 +63,6 @@ impl<'a> SectionReader<'a> {
         SectionReader { words, position }
     }
 
-    // The section at the reader's position.
-    pub fn peek(self) -> Read
-        ensures { λ r. ⌜ r ≡ readAt (now (self .entry .words)) (self .entry .position) ⌝ }
-    {
-        section_at(self.words, self.position)
-    }
-
     // Reads the section at the reader's position and moves behind it. Where no section is read the position stays.
     pub fn section<'s>(&'s mut self) -> Read
         ensures { λ r. ⌜ (r ≡ readAt (now (now (self .entry) .words)) (now (self .entry) .position)) × (now (self .exit) .words ≡ now (self .entry) .words) × (now (self .exit) .position ≡ behindAt (now (now (self .entry) .words)) (now (self .entry) .position)) ⌝ }
@@ -85,5 +78,6 @@ impl<'a> SectionReader<'a> {
 pub fn section_from(words: &[u32], position: usize) -> Read
     ensures { λ r. ⌜ (r ≡ readAt (now (words .entry)) position) × (Inside position (length (now (words .entry))) r) ⌝ }
 {
-    SectionReader::new(words, position).peek()
+    let mut reader = SectionReader::new(words, position);
+    reader.section()
 }

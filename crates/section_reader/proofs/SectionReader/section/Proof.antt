@@ -123,11 +123,13 @@ module _ {M : Type 1} (𝓤 : URA M) (H : Heap 𝓤) (A : Atoms 𝓤) (W : Given
       -- [what words owns; what position owns; what the record owns]
       move ! (1 ∷ []) $ drop ! $ nothing ! $ owned ! usize (Is usize) (uint-makes 𝓤 H A W w64) (h .position) _ (refl, fits) $ fjoin ! $ move ! (1 ∷ 0 ∷ []) $ fjoin ! $ frame ! $ done !)
 
+  -- what `behind_at` asks
   goes-behind : h .position < 2 ^ 64 → ent 𝓤 (⋆ 𝓤 H A (‵ Own ∷ (‵ (flft κ′ q′) ⊛ ‵ ftrue) ∷ [])) (sep 𝓤 (BehindAt 𝓤 H A at-mem run .pre to-behind) (sem 𝓤 H A Own))
   goes-behind fits =
       qed W (‵ Own ∷ (‵ (flft κ′ q′) ⊛ ‵ ftrue) ∷ []) ∵ use1 W (‵ Passed ⊛ ‵ Own) (apart fits) $ split ! $ move ! (2 ∷ 0 ∷ []) $
       use2 W (raw (BehindAt 𝓤 H A at-mem run .pre to-behind)) (qed W ((‵ (flft κ′ q′) ⊛ ‵ ftrue) ∷ ‵ Passed ∷ []) ∵ join ! $ frame ! $ done !) $ frame ! $ done !
 
+  -- what `section_at` asks
   goes-section : h .position < 2 ^ 64 → ent 𝓤 (⋆ 𝓤 H A (‵ Own ∷ (‵ (flft κ′ q′) ⊛ ‵ ftrue) ∷ [])) (sep 𝓤 (SectionAt 𝓤 H A at-mem run .pre to-section) (sem 𝓤 H A Own))
   goes-section fits =
       qed W (‵ Own ∷ (‵ (flft κ′ q′) ⊛ ‵ ftrue) ∷ []) ∵ use1 W (‵ Passed ⊛ ‵ Own) (apart fits) $ split ! $ move ! (2 ∷ 0 ∷ []) $
