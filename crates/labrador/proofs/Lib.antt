@@ -1,3 +1,4 @@
 mod Result
 mod Owned
 pub mod Rows
+mod Lengths

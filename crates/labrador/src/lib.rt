@@ -2,4 +2,6 @@
 pub mod answers;
 pub mod digits;
 pub mod elements;
+pub mod needs;
 pub mod numbers;
+pub mod verdicts;
