@@ -1,5 +1,5 @@
 -- What holds of a call that is refused nothing before its work.
-use mathlib.Core.Path.{_≡_, refl, sym, subst, _∙_}
+use mathlib.Core.Path.{_≡_, refl, sym, _∙_}
 use mathlib.Core.List.{List}
 use Prim.Native.Nat.{ℕ, _≤_}
 use native.Mathlib.Decide.{decLe}
@@ -19,6 +19,7 @@ use Rattle.relation.specs.Parameters.{parametersOf}
 use Rattle.relation.specs.SectionOne.{section-one, Sound}
 use Rattle.relation.proofs.Limits.{sound}
 use Rattle.sizes.specs.Sizes.{Sized}
+use Rattle.sizes.proofs.Sized.{sized}
 use Rattle.admission.specs.Admission.{Handed, Provable, Verifiable}
 
 -- what is refused nothing after a layout and ranges
@@ -46,11 +47,7 @@ module _ (J : List ℕ) (e : job-refusal J ≡ fine) where
       let two = then-fine-left (section-one J then layout 3 J 30 ss) (ranged 6 J 30 ss) e in
       laid 3 6 J 30 ss (job-sound .room) (then-fine-right (section-one J) (layout 3 J 30 ss) two) (then-fine-right (section-one J then layout 3 J 30 ss) (ranged 6 J 30 ss) e)
 
--- parameters that are those of a sound section one can be reckoned with
-pub sized : (J : List ℕ) (Q : Parameters) → Sound J → Q ≡ parameters J → Sized Q
-sized J Q s e = subst Sized (sym e) (record { within = s .within; aggregated = s .aggregated .1 })
-
--- so are those of a job that is refused nothing
+-- the parameters of a job that is refused nothing can be reckoned with
 pub job-sized : (J : List ℕ) (Q : Parameters) → fine ≡ job-refusal J → Q ≡ parameters J → Sized Q
 job-sized J Q e same = sized J Q (job-sound J (sym e)) same
 

@@ -37,7 +37,7 @@ rows-table r m f =
     ∙ ap (λ n. table n f) (Σ-const r m)
 
 -- a triangle of r rows of the elements f 0, f 1, … is all of them
-triangle-table : (r : ℕ) (f : ℕ → Element) → triangle r (λ i j. f (cell i j)) ≡ table (triangular r) f
+pub triangle-table : (r : ℕ) (f : ℕ → Element) → triangle r (λ i j. f (cell i j)) ≡ table (triangular r) f
 unfolding triangle
 triangle-table r f =
     cat-ext r (λ i. table (i + 1) (λ j. f (cell i j))) (λ i. table (i + 1) (λ k. f (_ + k)))

@@ -1,2 +1,3 @@
 mod Products
 mod Tables
+pub mod Sized

@@ -1,5 +1,5 @@
 -- `job::sections` meets its contract.
-use Rattle.admission.proofs.Ready.{sized}
+use Rattle.sizes.proofs.Sized.{sized}
 use Rattle.admission.proofs.Found.{examined}
 use borrow.Author.Needs.{needs}
 use Rattle.admission.proofs.job.sections.Statement.{statement}

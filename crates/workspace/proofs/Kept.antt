@@ -1,0 +1,52 @@
+-- What is as it was from a place to the end.
+use mathlib.Core.Path.{_≡_, refl, sym, ap, _∙_}
+use mathlib.Core.List.{List, _++_}
+use Prim.Native.Nat.{ℕ, _+_, _-_, _≤_}
+use native.Mathlib.Omega.{arith}
+use lib.ListN.{length, drop, replicate, length-drop, length-replicate}
+use lib.Seq.{ext-getD, getD-drop, drop-drop}
+use Rattle.lists.specs.Part.{splice}
+use Rattle.lists.proofs.Splice.{length-splice, splice-eq, getD-splice-after}
+use Rattle.protocol.specs.Prover.{zeroed}
+use Rattle.workspace.specs.Holds.{Kept}
+
+-- nothing changed
+pub kept-refl : (k : ℕ) (S : List ℕ) → Kept k S S
+kept-refl k S = record { size = refl; beyond = refl }
+
+-- changed twice
+pub kept-trans : (k : ℕ) (S S′ S″ : List ℕ) → Kept k S S′ → Kept k S′ S″ → Kept k S S″
+kept-trans k S S′ S″ a b = record { size = b .size ∙ a .size; beyond = b .beyond ∙ a .beyond }
+
+-- from a later place on
+pub kept-weaken : (k m : ℕ) (S S′ : List ℕ) → k ≤ m → Kept k S S′ → Kept m S S′
+kept-weaken k m S S′ h a =
+    let place : m ≡ k + (m - k) = omega arith in
+    record {
+      size = a .size;
+      beyond = ap (λ p. drop p S′) place ∙ sym (drop-drop (m - k) k S′) ∙ ap (drop (m - k)) (a .beyond) ∙ drop-drop (m - k) k S ∙ ap (λ p. drop p S) (sym place);
+    }
+
+-- a store that ends before the place
+pub kept-splice : (k : ℕ) (S : List ℕ) (at : ℕ) (new : List ℕ) → at + length new ≤ k → Kept k S (splice S at new)
+kept-splice k S at new h = record {
+  size = length-splice S at new;
+  beyond =
+      ext-getD 0 (drop k (splice S at new)) (drop k S) (length-drop k (splice S at new) ∙ ap (λ n. n - k) (length-splice S at new) ∙ sym (length-drop k S))
+      (λ i l. getD-drop k (splice S at new) i 0 ∙ getD-splice-after S at new (k + i) 0 (omega arith) ∙ sym (getD-drop k S i 0));
+}
+
+-- one more such store
+pub kept-stored : (k : ℕ) (S S′ S″ : List ℕ) (at : ℕ) (new : List ℕ) → Kept k S S′ → S″ ≡ splice S′ at new → at + length new ≤ k → Kept k S S″
+kept-stored k S S′ S″ at new a e h = record {
+  size = ap length e ∙ length-splice S′ at new ∙ a .size;
+  beyond = ap (drop k) e ∙ kept-splice k S′ at new h .beyond ∙ a .beyond;
+}
+
+-- the words before the place set to zero
+pub kept-clear : (need : ℕ) (S S′ : List ℕ) → Kept need S S′ → need ≤ length S → splice S′ 0 (replicate need 0) ≡ zeroed need S
+kept-clear need S S′ a h =
+    let size : 0 + length (replicate {A = ℕ} need 0) ≡ need = omega (arith, length-replicate {A = ℕ} need 0) in
+    splice-eq S′ 0 (replicate need 0) (omega (arith, a .size))
+    ∙ ap (λ n. replicate need 0 ++ drop n S′) size
+    ∙ ap (λ l. replicate need 0 ++ l) (a .beyond)

@@ -1,0 +1,5 @@
+pub mod Kept
+pub mod Holds
+pub mod Aggregated
+pub mod Ready
+mod Steps

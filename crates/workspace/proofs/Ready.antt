@@ -1,0 +1,178 @@
+-- What a ready call's parameters, slices and regions are: sizes, places and bounds.
+use mathlib.Core.Path.{_≡_, ap, _∙_}
+use mathlib.Core.List.{List}
+use Prim.Native.Nat.{ℕ, _+_, _*_, _≤_, _<_}
+use native.Mathlib.Omega.{arith}
+use lib.ListN.{length}
+use Rattle.lists.proofs.Table.{length-table}
+use Rattle.protocol.specs.Parameters.{parameters, T}
+use Rattle.protocol.specs.Layout.{scratch-need}
+use Rattle.protocol.specs.Views.{public}
+use Rattle.protocol.specs.Formulas.{rows, triangle, a″, φ″, a-sum, φ-sum}
+use Rattle.lists.specs.Table.{table, cat}
+use Rattle.protocol.proofs.Flat.{length-flat, length-rows, length-triangle}
+use Rattle.protocol.proofs.Region.{length-lists}
+use Rattle.regions.specs.declared.Regions.{Regions}
+use Rattle.regions.proofs.Need.{regions-fit}
+use Rattle.relation.specs.declared.env_params.EnvironmentParameters.{EnvironmentParameters}
+use Rattle.relation.specs.Parameters.{parametersOf}
+use Rattle.sizes.specs.Sizes.{Sized}
+use Rattle.sizes.proofs.Sized.{sized}
+use Rattle.aggregate.proofs.Laws.{job-at, randomness-at}
+use Rattle.workspace.specs.Ready.{Ready, Drawn}
+use Rattle.workspace.specs.Aggregated.{a″-words, φ″-words, φ-words, a-words, c-words}
+
+-- the first sections of those that lie within the randomness
+pub drawn-fewer : (k m : ℕ) (J R : List ℕ) → m ≤ k → Drawn k J R → Drawn m J R
+drawn-fewer k m J R h d i l = d i (omega arith)
+
+-- how many words the regions have
+module _ (J R : List ℕ) where
+  -- φ''
+  pub length-φ″ : length (φ″-words J R) ≡ 64 * (parameters J .L * (parameters J .r * parameters J .n))
+  length-φ″ =
+      let P = parameters J in
+      length-flat (cat (P .L) (λ k. rows (P .r) (P .n) (φ″ (public J R) k)))
+      ∙ ap (λ n. 64 * n) (length-lists (P .L) (P .r * P .n) (λ k. rows (P .r) (P .n) (φ″ (public J R) k)) (λ k. length-rows (P .r) (φ″ (public J R) k) (P .n)))
+
+  -- a''
+  pub length-a″ : length (a″-words J R) ≡ 64 * (parameters J .L * T (parameters J))
+  length-a″ =
+      let P = parameters J in
+      length-flat (cat (P .L) (λ k. triangle (P .r) (a″ (public J R) k)))
+      ∙ ap (λ n. 64 * n) (length-lists (P .L) (T P) (λ k. triangle (P .r) (a″ (public J R) k)) (λ k. length-triangle (P .r) (a″ (public J R) k)))
+
+  -- φ
+  pub length-φ : length (φ-words J R) ≡ 64 * (parameters J .r * parameters J .n)
+  length-φ =
+      let P = parameters J in
+      length-flat (rows (P .r) (P .n) (φ-sum (public J R))) ∙ ap (λ n. 64 * n) (length-rows (P .r) (φ-sum (public J R)) (P .n))
+
+  -- a
+  pub length-a : length (a-words J R) ≡ 64 * T (parameters J)
+  length-a =
+      let P = parameters J in
+      length-flat (triangle (P .r) (a-sum (public J R))) ∙ ap (λ n. 64 * n) (length-triangle (P .r) (a-sum (public J R)))
+
+  -- the challenges
+  pub length-c : length (c-words J R) ≡ 64 * parameters J .r
+  length-c = length-flat (table (parameters J .r) (public J R .c)) ∙ ap (λ n. 64 * n) (length-table (parameters J .r) (public J R .c))
+
+module _ (J : List ℕ) (p : EnvironmentParameters) (q : Regions) (S : List ℕ) (h : Ready J p q S) where
+  -- the parameters can be reckoned with
+  pub ready-sized : Sized (parametersOf p)
+  ready-sized = sized J (parametersOf p) (h .sound) (h .same)
+
+  -- with a scratch of the same length
+  pub ready-changed : (S′ : List ℕ) → length S′ ≡ length S → Ready J p q S′
+  ready-changed S′ e = record { same = h .same; sound = h .sound; job = h .job; regions = h .regions; room = omega (arith, h .room) }
+
+  -- the last region ends within the length needed
+  pub regions-end : q .b2 + 64 * 16 ≤ scratch-need (parameters J)
+  regions-end = regions-fit (parameters J) q (h .sound .within .n .0) (h .regions)
+
+  -- φ'' ends where a'' starts
+  pub φ″-end : q .phi2 + 64 * (parameters J .L * (parameters J .r * parameters J .n)) ≤ q .a2
+  φ″-end = omega (arith, h .regions .a2)
+
+  -- a'' where φ does
+  pub a″-end : q .a2 + 64 * (parameters J .L * T (parameters J)) ≤ q .phi
+  a″-end = omega (arith, h .regions .phi)
+
+  -- φ where a does
+  pub φ-end : q .phi + 64 * (parameters J .r * parameters J .n) ≤ q .a
+  φ-end = omega (arith, h .regions .a)
+
+  -- a where g does
+  pub a-end : q .a + 64 * T (parameters J) ≤ q .g
+  a-end = omega (arith, h .regions .g)
+
+  -- g where the challenges do
+  pub g-end : q .g + 64 * T (parameters J) ≤ q .challenges
+  g-end = omega (arith, h .regions .challenges)
+
+  -- the challenges where t does
+  pub c-end : q .challenges + 64 * parameters J .r ≤ q .t
+  c-end = omega (arith, h .regions .t)
+
+  -- t where u does
+  pub t-end : q .t + 64 * (parameters J .r * parameters J .κ) ≤ q .u
+  t-end = omega (arith, h .regions .u)
+
+  -- u where b'' does
+  pub u-end : q .u + 64 * 16 ≤ q .b2
+  u-end = omega (arith, h .regions .b2)
+
+  -- b'' within the scratch
+  pub b″-end : q .b2 + 64 * 16 ≤ length S
+  b″-end = omega (arith, regions-end, h .room)
+
+  -- a' lies within the job
+  pub a′-within : job-at J 0 + 64 * (parameters J .l * T (parameters J)) ≤ length J
+  a′-within = h .job .inside 0 (omega arith)
+
+  -- φ'
+  pub φ′-within : job-at J 1 + 64 * (parameters J .l * parameters J .r * parameters J .n) ≤ length J
+  φ′-within = h .job .inside 1 (omega arith)
+
+  -- b0
+  pub b₀-within : job-at J 2 + parameters J .l ≤ length J
+  b₀-within = h .job .inside 2 (omega arith)
+
+  -- a of the ring constraints
+  pub a-within : job-at J 3 + 64 * (parameters J .K * T (parameters J)) ≤ length J
+  a-within = h .job .inside 3 (omega arith)
+
+  -- φ of the ring constraints
+  pub φ-within : job-at J 4 + 64 * (parameters J .K * parameters J .r * parameters J .n) ≤ length J
+  φ-within = h .job .inside 4 (omega arith)
+
+  -- b of the ring constraints
+  pub b-within : job-at J 5 + 64 * parameters J .K ≤ length J
+  b-within = h .job .inside 5 (omega arith)
+
+  -- A
+  pub A-within : job-at J 6 + 64 * (parameters J .κ * parameters J .n) ≤ length J
+  A-within = h .job .inside 6 (omega arith)
+
+  -- B
+  pub B-within : job-at J 7 + 64 * (parameters J .κ₁ * (parameters J .r * parameters J .κ * parameters J .t₁)) ≤ length J
+  B-within = h .job .inside 7 (omega arith)
+
+  -- C
+  pub C-within : job-at J 8 + 64 * (parameters J .κ₁ * (T (parameters J) * parameters J .t₂)) ≤ length J
+  C-within = h .job .inside 8 (omega arith)
+
+  -- D
+  pub D-within : job-at J 9 + 64 * (parameters J .κ₂ * (T (parameters J) * parameters J .t₁)) ≤ length J
+  D-within = h .job .inside 9 (omega arith)
+
+-- of the randomness's sections that are drawn
+module _ (m : ℕ) (J R : List ℕ) (d : Drawn m J R) where
+  -- the projection words lie within the randomness
+  pub Π-within : 0 < m → randomness-at J 0 + 16384 * parameters J .n * parameters J .r ≤ length R
+  Π-within h = d 0 h
+
+  -- psi
+  pub psi-within : 1 < m → randomness-at J 1 + parameters J .L * parameters J .l ≤ length R
+  psi-within h = d 1 h
+
+  -- omega
+  pub omega-within : 2 < m → randomness-at J 2 + parameters J .L * 256 ≤ length R
+  omega-within h = d 2 h
+
+  -- alpha
+  pub alpha-within : 3 < m → randomness-at J 3 + 64 * parameters J .K ≤ length R
+  alpha-within h = d 3 h
+
+  -- beta
+  pub beta-within : 4 < m → randomness-at J 4 + 64 * parameters J .L ≤ length R
+  beta-within h = d 4 h
+
+  -- the sign words
+  pub signs-within : 5 < m → randomness-at J 5 + 41 * parameters J .r ≤ length R
+  signs-within h = d 5 h
+
+  -- the shuffle words
+  pub shuffle-within : 6 < m → randomness-at J 6 + 63 * parameters J .r ≤ length R
+  shuffle-within h = d 6 h

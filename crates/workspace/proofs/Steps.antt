@@ -1,0 +1,233 @@
+-- What each step requires of the slices and what it stores, of the parameters and places that the code holds.
+use mathlib.Core.Path.{_≡_, sym, ap, subst, _∙_}
+use mathlib.Core.List.{List, _++_}
+use Prim.Native.Nat.{ℕ, _+_, _*_, _≤_, _<_, _^_}
+use native.Mathlib.Nat.{mul-le-mul}
+use native.Mathlib.Omega.{arith}
+use lib.ListN.{length}
+use Rattle.lists.specs.Table.{table, cat}
+use Rattle.lists.specs.Part.{part, splice}
+use Rattle.lists.proofs.Splice.{splice-append}
+use Rattle.definitions.specs.Ring.{element}
+use Rattle.definitions.specs.Challenge.{challenge}
+use Rattle.inner_product.specs.Run.{Run}
+use Rattle.protocol.specs.Parameters.{Parameters, parameters, T, triangular}
+use Rattle.protocol.specs.Layout.{start, job-sections, randomness-sections}
+use Rattle.protocol.specs.Views.{public}
+use Rattle.protocol.specs.Formulas.{flat, rows, a″, φ″}
+use Rattle.regions.specs.declared.Regions.{Regions}
+use Rattle.relation.specs.declared.env_params.EnvironmentParameters.{EnvironmentParameters}
+use Rattle.relation.specs.Parameters.{parametersOf}
+use Rattle.aggregate.specs.Weighed.{Grid, weighed, both, mixed}
+use Rattle.aggregate.proofs.Grid.{row-run}
+use Rattle.aggregate.proofs.Laws.{job-at, randomness-at}
+use Rattle.workspace.specs.Ready.{Ready, Drawn}
+use Rattle.workspace.specs.Holds.{Holds}
+use Rattle.workspace.specs.Aggregated.{a″-words, φ″-words, φ-words, a-words, c-words}
+use Rattle.workspace.proofs.Holds.{vectors-list-held, triangle-list-held}
+use Rattle.workspace.proofs.Aggregated.{a″-symmetric, φ″-formula, a″-formula, φ-formula, a-formula}
+use Rattle.workspace.proofs.Ready.{length-φ″, φ″-end, a″-end, φ-end, a-end, g-end, c-end, t-end, u-end, b″-end, a′-within, φ′-within, a-within, φ-within, Π-within, psi-within, omega-within, alpha-within, beta-within, signs-within, shuffle-within}
+
+-- few cells
+few-cells : (r : ℕ) → r ≤ 16 → triangular r ≤ 1024
+few-cells r h = omega (arith, mul-le-mul h h)
+
+-- what `aggregate` requires
+abbrev Aggregates : (J R S : List ℕ) (at width count alpha beta from number to : ℕ) → Type 0
+Aggregates J R S at width count alpha beta from number to =
+    Grid J at width count × Run R alpha 64 count × Run R beta 64 number × Grid S from width number × (from + 64 * (width * number) ≤ to) × (to + 64 * width ≤ length S)
+
+-- it holds by these bounds
+aggregates : (J R S : List ℕ) (at width count alpha beta from number to : ℕ) → length R < 2 ^ 61 → width ≤ 1024 → count ≤ 64 → number ≤ 8 → at + 64 * (width * count) ≤ length J
+    → alpha + 64 * count ≤ length R → beta + 64 * number ≤ length R → from + 64 * (width * number) ≤ to → to + 64 * width ≤ length S → Aggregates J R S at width count alpha beta from number to
+aggregates J R S at width count alpha beta from number to short w k l a x y f t = (
+  record { within = a; narrow = omega arith; few = omega arith },
+  row-run R alpha count x (omega arith) short,
+  row-run R beta number y (omega arith) short,
+  record { within = omega arith; narrow = omega arith; few = omega arith },
+  f,
+  t,
+)
+
+-- what `aggregate::phi_double_prime` stores
+abbrev φ″-of : (J R : List ℕ) → Parameters → (at pi psi om : ℕ) → List ℕ
+φ″-of J R Q at pi psi om = flat (cat (Q .L) (λ k. rows (Q .r) (Q .n) (both J at (Q .r) (Q .n) (Q .l) R pi (psi + k * Q .l) (om + k * 256))))
+
+-- what `aggregate::a_double_prime` stores
+abbrev a″-of : (J R : List ℕ) → Parameters → (cells at psi : ℕ) → List ℕ
+a″-of J R Q cells at psi = flat (rows (Q .L) cells (λ k. weighed J at cells (Q .l) R (psi + k * Q .l)))
+
+-- what `aggregate::aggregate` stores
+abbrev sum-of : (J R S : List ℕ) → Parameters → (width at alpha beta from : ℕ) → List ℕ
+sum-of J R S Q width at alpha beta from = flat (table width (λ c. mixed J (at + 64 * c) (64 * width) (Q .K) R alpha beta S (from + 64 * c) (64 * width) (Q .L)))
+
+-- what `challenges::generate_challenges` stores
+abbrev c-of : (R : List ℕ) → Parameters → (signs shuffle : ℕ) → List ℕ
+c-of R Q signs shuffle = flat (table (Q .r) (λ i. element (challenge (part R (signs + 41 * i) 41) (part R (shuffle + 63 * i) 63))))
+
+module _ (J R S : List ℕ) (p : EnvironmentParameters) (q : Regions) (h : Ready J p q S) where
+  abbrev P : Parameters
+  P = parameters J
+
+  -- a place in the job by the job's own parameters
+  in-job : (m at : ℕ) → at ≡ 30 + start (job-sections (parametersOf p)) m → at ≡ job-at J m
+  in-job m at e = e ∙ ap (λ Q. 30 + start (job-sections Q) m) (h .same)
+
+  -- a place in the randomness
+  in-randomness : (m at : ℕ) → at ≡ start (randomness-sections (parametersOf p)) m → at ≡ randomness-at J m
+  in-randomness m at e = e ∙ ap (λ Q. start (randomness-sections Q) m) (h .same)
+
+  -- the cells of a triangle
+  in-cells : (cells : ℕ) → cells ≡ triangular (p .multiplicity) → cells ≡ T P
+  in-cells cells e = e ∙ ap T (h .same)
+
+  -- what `phi_double_prime` requires
+  pub φ″-requires : (at pi psi om : ℕ) → Drawn 3 J R → at ≡ 30 + start (job-sections (parametersOf p)) 1 → pi ≡ start (randomness-sections (parametersOf p)) 0
+      → psi ≡ start (randomness-sections (parametersOf p)) 1 → om ≡ start (randomness-sections (parametersOf p)) 2
+      → Grid J at (p .multiplicity * p .rank) (p .«constraint_l»)
+      × (pi + p .multiplicity * 256 * (64 * p .rank) ≤ length R)
+      × (psi + p .«const_agg_length» * p .«constraint_l» ≤ length R)
+      × (om + p .«const_agg_length» * 256 ≤ length R)
+      × (q .phi2 + 64 * (p .«const_agg_length» * (p .multiplicity * p .rank)) ≤ length S)
+      × (p .multiplicity ≤ 64)
+      × (p .rank ≤ 64)
+  φ″-requires at pi psi om d a b c e =
+      let w = h .sound .within in
+      subst
+      (λ Q. Grid J at (Q .r * Q .n) (Q .l) × (pi + Q .r * 256 * (64 * Q .n) ≤ length R) × (psi + Q .L * Q .l ≤ length R) × (om + Q .L * 256 ≤ length R) × (q .phi2 + 64 * (Q .L * (Q .r * Q .n)) ≤ length S) × (Q .r ≤ 64) × (Q .n ≤ 64))
+      (sym (h .same)) (
+        record {
+          within = omega (arith, in-job 1 at a, φ′-within J p q S h);
+          narrow = omega (arith, mul-le-mul (w .r .1) (w .n .1));
+          few = omega (arith, w .l .1);
+        },
+        omega (arith, in-randomness 0 pi b, Π-within 3 J R d (omega arith)),
+        omega (arith, in-randomness 1 psi c, psi-within 3 J R d (omega arith)),
+        omega (arith, in-randomness 2 om e, omega-within 3 J R d (omega arith)),
+        omega (arith, φ″-end J p q S h, a″-end J p q S h, φ-end J p q S h, a-end J p q S h, g-end J p q S h, c-end J p q S h, t-end J p q S h, u-end J p q S h, b″-end J p q S h),
+        omega (arith, w .r .1),
+        w .n .1,
+      )
+
+  -- and what it stores
+  pub φ″-made : (at pi psi om : ℕ) → at ≡ 30 + start (job-sections (parametersOf p)) 1 → pi ≡ start (randomness-sections (parametersOf p)) 0
+      → psi ≡ start (randomness-sections (parametersOf p)) 1 → om ≡ start (randomness-sections (parametersOf p)) 2
+      → φ″-of J R (parametersOf p) at pi psi om ≡ φ″-words J R
+  φ″-made at pi psi om a b c e =
+      ap (λ Q. φ″-of J R Q at pi psi om) (h .same)
+      ∙ ap (λ x. φ″-of J R P x pi psi om) (in-job 1 at a)
+      ∙ ap (λ x. φ″-of J R P (job-at J 1) x psi om) (in-randomness 0 pi b)
+      ∙ ap (λ x. φ″-of J R P (job-at J 1) (randomness-at J 0) x om) (in-randomness 1 psi c)
+      ∙ ap (λ x. φ″-of J R P (job-at J 1) (randomness-at J 0) (randomness-at J 1) x) (in-randomness 2 om e)
+      ∙ φ″-formula J R
+
+  -- what `a_double_prime` requires
+  pub a″-requires : (cells at psi : ℕ) → Drawn 2 J R → cells ≡ triangular (p .multiplicity) → at ≡ 30 + start (job-sections (parametersOf p)) 0 → psi ≡ start (randomness-sections (parametersOf p)) 1
+      → Grid J at cells (p .«constraint_l») × (psi + p .«const_agg_length» * p .«constraint_l» ≤ length R) × (q .a2 + 64 * (p .«const_agg_length» * cells) ≤ length S)
+  a″-requires cells at psi d t a b =
+      let w = h .sound .within in
+      subst (λ n. Grid J at n (p .«constraint_l») × (psi + p .«const_agg_length» * p .«constraint_l» ≤ length R) × (q .a2 + 64 * (p .«const_agg_length» * n) ≤ length S)) (sym (in-cells cells t))
+      (subst (λ Q. Grid J at (T P) (Q .l) × (psi + Q .L * Q .l ≤ length R) × (q .a2 + 64 * (Q .L * T P) ≤ length S)) (sym (h .same)) (
+        record {
+          within = omega (arith, in-job 0 at a, a′-within J p q S h);
+          narrow = omega (arith, few-cells (P .r) (w .r .1));
+          few = omega (arith, w .l .1);
+        },
+        omega (arith, in-randomness 1 psi b, psi-within 2 J R d (omega arith)),
+        omega (arith, a″-end J p q S h, φ-end J p q S h, a-end J p q S h, g-end J p q S h, c-end J p q S h, t-end J p q S h, u-end J p q S h, b″-end J p q S h),
+      ))
+
+  -- and what it stores
+  pub a″-made : (cells at psi : ℕ) → cells ≡ triangular (p .multiplicity) → at ≡ 30 + start (job-sections (parametersOf p)) 0 → psi ≡ start (randomness-sections (parametersOf p)) 1
+      → a″-of J R (parametersOf p) cells at psi ≡ a″-words J R
+  a″-made cells at psi t a b =
+      ap (λ Q. a″-of J R Q cells at psi) (h .same)
+      ∙ ap (λ x. a″-of J R P x at psi) (in-cells cells t)
+      ∙ ap (λ x. a″-of J R P (T P) x psi) (in-job 0 at a)
+      ∙ ap (λ x. a″-of J R P (T P) (job-at J 0) x) (in-randomness 1 psi b)
+      ∙ a″-formula J R
+
+  -- φ'' and a'', stored one after the other
+  pub double-prime-made : (S′ S″ : List ℕ) → S′ ≡ splice S (q .phi2) (φ″-words J R) → S″ ≡ splice S′ (q .a2) (a″-words J R) → S″ ≡ splice S 0 (φ″-words J R ++ a″-words J R)
+  double-prime-made S′ S″ e f =
+      let place : q .a2 ≡ 0 + length (φ″-words J R) = omega (arith, length-φ″ J R, h .regions .first, h .regions .a2) in
+      f
+      ∙ ap (λ l. splice l (q .a2) (a″-words J R)) (e ∙ ap (λ x. splice S x (φ″-words J R)) (h .regions .first))
+      ∙ ap (λ x. splice (splice S 0 (φ″-words J R)) x (a″-words J R)) place
+      ∙ splice-append S 0 (φ″-words J R) (a″-words J R)
+
+  -- what `aggregate` requires for φ
+  pub φ-requires : (at alpha beta : ℕ) → Drawn 5 J R → length R < 2 ^ 61 → at ≡ 30 + start (job-sections (parametersOf p)) 4
+      → alpha ≡ start (randomness-sections (parametersOf p)) 3 → beta ≡ start (randomness-sections (parametersOf p)) 4
+      → Aggregates J R S at (p .multiplicity * p .rank) (p .«constraint_k») alpha beta (q .phi2) (p .«const_agg_length») (q .phi)
+  φ-requires at alpha beta d short a b c =
+      let w = h .sound .within in
+      subst (λ Q. Aggregates J R S at (Q .r * Q .n) (Q .K) alpha beta (q .phi2) (Q .L) (q .phi)) (sym (h .same))
+      (aggregates J R S at (P .r * P .n) (P .K) alpha beta (q .phi2) (P .L) (q .phi) short
+      (mul-le-mul (w .r .1) (w .n .1))
+      (w .K .1)
+      (h .sound .aggregated .1)
+      (omega (arith, in-job 4 at a, φ-within J p q S h))
+      (omega (arith, in-randomness 3 alpha b, alpha-within 5 J R d (omega arith)))
+      (omega (arith, in-randomness 4 beta c, beta-within 5 J R d (omega arith)))
+      (omega (arith, φ″-end J p q S h, a″-end J p q S h))
+      (omega (arith, φ-end J p q S h, a-end J p q S h, g-end J p q S h, c-end J p q S h, t-end J p q S h, u-end J p q S h, b″-end J p q S h)))
+
+  -- and what it stores
+  pub φ-made : (at alpha beta : ℕ) → Holds S (q .phi2) (φ″-words J R) → at ≡ 30 + start (job-sections (parametersOf p)) 4
+      → alpha ≡ start (randomness-sections (parametersOf p)) 3 → beta ≡ start (randomness-sections (parametersOf p)) 4
+      → sum-of J R S (parametersOf p) (p .multiplicity * p .rank) at alpha beta (q .phi2) ≡ φ-words J R
+  φ-made at alpha beta holds a b c =
+      ap (λ Q. sum-of J R S Q (Q .r * Q .n) at alpha beta (q .phi2)) (h .same)
+      ∙ ap (λ x. sum-of J R S P (P .r * P .n) x alpha beta (q .phi2)) (in-job 4 at a)
+      ∙ ap (λ x. sum-of J R S P (P .r * P .n) (job-at J 4) x beta (q .phi2)) (in-randomness 3 alpha b)
+      ∙ ap (λ x. sum-of J R S P (P .r * P .n) (job-at J 4) (randomness-at J 3) x (q .phi2)) (in-randomness 4 beta c)
+      ∙ φ-formula J R S (q .phi2) (vectors-list-held S (q .phi2) (P .L) (P .r) (P .n) (φ″ (public J R)) holds)
+
+  -- what `aggregate` requires for a
+  pub a-requires : (cells at alpha beta : ℕ) → Drawn 5 J R → length R < 2 ^ 61 → cells ≡ triangular (p .multiplicity) → at ≡ 30 + start (job-sections (parametersOf p)) 3
+      → alpha ≡ start (randomness-sections (parametersOf p)) 3 → beta ≡ start (randomness-sections (parametersOf p)) 4
+      → Aggregates J R S at cells (p .«constraint_k») alpha beta (q .a2) (p .«const_agg_length») (q .a)
+  a-requires cells at alpha beta d short t a b c =
+      let w = h .sound .within in
+      subst (λ n. Aggregates J R S at n (p .«constraint_k») alpha beta (q .a2) (p .«const_agg_length») (q .a)) (sym (in-cells cells t))
+      (subst (λ Q. Aggregates J R S at (T P) (Q .K) alpha beta (q .a2) (Q .L) (q .a)) (sym (h .same))
+      (aggregates J R S at (T P) (P .K) alpha beta (q .a2) (P .L) (q .a) short
+      (few-cells (P .r) (w .r .1))
+      (w .K .1)
+      (h .sound .aggregated .1)
+      (omega (arith, in-job 3 at a, a-within J p q S h))
+      (omega (arith, in-randomness 3 alpha b, alpha-within 5 J R d (omega arith)))
+      (omega (arith, in-randomness 4 beta c, beta-within 5 J R d (omega arith)))
+      (omega (arith, a″-end J p q S h, φ-end J p q S h))
+      (omega (arith, a-end J p q S h, g-end J p q S h, c-end J p q S h, t-end J p q S h, u-end J p q S h, b″-end J p q S h))))
+
+  -- and what it stores
+  pub a-made : (cells at alpha beta : ℕ) → Holds S (q .a2) (a″-words J R) → cells ≡ triangular (p .multiplicity) → at ≡ 30 + start (job-sections (parametersOf p)) 3
+      → alpha ≡ start (randomness-sections (parametersOf p)) 3 → beta ≡ start (randomness-sections (parametersOf p)) 4
+      → sum-of J R S (parametersOf p) cells at alpha beta (q .a2) ≡ a-words J R
+  a-made cells at alpha beta holds t a b c =
+      ap (λ Q. sum-of J R S Q cells at alpha beta (q .a2)) (h .same)
+      ∙ ap (λ x. sum-of J R S P x at alpha beta (q .a2)) (in-cells cells t)
+      ∙ ap (λ x. sum-of J R S P (T P) x alpha beta (q .a2)) (in-job 3 at a)
+      ∙ ap (λ x. sum-of J R S P (T P) (job-at J 3) x beta (q .a2)) (in-randomness 3 alpha b)
+      ∙ ap (λ x. sum-of J R S P (T P) (job-at J 3) (randomness-at J 3) x (q .a2)) (in-randomness 4 beta c)
+      ∙ a-formula J R S (q .a2) (triangle-list-held S (q .a2) (P .L) (P .r) (a″ (public J R)) (a″-symmetric J R) holds)
+
+  -- what `generate_challenges` requires
+  pub c-requires : (signs shuffle : ℕ) → Drawn 7 J R → signs ≡ start (randomness-sections (parametersOf p)) 5 → shuffle ≡ start (randomness-sections (parametersOf p)) 6
+      → (signs + 41 * p .multiplicity ≤ length R) × (shuffle + 63 * p .multiplicity ≤ length R) × (q .challenges + 64 * p .multiplicity ≤ length S)
+  c-requires signs shuffle d a b =
+      subst (λ Q. (signs + 41 * Q .r ≤ length R) × (shuffle + 63 * Q .r ≤ length R) × (q .challenges + 64 * Q .r ≤ length S)) (sym (h .same)) (
+        omega (arith, in-randomness 5 signs a, signs-within 7 J R d (omega arith)),
+        omega (arith, in-randomness 6 shuffle b, shuffle-within 7 J R d (omega arith)),
+        omega (arith, c-end J p q S h, t-end J p q S h, u-end J p q S h, b″-end J p q S h),
+      )
+
+  -- and what it stores
+  pub c-made : (signs shuffle : ℕ) → signs ≡ start (randomness-sections (parametersOf p)) 5 → shuffle ≡ start (randomness-sections (parametersOf p)) 6
+      → c-of R (parametersOf p) signs shuffle ≡ c-words J R
+  c-made signs shuffle a b =
+      ap (λ Q. c-of R Q signs shuffle) (h .same)
+      ∙ ap (λ x. c-of R P x shuffle) (in-randomness 5 signs a)
+      ∙ ap (λ x. c-of R P (randomness-at J 5) x) (in-randomness 6 shuffle b)

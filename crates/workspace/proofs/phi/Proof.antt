@@ -1,0 +1,39 @@
+-- `phi` meets its contract.
+use mathlib.Core.Path.{_∙_, ap}
+use native.Mathlib.Nat.{mul-le-mul}
+use native.Mathlib.Omega.{arith}
+use borrow.Author.Needs.{needs}
+use Rattle.lists.specs.Part.{splice}
+use Rattle.workspace.proofs.Ready.{ready-sized}
+use Rattle.workspace.proofs.Steps.{φ-requires, φ-made}
+use Rattle.workspace.proofs.phi.Statement.{statement}
+use Rattle.workspace.proofs.phi.Tie as tie
+
+of-job-requires : tie.Need-of-job-requires
+of-job-requires c κs = (ready-sized _ _ _ _ (c .before .before .before .pre .0), omega arith)
+
+mul-aggregate : tie.Need-mul-aggregate
+mul-aggregate c =
+    let w = ready-sized _ _ _ _ (c .before .before .before .before .before .pre .0) .within in
+    omega (arith, mul-le-mul (w .r .1) (w .n .1))
+
+of-randomness-requires : tie.Need-of-randomness-requires
+of-randomness-requires c κs = (ready-sized _ _ _ _ (c .before .before .before .before .before .pre .0), omega arith)
+
+of-randomness-requires-2 : tie.Need-of-randomness-requires-2
+of-randomness-requires-2 c κs = (ready-sized _ _ _ _ (c .before .before .before .before .before .before .pre .0), omega arith)
+
+aggregate-requires : tie.Need-aggregate-requires
+aggregate-requires c κs =
+    let s = c .before .before .before .before .before .before .before .before in
+    φ-requires (s .args .job .now) (s .args .randomness .now) (s .args .scratch .now) (s .args .p) (s .args .q) (s .pre .0) _ _ _ (s .pre .1) (omega arith) (c .before .before .before .before .of-job .ensures) (c .before .before .of-randomness .ensures) (c .before .of-randomness2 .ensures)
+
+returns : tie.Need-returns
+returns c =
+    let s = c .before .before .before .before .before .before .before .before .before .before .before in
+    c .before .before .aggregate .ensures
+    ∙ ap (splice (s .args .scratch .now) (s .args .q .phi))
+    (φ-made (s .args .job .now) (s .args .randomness .now) (s .args .scratch .now) (s .args .p) (s .args .q) (s .pre .0) _ _ _ (s .pre .2) (c .before .before .before .before .before .before .before .of-job .ensures) (c .before .before .before .before .before .of-randomness .ensures) (c .before .before .before .before .of-randomness2 .ensures))
+
+pub phi-spec : {M : Type 1} → statement M
+phi-spec = tie.close (tie.spec of-job-requires mul-aggregate of-randomness-requires of-randomness-requires-2 aggregate-requires (λ c. search needs) returns)

@@ -1,0 +1,28 @@
+-- The words of the aggregated constraints and of the challenges, as their regions hold them.
+use mathlib.Core.List.{List}
+use Prim.Native.Nat.{ℕ}
+use Rattle.lists.specs.Table.{table, cat}
+use Rattle.protocol.specs.Parameters.{parameters}
+use Rattle.protocol.specs.Views.{public}
+use Rattle.protocol.specs.Formulas.{flat, rows, triangle, a″, φ″, a-sum, φ-sum}
+
+module _ (J R : List ℕ) where
+  -- a''_k, one triangle after the other
+  abbrev pub a″-words : List ℕ
+  a″-words = flat (cat (parameters J .L) (λ k. triangle (parameters J .r) (a″ (public J R) k)))
+
+  -- φ''_k, the r vectors of one k after the other's
+  abbrev pub φ″-words : List ℕ
+  φ″-words = flat (cat (parameters J .L) (λ k. rows (parameters J .r) (parameters J .n) (φ″ (public J R) k)))
+
+  -- φ, r vectors
+  abbrev pub φ-words : List ℕ
+  φ-words = flat (rows (parameters J .r) (parameters J .n) (φ-sum (public J R)))
+
+  -- a, a triangle
+  abbrev pub a-words : List ℕ
+  a-words = flat (triangle (parameters J .r) (a-sum (public J R)))
+
+  -- the challenges
+  abbrev pub c-words : List ℕ
+  c-words = flat (table (parameters J .r) (public J R .c))

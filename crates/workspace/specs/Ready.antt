@@ -1,0 +1,26 @@
+-- What the steps of a call's work stand on.
+use mathlib.Core.Path.{_≡_}
+use mathlib.Core.List.{List}
+use Prim.Native.Nat.{ℕ, _+_, _≤_, _<_}
+use lib.ListN.{length}
+use Rattle.protocol.specs.Parameters.{parameters}
+use Rattle.protocol.specs.Layout.{start, job-sections, randomness-sections, scratch-need}
+use Rattle.layout.specs.Laid.{nth}
+use Rattle.layout.specs.Laid as Sections
+use Rattle.regions.specs.declared.Regions.{Regions}
+use Rattle.regions.specs.Laid as Places
+use Rattle.relation.specs.declared.env_params.EnvironmentParameters.{EnvironmentParameters}
+use Rattle.relation.specs.Parameters.{parametersOf}
+use Rattle.relation.specs.SectionOne.{Sound}
+
+-- a job that is refused nothing, its parameters, and a scratch of the length needed with the places of its regions
+pub record Ready (J : List ℕ) (p : EnvironmentParameters) (q : Regions) (scratch : List ℕ) : Type 0 where
+  pub same : parametersOf p ≡ parameters J
+  pub sound : Sound J
+  pub job : Sections.Laid J 30 (job-sections (parameters J))
+  pub regions : Places.Laid (parameters J .n) (parameters J .r) (parameters J .κ) (parameters J .L) q
+  pub room : scratch-need (parameters J) ≤ length scratch
+
+-- the first m sections of the randomness lie within it
+abbrev pub Drawn : ℕ → List ℕ → List ℕ → Type 0
+Drawn m J R = let ss = randomness-sections (parameters J) in (k : ℕ) → k < m → start ss k + nth ss k .count ≤ length R

@@ -1,0 +1,148 @@
+// The aggregated constraints and the challenges in the lent scratch, as the prover and the verifier both need them. Each step is handed the call's
+// slices whole, with the parameters and the places of the regions.
+use aggregate;
+use challenges;
+use regions::Regions;
+use relation::env_params::EnvironmentParameters;
+use sizes::offsets;
+ghost use mathlib.Core.Path.{_≡_};
+ghost use mathlib.Core.List.{_++_};
+ghost use Rattle.lists.specs.Part.{splice};
+ghost use Rattle.workspace.specs.Ready.{Ready, Drawn};
+ghost use Rattle.workspace.specs.Holds.{Holds};
+ghost use Rattle.workspace.specs.Aggregated.{a″-words, φ″-words, φ-words, a-words, c-words};
+
+// "φ''_k,i = Σ psi[k][l]·φ'_l,i + Σ omega[k][j]·conj(row j of Π_i)"
+pub fn phi_double_prime(
+    job: &[u32],
+    randomness: &[u32],
+    p: EnvironmentParameters,
+    q: Regions,
+    scratch: &mut [u32],
+)
+    requires { ⌜ Ready (now job) p q (now scratch) × Drawn 3 (now job) (now randomness) ⌝ }
+    ensures { λ _. ⌜ now (scratch .exit) ≡ splice (now (scratch .entry)) (q .phi2) (φ″-words (now (job .entry)) (now (randomness .entry))) ⌝ }
+{
+    aggregate::phi_double_prime(
+        job,
+        offsets::of_job(p, 1),
+        p.multiplicity,
+        p.rank,
+        p.constraint_l,
+        randomness,
+        offsets::of_randomness(p, 0),
+        offsets::of_randomness(p, 1),
+        offsets::of_randomness(p, 2),
+        p.const_agg_length,
+        scratch,
+        q.phi2,
+    );
+}
+
+// "a''_k = Σ psi[k][l]·a'_l"
+pub fn a_double_prime(
+    job: &[u32],
+    randomness: &[u32],
+    p: EnvironmentParameters,
+    q: Regions,
+    scratch: &mut [u32],
+)
+    requires { ⌜ Ready (now job) p q (now scratch) × Drawn 2 (now job) (now randomness) ⌝ }
+    ensures { λ _. ⌜ now (scratch .exit) ≡ splice (now (scratch .entry)) (q .a2) (a″-words (now (job .entry)) (now (randomness .entry))) ⌝ }
+{
+    let cells = sizes::slices::triangle(p.multiplicity);
+    aggregate::a_double_prime(
+        job,
+        offsets::of_job(p, 0),
+        cells,
+        p.constraint_l,
+        randomness,
+        offsets::of_randomness(p, 1),
+        p.const_agg_length,
+        scratch,
+        q.a2,
+    );
+}
+
+// φ'' and a'', whose regions are the first two.
+pub fn double_prime(
+    job: &[u32],
+    randomness: &[u32],
+    p: EnvironmentParameters,
+    q: Regions,
+    scratch: &mut [u32],
+)
+    requires { ⌜ Ready (now job) p q (now scratch) × Drawn 3 (now job) (now randomness) ⌝ }
+    ensures { λ _. ⌜ now (scratch .exit) ≡ splice (now (scratch .entry)) 0 (φ″-words (now (job .entry)) (now (randomness .entry)) ++ a″-words (now (job .entry)) (now (randomness .entry))) ⌝ }
+{
+    phi_double_prime(job, randomness, p, q, scratch);
+    a_double_prime(job, randomness, p, q, scratch);
+}
+
+// φ of the ring constraints and of the φ'' in its region: "Alpha weighs the ring constraints and beta the doubled-prime ones into a, φ, b."
+pub fn phi(
+    job: &[u32],
+    randomness: &[u32],
+    p: EnvironmentParameters,
+    q: Regions,
+    scratch: &mut [u32],
+)
+    requires { ⌜ Ready (now job) p q (now scratch) × Drawn 5 (now job) (now randomness) × Holds (now scratch) (q .phi2) (φ″-words (now job) (now randomness)) ⌝ }
+    ensures { λ _. ⌜ now (scratch .exit) ≡ splice (now (scratch .entry)) (q .phi) (φ-words (now (job .entry)) (now (randomness .entry))) ⌝ }
+{
+    aggregate::aggregate(
+        job,
+        offsets::of_job(p, 4),
+        p.multiplicity * p.rank,
+        p.constraint_k,
+        randomness,
+        offsets::of_randomness(p, 3),
+        offsets::of_randomness(p, 4),
+        scratch,
+        q.phi2,
+        p.const_agg_length,
+        q.phi,
+    );
+}
+
+// a of the ring constraints and of the a'' in its region.
+pub fn a(job: &[u32], randomness: &[u32], p: EnvironmentParameters, q: Regions, scratch: &mut [u32])
+    requires { ⌜ Ready (now job) p q (now scratch) × Drawn 5 (now job) (now randomness) × Holds (now scratch) (q .a2) (a″-words (now job) (now randomness)) ⌝ }
+    ensures { λ _. ⌜ now (scratch .exit) ≡ splice (now (scratch .entry)) (q .a) (a-words (now (job .entry)) (now (randomness .entry))) ⌝ }
+{
+    let cells = sizes::slices::triangle(p.multiplicity);
+    aggregate::aggregate(
+        job,
+        offsets::of_job(p, 3),
+        cells,
+        p.constraint_k,
+        randomness,
+        offsets::of_randomness(p, 3),
+        offsets::of_randomness(p, 4),
+        scratch,
+        q.a2,
+        p.const_agg_length,
+        q.a,
+    );
+}
+
+// The challenges c_i.
+pub fn generate_challenges(
+    job: &[u32],
+    randomness: &[u32],
+    p: EnvironmentParameters,
+    q: Regions,
+    scratch: &mut [u32],
+)
+    requires { ⌜ Ready (now job) p q (now scratch) × Drawn 7 (now job) (now randomness) ⌝ }
+    ensures { λ _. ⌜ now (scratch .exit) ≡ splice (now (scratch .entry)) (q .challenges) (c-words (now (job .entry)) (now (randomness .entry))) ⌝ }
+{
+    challenges::generate_challenges(
+        randomness,
+        offsets::of_randomness(p, 5),
+        offsets::of_randomness(p, 6),
+        p.multiplicity,
+        scratch,
+        q.challenges,
+    );
+}
