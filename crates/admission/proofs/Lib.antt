@@ -2,3 +2,4 @@ mod Stages
 mod Found
 mod Refusals
 pub mod Ready
+pub mod Fit

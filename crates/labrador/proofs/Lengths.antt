@@ -1,64 +1,37 @@
 -- The length that a job's call needs, of what is found of the job.
-use mathlib.Core.Path.{_≡_, refl, sym, ap, subst, _∙_}
+use mathlib.Core.Path.{_≡_, refl, sym, ap, _∙_}
 use mathlib.Core.List.{List}
 use Prim.Native.Nat.{ℕ}
 use Rattle.definitions.specs.declared.answers.Refusal.{Refusal}
 use Rattle.definitions.specs.declared.answers.Refusal.the-variants as R
-use Rattle.definitions.specs.Answer.{Answer, fine, result, ofRefusal, number, place}
+use Rattle.definitions.specs.Answer.{result, ofRefusal, number, place}
 use Rattle.protocol.specs.Parameters.{Parameters, parameters}
 use Rattle.protocol.specs.Layout.{job-refusal}
 use Rattle.relation.specs.declared.env_params.EnvironmentParameters.{EnvironmentParameters}
 use Rattle.relation.specs.Parameters.{parametersOf}
-use Rattle.sizes.specs.Sizes.{Sized}
 use Rattle.admission.specs.declared.answers.Admitted.{Admitted}
 use Rattle.admission.specs.declared.answers.Admitted.the-variants as A
 use Rattle.admission.specs.Admission.{ofAdmitted, At}
-use Rattle.admission.proofs.Ready.{job-sized}
+use Rattle.admission.proofs.Fit.{refusal-none, fit-same}
 use Rattle.labrador.specs.declared.verdicts.LabradorAnswer.{LabradorAnswer}
 use Rattle.labrador.specs.declared.verdicts.LabradorNeed.{LabradorNeed}
 use Rattle.labrador.specs.declared.verdicts.LabradorVerdict.{LabradorVerdict}
 use Rattle.labrador.specs.Calls.{labradorAnswer, labradorNeed, labradorVerdict}
 
--- a refusal's result is none
-refusal-none : (r : Refusal) (need : ℕ) → 0 ≡ result (ofRefusal r) need 0
-refusal-none (R.ScratchTooShort p) need = refl
-refusal-none (R.OutputTooShort p) need = refl
-refusal-none (R.JobLayout p) need = refl
-refusal-none (R.ParameterOutOfLimits p) need = refl
-refusal-none (R.KappaIsNotL p) need = refl
-refusal-none (R.JobWord p) need = refl
-refusal-none (R.RandomnessLayout p) need = refl
-refusal-none (R.RandomnessWord p) need = refl
-refusal-none (R.TranscriptLayout p) need = refl
-refusal-none (R.TranscriptWord p) need = refl
-refusal-none (R.WitnessLayout p) need = refl
-refusal-none (R.WitnessWord p) need = refl
-refusal-none (R.WitnessNorm p) need = refl
-refusal-none R.DigitsOfT need = refl
-refusal-none R.DigitsOfG need = refl
-refusal-none R.DigitsOfH need = refl
-
 module _ (J : List ℕ) (x : Admitted) where
   -- the parameters of a job that is refused nothing
   module _ (p : EnvironmentParameters) (e : ofAdmitted x ≡ job-refusal J) (at : At x (λ p. parametersOf p ≡ parameters J)) (is : x ≡ A.Fit p) where
-    same : parametersOf p ≡ parameters J
-    same = subst (λ y. At y (λ p. parametersOf p ≡ parameters J)) is at
-
-    -- are within their limits
-    pub fit-sized : Sized (parametersOf p)
-    fit-sized = job-sized J (parametersOf p) (sym (ap ofAdmitted is) ∙ e) same
-
-    -- and give the length
+    -- give the length
     pub need-of : (need : Parameters → ℕ) {words : ℕ} → words ≡ need (parametersOf p) → record { number = 0; place = 0; words = words } ≡ labradorNeed (job-refusal J) (need (parameters J))
     need-of need h =
-        (λ i. record { number = 0; place = 0; words = (h ∙ ap need same) i })
+        (λ i. record { number = 0; place = 0; words = (h ∙ ap need (fit-same J x p e at is)) i })
         ∙ ap (λ a. labradorNeed a (need (parameters J))) (sym (ap ofAdmitted is) ∙ e)
 
   -- a job that is refused
   pub refused-need : (r : Refusal) (need : ℕ) {a : LabradorAnswer} → ofAdmitted x ≡ job-refusal J → x ≡ A.Refused r → a ≡ labradorAnswer (ofRefusal r)
       → record { number = a .number; place = a .place; words = 0 } ≡ labradorNeed (job-refusal J) need
   refused-need r need e is h =
-      (λ i. record { number = h i .number; place = h i .place; words = refusal-none r need i })
+      (λ i. record { number = h i .number; place = h i .place; words = refusal-none r need 0 i })
       ∙ ap (λ a. labradorNeed a need) (sym (ap ofAdmitted is) ∙ e)
 
 -- a refusal as a verdict

@@ -2,7 +2,8 @@
 use native.Mathlib.Omega.{arith}
 use borrow.Author.Needs.{needs}
 use Rattle.protocol.specs.Layout.{span, transcript-sections}
-use Rattle.labrador.proofs.Lengths.{fit-sized, need-of, refused-need}
+use Rattle.admission.proofs.Fit.{fit-sized}
+use Rattle.labrador.proofs.Lengths.{need-of, refused-need}
 use Rattle.labrador.proofs.needs.labrador_output_need.Statement.{statement}
 use Rattle.labrador.proofs.needs.labrador_output_need.Tie as tie
 

@@ -1,7 +1,8 @@
 -- `labrador_scratch_need` meets its contract.
 use borrow.Author.Needs.{needs}
 use Rattle.protocol.specs.Layout.{scratch-need}
-use Rattle.labrador.proofs.Lengths.{fit-sized, need-of, refused-need}
+use Rattle.admission.proofs.Fit.{fit-sized}
+use Rattle.labrador.proofs.Lengths.{need-of, refused-need}
 use Rattle.labrador.proofs.needs.labrador_scratch_need.Statement.{statement}
 use Rattle.labrador.proofs.needs.labrador_scratch_need.Tie as tie
 
