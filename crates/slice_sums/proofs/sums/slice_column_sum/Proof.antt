@@ -37,7 +37,8 @@ column-sum-requires c κs =
     let t = both (ltb (a .k) (a .width)) (c .before .before .before .before .sizes-within .result) (c .before .before .before .if1 .taken) in
     let w = limits (a .width) (a .r) 0 0 (c .before .before .before .before .sizes-within .ensures) (t .1) in
     let h = lengths (length (a .t .now)) (64 * (a .r * a .width)) (length (a .c .now)) (64 * a .r) (length (a .out .now)) 64 (c .before .before .lengths-are .ensures) (c .before .if2 .taken) in
-    (omega arith, omega arith, ltb-true (a .k) (a .width) (t .0), omega arith, omega arith)
+    let column = ltb-true (a .k) (a .width) (t .0) in
+    (omega arith, omega arith, omega arith, omega arith, omega arith)
 
 store-requires : tie.Need-store-requires
 store-requires c κs =
