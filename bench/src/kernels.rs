@@ -149,7 +149,7 @@ fn challenge(random: &mut Random) -> Kernel {
 /// A call of the slice layer, with base 256 where there are digits.
 fn slice(random: &mut Random, call: SliceCall, sizes: Vec<usize>) -> Kernel {
     let [first, second] = inputs(random, call, &sizes);
-    let operands = Operands::new(call, [&first, &second], &sizes, 256);
+    let operands = Operands::new(call, [&first, &second, &[]], &sizes, 256);
     let mut out = vec![0; lengths(call, &sizes).1];
     Kernel {
         calls: 1,

@@ -1,5 +1,5 @@
-//! Links the archives that LABRADOR_ARCHIVE and SLICE_CALLS_ARCHIVE name, and finds out whether the first has the calls on
-//! whole slices.
+//! Links the archives that LABRADOR_ARCHIVE, SLICE_CALLS_ARCHIVE and SLICE_SUMS_ARCHIVE name, and finds out whether the first
+//! has the calls on whole slices.
 
 use std::path::Path;
 
@@ -19,7 +19,8 @@ fn linked(variable: &str) -> Option<Vec<u8>> {
 
 fn main() {
     println!("cargo:rustc-check-cfg=cfg(leaf_calls, whole_calls, slice_calls)");
-    if linked("SLICE_CALLS_ARCHIVE").is_some() {
+    let slices = ["SLICE_CALLS_ARCHIVE", "SLICE_SUMS_ARCHIVE"].map(linked);
+    if slices.iter().all(Option::is_some) {
         println!("cargo:rustc-cfg=slice_calls");
     }
     let Some(bytes) = linked("LABRADOR_ARCHIVE") else {

@@ -50,7 +50,7 @@ pub fn triangle(words: &[u32], r: usize) -> RqMatrix {
     RqMatrix::new(rows.collect(), true)
 }
 
-fn triangles(words: &[u32], r: usize) -> Vec<RqMatrix> {
+pub fn triangles(words: &[u32], r: usize) -> Vec<RqMatrix> {
     words
         .chunks_exact(r * (r + 1) / 2 * Rq::DEGREE)
         .map(|chunk| triangle(chunk, r))

@@ -3,6 +3,7 @@
 use crate::instances::LOOSE;
 use crate::random::Random;
 use crate::rust::{elements, environment, triangle, vector_words, vectors, words};
+use crate::sums::{norm, Sum, NORM};
 use crate::tally::Tally;
 use labrador::commitments::ajtai_commitment::AjtaiScheme;
 use labrador::commitments::common_instances::AjtaiInstances;
@@ -22,10 +23,10 @@ use library::slices::{slice_call, SliceCall};
 use model::words::{Parameters, SHUFFLES, SIGNS};
 
 /// Heading of the tally.
-const SLICES: &str = "answers of the slice calls";
+pub const SLICES: &str = "answers of the slice calls";
 
 /// Words of an element.
-const D: usize = 64;
+pub const D: usize = 64;
 
 /// The lengths of a call's two inputs and of its output.
 pub fn lengths(call: SliceCall, sizes: &[usize]) -> ([usize; 2], usize) {
@@ -50,7 +51,41 @@ pub fn lengths(call: SliceCall, sizes: &[usize]) -> ([usize; 2], usize) {
         (SliceCall::Challenges, &[r]) => ([(SIGNS + SHUFFLES) * r, 0], D * r),
         (SliceCall::H, &[n, r]) => ([D * r * n, 0], D * r * n + D * r * (r + 1) / 2),
         (SliceCall::U2, &[rows, cells, parts]) => ([D * rows * cells * parts, D * cells], D * rows),
+        (SliceCall::SumOfProducts, &[r]) => ([cells(r), cells(r)], D),
+        (SliceCall::SumOfWeighted, &[r]) => ([cells(r), D * r], D),
+        (SliceCall::DiagonalSum, &[r]) => ([cells(r), 0], D),
+        (SliceCall::SumOfLines, &[r, n]) => ([D * r * n, D * (n + r)], D),
+        (SliceCall::ColumnSum, &[width, _, r]) => ([D * r * width, D * r], D),
+        (SliceCall::BConstraint, &[r, n]) => ([D * r * n, cells(r) + D * r * n], D),
+        (SliceCall::Mix, &[count, number]) => ([D * (count + number), D * (count + number)], D),
+        (SliceCall::ADoublePrime, &[r, count, number]) => ([cells(r) * count, number * count], cells(r) * number),
+        (SliceCall::AggregateA, &[r, count, number]) => {
+            ([cells(r) * count, D * (count + number)], cells(r) * (number + 1))
+        }
+        (SliceCall::AggregatePhi, &[r, n, count, number]) => {
+            ([D * r * n * count, D * (count + number)], D * r * n * (number + 1))
+        }
+        (SliceCall::BDoublePrime, &[r, n, number]) => (
+            [D * r * n, 0],
+            cells(r) * (number + 1) + D * r * n * number + D * number,
+        ),
         _ => panic!("the sizes of {}", call.name()),
+    }
+}
+
+/// Words of a triangle.
+fn cells(r: usize) -> usize {
+    D * r * (r + 1) / 2
+}
+
+/// How many words of the output are read, and left as they are.
+fn kept(call: SliceCall, sizes: &[usize]) -> usize {
+    match (call, sizes) {
+        (SliceCall::H, &[n, r]) => D * r * n,
+        (SliceCall::AggregateA, &[r, _, number]) => cells(r) * number,
+        (SliceCall::AggregatePhi, &[r, n, _, number]) => D * r * n * number,
+        (SliceCall::BDoublePrime, &[r, n, number]) => cells(r) * (number + 1) + D * r * n * number,
+        _ => 0,
     }
 }
 
@@ -60,7 +95,7 @@ pub fn u1_sizes(kappa1: usize, r: usize, kappa: usize, t1: usize, t2: usize) -> 
 }
 
 /// Rows of numbers, as the Rust has them.
-fn number_rows(words: &[u32], count: usize) -> Vec<Vec<Zq>> {
+pub fn number_rows(words: &[u32], count: usize) -> Vec<Vec<Zq>> {
     let row = |row: &[u32]| row.iter().map(|&w| Zq::new(w)).collect();
     words.chunks_exact(count).map(row).collect()
 }
@@ -71,7 +106,7 @@ fn projection(words: &[u32], n: usize, r: usize) -> Projection {
 }
 
 /// The parameters that the Rust's aggregation reads.
-fn phi_parameters(r: usize, n: usize, number: usize) -> EnvironmentParameters {
+pub fn phi_parameters(r: usize, n: usize, number: usize) -> EnvironmentParameters {
     let p = Parameters {
         n,
         r,
@@ -124,6 +159,7 @@ pub enum Operands {
         base: Zq,
         parts: usize,
     },
+    Sum(Sum),
 }
 
 /// A scheme that commits to everything.
@@ -159,8 +195,8 @@ impl Made {
 }
 
 impl Operands {
-    /// Of words that fit.
-    pub fn new(call: SliceCall, [first, second]: [&[u32]; 2], sizes: &[usize], base: u32) -> Self {
+    /// Of words that fit; the third are those that the output starts with.
+    pub fn new(call: SliceCall, [first, second, kept]: [&[u32]; 3], sizes: &[usize], base: u32) -> Self {
         match (call, sizes) {
             (SliceCall::InnerProduct, _) => Operands::InnerProduct(elements(first), elements(second)),
             (SliceCall::Projection, &[n, r]) => Operands::Projection(projection(first, n, r), vectors(second, n)),
@@ -202,8 +238,8 @@ impl Operands {
                 let (signs, shuffles) = first.split_at(SIGNS * r);
                 Operands::Challenges(Tape::new(vec![], signs.to_vec(), shuffles.to_vec()), r)
             }
-            // the second words are φ, which the output starts with
-            (SliceCall::H, &[n, _]) => Operands::H(vectors(first, n), vectors(second, n)),
+            // the output starts with φ
+            (SliceCall::H, &[n, _]) => Operands::H(vectors(first, n), vectors(kept, n)),
             (SliceCall::U2, &[_, cells, parts]) => Operands::U2 {
                 crs: AjtaiInstances {
                     commitment_scheme_a: no_scheme(),
@@ -215,7 +251,10 @@ impl Operands {
                 base: Zq::new(base),
                 parts,
             },
-            _ => panic!("the sizes of {}", call.name()),
+            _ => match Sum::new(call, [first, second, kept], sizes) {
+                Some(sum) => Operands::Sum(sum),
+                None => panic!("the sizes of {}", call.name()),
+            },
         }
     }
 
@@ -261,6 +300,7 @@ impl Operands {
                 let parts = DecompositionParameters::new(*base, *parts).expect("within limits");
                 Made::Vectors(vec![compute_u2(crs, h, parts)])
             }
+            Operands::Sum(sum) => sum.run(),
         }
     }
 }
@@ -296,7 +336,13 @@ fn take(tally: &mut Tally, random: &mut Random, call: SliceCall, sizes: &[usize]
     let made = inputs(random, call, sizes);
     let given = [&made[0][..], &made[1][..]];
     let (_, length) = lengths(call, sizes);
-    let before = random.numbers(length + GUARD);
+    let mut before = random.numbers(length + GUARD);
+    if let (SliceCall::BDoublePrime, &[r, n, number]) = (call, sizes) {
+        let g = Operands::new(SliceCall::G, [given[0], &[], &[]], &[n, r], base)
+            .run()
+            .words();
+        before[cells(r) * number..][..cells(r)].copy_from_slice(&g);
+    }
     let kind = match call {
         SliceCall::InnerProduct => "slice calls: inner product with the Rust's",
         SliceCall::Projection => "slice calls: p with the Rust's",
@@ -309,19 +355,25 @@ fn take(tally: &mut Tally, random: &mut Random, call: SliceCall, sizes: &[usize]
         SliceCall::LinearCombination => "slice calls: linear combination with the Rust's",
         SliceCall::Challenges => "slice calls: challenges with the Rust's",
         SliceCall::H => "slice calls: h with the Rust's",
+        SliceCall::SumOfProducts => "slice calls: sum of a g with the Rust's",
+        SliceCall::SumOfWeighted => "slice calls: sum of g c c with the Rust's",
+        SliceCall::DiagonalSum => "slice calls: sum of h_ii with the Rust's",
+        SliceCall::SumOfLines => "slice calls: sum of phi z c with the Rust's",
+        SliceCall::ColumnSum => "slice calls: sum of t c with the Rust's",
+        SliceCall::BConstraint => "slice calls: left side with the Rust's",
+        SliceCall::Mix => "slice calls: b with the Rust's",
+        SliceCall::ADoublePrime => "slice calls: a'' with the Rust's",
+        SliceCall::AggregateA => "slice calls: a with the Rust's",
+        SliceCall::AggregatePhi => "slice calls: phi with the Rust's",
+        SliceCall::BDoublePrime => "slice calls: b'' with the Rust's",
     };
     let Some(ours) = run(call, given, sizes, base, &before, length) else {
         return;
     };
-    let kept = match call {
-        SliceCall::H => &before[..given[0].len()],
-        _ => &[],
-    };
-    let read = match call {
-        SliceCall::H => [given[0], kept],
-        _ => given,
-    };
-    let done = Operands::new(call, read, sizes, base).run().words();
+    let kept = &before[..kept(call, sizes)];
+    let done = Operands::new(call, [given[0], given[1], kept], sizes, base)
+        .run()
+        .words();
     let expected = [kept, &done, &before[length..]].concat();
     let described = || format!("{} {sizes:?} base {base}", call.name());
     tally.compare(kind, &ours, &(true, expected), described);
@@ -330,8 +382,7 @@ fn take(tally: &mut Tally, random: &mut Random, call: SliceCall, sizes: &[usize]
     let refuse = |tally: &mut Tally, given: [&[u32]; 2], sizes: &[usize], base: u32, length: usize| {
         refused(tally, call, given, sizes, base, &before, length)
     };
-    let two = !matches!(call, SliceCall::G | SliceCall::H | SliceCall::Challenges);
-    for which in 0..1 + usize::from(two) {
+    for which in 0..1 + usize::from(!given[1].is_empty()) {
         let longer = [given[which], &[1]].concat();
         for other in [&longer[..], &given[which][1..]] {
             let mut given = given;
@@ -343,7 +394,11 @@ fn take(tally: &mut Tally, random: &mut Random, call: SliceCall, sizes: &[usize]
     refuse(tally, given, sizes, base, length - 1);
     for which in 0..sizes.len() {
         let mut sizes = sizes.to_vec();
-        sizes[which] += 1;
+        sizes[which] = match call {
+            // a column is refused from the row's end on
+            SliceCall::ColumnSum if which == 1 => sizes[0],
+            _ => sizes[which] + 1,
+        };
         refuse(tally, given, &sizes, base, length);
         sizes[which] = usize::MAX;
         refuse(tally, given, &sizes, base, length);
@@ -385,7 +440,7 @@ fn refused(
 }
 
 /// Sizes just above their limits, with slices of the lengths that they tell.
-const ABOVE: [(SliceCall, &[usize]); 26] = [
+const ABOVE: [(SliceCall, &[usize]); 49] = [
     (SliceCall::InnerProduct, &[65]),
     (SliceCall::Projection, &[65, 1]),
     (SliceCall::Projection, &[1, 17]),
@@ -412,6 +467,29 @@ const ABOVE: [(SliceCall, &[usize]); 26] = [
     (SliceCall::Challenges, &[17]),
     (SliceCall::H, &[65, 1]),
     (SliceCall::H, &[1, 17]),
+    (SliceCall::SumOfProducts, &[17]),
+    (SliceCall::SumOfWeighted, &[17]),
+    (SliceCall::DiagonalSum, &[17]),
+    (SliceCall::SumOfLines, &[17, 1]),
+    (SliceCall::SumOfLines, &[1, 65]),
+    (SliceCall::ColumnSum, &[65, 0, 1]),
+    (SliceCall::ColumnSum, &[1, 0, 17]),
+    (SliceCall::BConstraint, &[17, 1]),
+    (SliceCall::BConstraint, &[1, 65]),
+    (SliceCall::Mix, &[65, 1]),
+    (SliceCall::Mix, &[1, 9]),
+    (SliceCall::ADoublePrime, &[17, 1, 1]),
+    (SliceCall::ADoublePrime, &[1, 65, 1]),
+    (SliceCall::ADoublePrime, &[1, 1, 9]),
+    (SliceCall::AggregateA, &[1, 65, 1]),
+    (SliceCall::AggregateA, &[1, 1, 9]),
+    (SliceCall::AggregatePhi, &[17, 1, 1, 1]),
+    (SliceCall::AggregatePhi, &[1, 65, 1, 1]),
+    (SliceCall::AggregatePhi, &[1, 1, 65, 1]),
+    (SliceCall::AggregatePhi, &[1, 1, 1, 9]),
+    (SliceCall::BDoublePrime, &[17, 1, 1]),
+    (SliceCall::BDoublePrime, &[1, 65, 1]),
+    (SliceCall::BDoublePrime, &[1, 1, 9]),
 ];
 
 /// Each call on `count` random sizes beside the ends of their ranges.
@@ -423,6 +501,9 @@ pub fn all(tally: &mut Tally, random: &mut Random, count: usize) {
         for answer in ["done", "refused"] {
             tally.must_occur(SLICES, format!("{:<14} {answer}", call.name()));
         }
+    }
+    for answer in ["done", "refused"] {
+        tally.must_occur(SLICES, format!("{NORM:<14} {answer}"));
     }
     for (call, sizes) in ABOVE {
         let (given, length) = lengths(call, sizes);
@@ -451,6 +532,29 @@ pub fn all(tally: &mut Tally, random: &mut Random, count: usize) {
     take(tally, random, SliceCall::Challenges, &[16], 2);
     take(tally, random, SliceCall::H, &[1, 16], 2);
     take(tally, random, SliceCall::H, &[64, 1], 2);
+    for call in [
+        SliceCall::SumOfProducts,
+        SliceCall::SumOfWeighted,
+        SliceCall::DiagonalSum,
+    ] {
+        for r in [1, 2, 15, 16] {
+            take(tally, random, call, &[r], 2);
+        }
+    }
+    for (r, n) in [(16, 1), (1, 64), (3, 5)] {
+        take(tally, random, SliceCall::SumOfLines, &[r, n], 2);
+        take(tally, random, SliceCall::ColumnSum, &[n, n - 1, r], 2);
+        take(tally, random, SliceCall::BConstraint, &[r, n], 2);
+        take(tally, random, SliceCall::BDoublePrime, &[r, n, 8], 2);
+        take(tally, random, SliceCall::AggregatePhi, &[r, n, 64, 8], 2);
+    }
+    take(tally, random, SliceCall::Mix, &[64, 8], 2);
+    for r in [1, 15, 16] {
+        take(tally, random, SliceCall::ADoublePrime, &[r, 64, 8], 2);
+        take(tally, random, SliceCall::AggregateA, &[r, 3, 8], 2);
+    }
+    norm(tally, random, 256, 32, 2);
+    norm(tally, random, 1, 1, u32::MAX);
     for _ in 0..count {
         let n = 1 + random.below(64);
         take(tally, random, SliceCall::InnerProduct, &[n], 2);
@@ -474,5 +578,23 @@ pub fn all(tally: &mut Tally, random: &mut Random, count: usize) {
         take(tally, random, SliceCall::H, &[n, r], 2);
         take(tally, random, SliceCall::Challenges, &[r], 2);
         take(tally, random, SliceCall::Z, &[n, r], 2);
+        for call in [
+            SliceCall::SumOfProducts,
+            SliceCall::SumOfWeighted,
+            SliceCall::DiagonalSum,
+        ] {
+            take(tally, random, call, &[r], 2);
+        }
+        let (count, number) = (1 + random.below(8), 1 + random.below(8));
+        take(tally, random, SliceCall::SumOfLines, &[r, n], 2);
+        let k = random.below(n);
+        take(tally, random, SliceCall::ColumnSum, &[n, k, r], 2);
+        take(tally, random, SliceCall::BConstraint, &[r, n], 2);
+        take(tally, random, SliceCall::Mix, &[count, number], 2);
+        take(tally, random, SliceCall::ADoublePrime, &[r, count, number], 2);
+        take(tally, random, SliceCall::AggregateA, &[r, count, number], 2);
+        take(tally, random, SliceCall::AggregatePhi, &[r, n, count, number], 2);
+        take(tally, random, SliceCall::BDoublePrime, &[r, n, number], 2);
+        norm(tally, random, kappa, t1, base);
     }
 }
