@@ -2,3 +2,4 @@ pub mod Grid
 pub mod Sums
 pub mod Laws
 pub mod Formed
+pub mod Fours

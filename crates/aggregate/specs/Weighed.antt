@@ -8,7 +8,7 @@ use Rattle.inner_product.specs.Run.{run}
 use Rattle.jl.specs.Omega.{omega-element}
 use Rattle.protocol.specs.Parameters.{triangular}
 use Rattle.protocol.specs.Views.{element-at, cell}
-use Rattle.protocol.specs.Formulas.{_⊕_, _⊗_, sum, dot, pairs}
+use Rattle.protocol.specs.Formulas.{rows, _⊕_, _⊗_, sum, dot, pairs}
 
 -- so many constraints of so many elements each lie within the slice
 pub record Grid (words : List ℕ) (at width count : ℕ) : Type 0 where
@@ -23,6 +23,10 @@ column words at width c = run words (at + 64 * c) (64 * width)
 -- element c weighed by the numbers of a row
 unfoldable pub weighed : List ℕ → (at width count : ℕ) → List ℕ → ℕ → ℕ → Element
 weighed words at width count numbers row c = sum count (λ x. scale (column words at width c x) (getD numbers (row + x) 0))
+
+-- the omega part of the r vectors for k: their matrices start at the place `pi` of the randomness and the omega of k = 0 at the place `om`
+abbrev pub omega-rows : List ℕ → (pi om r n : ℕ) → ℕ → List Element
+omega-rows randomness pi om r n k = rows r n (λ i. omega-element randomness (pi + i * 256 * (64 * n)) (om + k * 256) n)
 
 -- element m of vector i of the omega part and the psi part together, for one row of psi and of omega
 unfoldable pub both : List ℕ → (at r n count : ℕ) → List ℕ → (pi psi om : ℕ) → ℕ → ℕ → Element

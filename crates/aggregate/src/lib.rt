@@ -1,6 +1,7 @@
 // The two aggregations (core/aggregate.rs). The constraints' cells or vectors stand one constraint after the other, `width` elements each; element c of
 // the result is weighed over the constraints' elements c.
 use inner_product;
+use jl::fours;
 use jl::omega;
 use rq::rq::Rq;
 use rq_matrix;
@@ -14,7 +15,7 @@ ghost use Rattle.inner_product.specs.Run.{Run, run};
 ghost use Rattle.jl.specs.Omega.{omega-element};
 ghost use Rattle.protocol.specs.Parameters.{triangular};
 ghost use Rattle.protocol.specs.Formulas.{flat, rows, _⊕_};
-ghost use Rattle.aggregate.specs.Weighed.{Grid, weighed, both, mixed, Formed, formed};
+ghost use Rattle.aggregate.specs.Weighed.{Grid, weighed, omega-rows, both, mixed, Formed, formed};
 
 // Weighed elements into a region: a'' for one row of psi.
 pub fn weigh(
@@ -95,6 +96,112 @@ pub fn omega_parts(
     }
 }
 
+// The omega part of φ'' for four k: vector after vector into four regions, one after the other.
+pub fn omega_parts_of_four(
+    randomness: &[u32],
+    pi_at: usize,
+    omega_at: usize,
+    r: usize,
+    n: usize,
+    out: &mut [u32],
+    to: usize,
+)
+    requires { ⌜ («pi_at» + r * 256 * (64 * n) ≤ length (now randomness)) × («omega_at» + 1024 ≤ length (now randomness)) × (to + 64 * (4 * (r * n)) ≤ length (now out)) × (r ≤ 64) × (n ≤ 64) ⌝ }
+    ensures { λ _. ⌜ now (out .exit) ≡ splice (now (out .entry)) to (flat (cat 4 (omega-rows (now (randomness .entry)) «pi_at» «omega_at» r n))) ⌝ }
+{
+    let step = 64 * (r * n);
+    let mut pi = pi_at;
+    let mut place = to;
+    let mut i = 0;
+    while i < r {
+        fours::omega_part(randomness, pi, omega_at, n, out, place, step);
+        pi += 16384 * n;
+        place += 64 * n;
+        i += 1;
+    }
+}
+
+// The omega part of φ'' for four k at a time, so many times: a region of r vectors for each k.
+pub fn omega_fours(
+    randomness: &[u32],
+    pi_at: usize,
+    omega_at: usize,
+    r: usize,
+    n: usize,
+    groups: usize,
+    out: &mut [u32],
+    to: usize,
+)
+    requires { ⌜ («pi_at» + r * 256 * (64 * n) ≤ length (now randomness)) × («omega_at» + groups * 1024 ≤ length (now randomness)) × (to + 64 * (4 * groups * (r * n)) ≤ length (now out)) × (r ≤ 64) × (n ≤ 64) ⌝ }
+    ensures { λ _. ⌜ now (out .exit) ≡ splice (now (out .entry)) to (flat (cat (4 * groups) (omega-rows (now (randomness .entry)) «pi_at» «omega_at» r n))) ⌝ }
+{
+    let width = r * n;
+    let mut weights = omega_at;
+    let mut place = to;
+    let mut g = 0;
+    while g < groups {
+        omega_parts_of_four(randomness, pi_at, weights, r, n, out, place);
+        weights += 1024;
+        place += 256 * width;
+        g += 1;
+    }
+}
+
+// The omega part of φ'' for so many k, one at a time: a region of r vectors for each k.
+pub fn omega_ones(
+    randomness: &[u32],
+    pi_at: usize,
+    omega_at: usize,
+    r: usize,
+    n: usize,
+    number: usize,
+    out: &mut [u32],
+    to: usize,
+)
+    requires { ⌜ («pi_at» + r * 256 * (64 * n) ≤ length (now randomness)) × («omega_at» + number * 256 ≤ length (now randomness)) × (to + 64 * (number * (r * n)) ≤ length (now out)) × (r ≤ 64) × (n ≤ 64) ⌝ }
+    ensures { λ _. ⌜ now (out .exit) ≡ splice (now (out .entry)) to (flat (cat number (omega-rows (now (randomness .entry)) «pi_at» «omega_at» r n))) ⌝ }
+{
+    let width = r * n;
+    let mut weights = omega_at;
+    let mut place = to;
+    let mut k = 0;
+    while k < number {
+        omega_parts(randomness, pi_at, weights, r, n, out, place);
+        weights += 256;
+        place += 64 * width;
+        k += 1;
+    }
+}
+
+// The omega part of φ'' for each k: four at a time, and those that are left one at a time.
+pub fn omega_all(
+    randomness: &[u32],
+    pi_at: usize,
+    omega_at: usize,
+    r: usize,
+    n: usize,
+    number: usize,
+    out: &mut [u32],
+    to: usize,
+)
+    requires { ⌜ («pi_at» + r * 256 * (64 * n) ≤ length (now randomness)) × («omega_at» + number * 256 ≤ length (now randomness)) × (to + 64 * (number * (r * n)) ≤ length (now out)) × (r ≤ 64) × (n ≤ 64) ⌝ }
+    ensures { λ _. ⌜ now (out .exit) ≡ splice (now (out .entry)) to (flat (cat number (omega-rows (now (randomness .entry)) «pi_at» «omega_at» r n))) ⌝ }
+{
+    let groups = number / 4;
+    let place = to + 64 * (4 * groups * (r * n));
+    omega_fours(randomness, pi_at, omega_at, r, n, groups, out, to);
+    omega_ones(
+        randomness,
+        pi_at,
+        omega_at + groups * 1024,
+        r,
+        n,
+        number % 4,
+        out,
+        place,
+    );
+}
+
 // The weighed elements added to those of a region: with the omega part there, φ'' for one row of psi.
 pub fn add_weighed(
     job: &[u32],
@@ -125,28 +232,33 @@ pub fn add_weighed(
     }
 }
 
-// φ'' for one row of psi and of omega: the omega part of each vector into a region, and the psi part added.
-pub fn phi_row(
+// The weighed elements for each row of psi added to those of a region for each: with the omega part there, φ''.
+pub fn add_weighed_rows(
     job: &[u32],
     at: usize,
-    r: usize,
-    n: usize,
+    width: usize,
     count: usize,
-    randomness: &[u32],
-    pi_at: usize,
-    psi_at: usize,
-    omega_at: usize,
+    numbers: &[u32],
+    row: usize,
+    number: usize,
     out: &mut [u32],
     to: usize,
 )
-    requires { ⌜ Grid (now job) at (r * n) count × («pi_at» + r * 256 * (64 * n) ≤ length (now randomness)) × («psi_at» + count ≤ length (now randomness)) × («omega_at» + 256 ≤ length (now randomness)) × (to + 64 * (r * n) ≤ length (now out)) × (r ≤ 64) × (n ≤ 64) ⌝ }
-    ensures { λ _. ⌜ now (out .exit) ≡ splice (now (out .entry)) to (flat (rows r n (both (now (job .entry)) at r n count (now (randomness .entry)) «pi_at» «psi_at» «omega_at»))) ⌝ }
+    requires { ⌜ Grid (now job) at width count × (row + number * count ≤ length (now numbers)) × (to + 64 * (number * width) ≤ length (now out)) ⌝ }
+    ensures { λ _. ⌜ now (out .exit) ≡ splice (now (out .entry)) to (flat (rows number width (λ k c. run (now (out .entry)) (to + 64 * (k * width)) 64 c ⊕ weighed (now (job .entry)) at width count (now (numbers .entry)) (row + k * count) c))) ⌝ }
 {
-    omega_parts(randomness, pi_at, omega_at, r, n, out, to);
-    add_weighed(job, at, r * n, count, randomness, psi_at, out, to);
+    let mut first = row;
+    let mut place = to;
+    let mut k = 0;
+    while k < number {
+        add_weighed(job, at, width, count, numbers, first, out, place);
+        first += count;
+        place += 64 * width;
+        k += 1;
+    }
 }
 
-// φ'' for each k: a region of r vectors for each row of psi and of omega.
+// φ'' for each k: a region of r vectors for each row of psi and of omega. The omega part of each vector is stored, and the psi part added.
 pub fn phi_double_prime(
     job: &[u32],
     at: usize,
@@ -164,30 +276,8 @@ pub fn phi_double_prime(
     requires { ⌜ Grid (now job) at (r * n) count × («pi_at» + r * 256 * (64 * n) ≤ length (now randomness)) × («psi_at» + number * count ≤ length (now randomness)) × («omega_at» + number * 256 ≤ length (now randomness)) × (to + 64 * (number * (r * n)) ≤ length (now out)) × (r ≤ 64) × (n ≤ 64) ⌝ }
     ensures { λ _. ⌜ now (out .exit) ≡ splice (now (out .entry)) to (flat (cat number (λ k. rows r n (both (now (job .entry)) at r n count (now (randomness .entry)) «pi_at» («psi_at» + k * count) («omega_at» + k * 256))))) ⌝ }
 {
-    let width = r * n;
-    let mut psi = psi_at;
-    let mut weights = omega_at;
-    let mut place = to;
-    let mut k = 0;
-    while k < number {
-        phi_row(
-            job,
-            at,
-            r,
-            n,
-            count,
-            randomness,
-            pi_at,
-            psi,
-            weights,
-            out,
-            place,
-        );
-        psi += count;
-        weights += 256;
-        place += 64 * width;
-        k += 1;
-    }
+    omega_all(randomness, pi_at, omega_at, r, n, number, out, to);
+    add_weighed_rows(job, at, r * n, count, randomness, psi_at, number, out, to);
 }
 
 // b'' for one k, of the triangles a''_k and g and the vectors φ''_k in the scratch and the witness's vectors.

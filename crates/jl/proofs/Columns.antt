@@ -37,7 +37,7 @@ taken : (x : ℕ) → 4294967296 ≤ x → (x - 4294967295) % 4294967295 ≡ x %
 taken x h = omega arith
 
 -- a carried sum is the sum modulo Q
-carried-mod : (a b : ℕ) → carried a b % Q ≡ (a + b) % Q
+pub carried-mod : (a b : ℕ) → carried a b % Q ≡ (a + b) % Q
 carried-mod a b = ltb-cases (λ t. cond t (a + b) (a + b - Q) % Q ≡ (a + b) % Q) (a + b) 4294967296 (λ l. refl) (λ l. taken (a + b) l)
 
 -- the sum of a column modulo Q
@@ -93,21 +93,19 @@ module _ (R : List ℕ) (pi om width : ℕ) where
       next : ℕ → ℕ
       next c = added R pi om width (getD l (at + c) 0) c (j + 1)
 
-module _ (R : List ℕ) (pi om n : ℕ) (h : (i : ℕ) → getD R i 0 ≤ Q) where
-  -- an element of sums is the sum of the rows' elements, each times its omega
-  columns : (m : ℕ) → element (table 64 (λ q. added R pi om (64 * n) 0 (64 * m + q) 256)) ≡ sum RqOps 256 (λ j. scale (row-element R (pi + j * (64 * n)) m) (getD R (om + j) 0))
+module _ (R : List ℕ) (pi om n : ℕ) where
+  -- an element of columns' sums modulo Q is the sum of the rows' elements, each times its omega
+  columns : (m : ℕ) (sums : ℕ → ℕ) → ((k : ℕ) → k < 64 → sums k % Q ≡ Σ 256 (λ j. entry (getD R (pi + j * (64 * n) + (64 * m + k)) 0) * getD R (om + j) 0) % Q)
+      → element (table 64 sums) ≡ sum RqOps 256 (λ j. scale (row-element R (pi + j * (64 * n)) m) (getD R (om + j) 0))
   unfolding scale
-  columns m = element-path (element (table 64 sums)) (sum RqOps 256 (λ j. scale (row j) (weight j))) (λ k l.
+  columns m sums h = element-path (element (table 64 sums)) (sum RqOps 256 (λ j. scale (row j) (weight j))) (λ k l.
       coefficient-table sums k l
-      ∙ residue-mod (sums k) (Σ 256 (λ j. entry-at j k * weight j)) (added-mod R pi om (64 * n) (64 * m + k) h 256)
+      ∙ residue-mod (sums k) (Σ 256 (λ j. entry-at j k * weight j)) (h k l)
       ∙ residue-products 256 (λ j. entry-at j k) weight
       ∙ sum-ext ZqOps 256 (λ j. ZqOps .mul (residue (entry-at j k)) (residue (weight j))) (λ j. coefficient (scale (row j) (weight j)) k)
       (λ j _. sym (coefficient-rscale (words (row j)) (weight j) k l ∙ ap (λ x. ZqOps .mul x (residue (weight j))) (coefficient-table (entry-at j) k l)))
       ∙ sym (coefficient-sum 256 (λ j. scale (row j) (weight j)) k l))
     where
-      sums : ℕ → ℕ
-      sums q = added R pi om (64 * n) 0 (64 * m + q) 256
-
       row : ℕ → Element
       row j = row-element R (pi + j * (64 * n)) m
 
@@ -118,16 +116,18 @@ module _ (R : List ℕ) (pi om n : ℕ) (h : (i : ℕ) → getD R i 0 ≤ Q) whe
       weight j = getD R (om + j) 0
 
   -- and conjugated the omega part's
-  conjugated-columns : (m : ℕ) → conj (element (table 64 (λ q. added R pi om (64 * n) 0 (64 * m + q) 256))) ≡ omega-element R pi om n m
+  pub conjugated-columns : (m : ℕ) (sums : ℕ → ℕ) → ((k : ℕ) → k < 64 → sums k % Q ≡ Σ 256 (λ j. entry (getD R (pi + j * (64 * n) + (64 * m + k)) 0) * getD R (om + j) 0) % Q)
+      → conj (element (table 64 sums)) ≡ omega-element R pi om n m
   unfolding omega-element
-  conjugated-columns m =
-      ap conj (columns m)
+  conjugated-columns m sums h =
+      ap conj (columns m sums h)
       ∙ conj-sum 256 (λ j. scale (row-element R (pi + j * (64 * n)) m) (getD R (om + j) 0))
       ∙ sum-ext RqOps 256
       (λ j. conj (scale (row-element R (pi + j * (64 * n)) m) (getD R (om + j) 0)))
       (λ j. scale (conj (row-element R (pi + j * (64 * n)) m)) (getD R (om + j) 0))
       (λ j _. conj-scale (row-element R (pi + j * (64 * n)) m) (getD R (om + j) 0))
 
+module _ (R : List ℕ) (pi om n : ℕ) (h : (i : ℕ) → getD R i 0 ≤ Q) where
   -- a region cleared, the rows added to it and its elements conjugated
   module _ (l cleared summed : List ℕ) (at : ℕ) (w : at + 64 * n ≤ length l) (is-cleared : cleared ≡ splice l at (replicate (64 * n) 0))
       (is-summed : summed ≡ splice cleared at (table (64 * n) (λ c. added R pi om (64 * n) (getD cleared (at + c) 0) c 256))) where
@@ -163,7 +163,7 @@ module _ (R : List ℕ) (pi om n : ℕ) (h : (i : ℕ) → getD R i 0 ≤ Q) whe
         ∙ is-table 64 (part (table (64 * n) sums) (64 * m) 64) (λ q. sums (64 * m + q)) 0
         (length-part (table (64 * n) sums) (64 * m) 64 (omega (arith, size)))
         (λ q k. getD-part 0 (table (64 * n) sums) (64 * m) 64 q k ∙ getD-table (64 * n) sums (64 * m + q) 0 (omega arith)))
-        ∙ conjugated-columns m
+        ∙ conjugated-columns R pi om n m (λ q. sums (64 * m + q)) (λ k l. added-mod R pi om (64 * n) (64 * m + k) h 256)
 
     pub omega-region : splice summed at (flat (table n (λ m. conj (element-at summed at m)))) ≡ splice l at (flat (table n (omega-element R pi om n)))
     omega-region =

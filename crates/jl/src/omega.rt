@@ -14,7 +14,7 @@ ghost use Rattle.jl.specs.Rows.{term};
 ghost use Rattle.jl.specs.Omega.{carried, added, omega-element};
 
 // The sum, less Q where it passes 32 bits.
-fn carry_add(a: u32, b: u32) -> u32
+pub fn carry_add(a: u32, b: u32) -> u32
     ensures { λ r. ⌜ r ≡ carried a b ⌝ }
 {
     let sum = std::num::wrapping_add_u32(a, b);
