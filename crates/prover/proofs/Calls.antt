@@ -1,10 +1,10 @@
 -- What the prover's calls make, refuse and leave in the buffers.
 use mathlib.Core.Path.{_≡_, refl, sym, ap, subst, _∙_}
-use mathlib.Core.Bool.{Bool, false, cond}
+use mathlib.Core.Bool.{false, cond}
 use mathlib.Core.List.{List, [], _∷_, _++_}
 use Prim.Native.Nat.{ℕ, zero, suc, _+_, _*_, _≤_, _<_}
 use native.Mathlib.Omega.{arith}
-use lib.ListN.{length, take, drop, replicate, length-replicate, length-take}
+use lib.ListN.{length, take, drop, replicate, length-replicate}
 use lib.Seq.{getD-take, length-take-le}
 use Rattle.lists.specs.Part.{splice}
 use Rattle.lists.proofs.Splice.{splice-eq, length-splice}
@@ -30,7 +30,7 @@ use Rattle.admission.specs.declared.calls.Call.the-variants as C
 use Rattle.admission.specs.declared.calls.Call as Code
 use Rattle.admission.specs.Admission.{Provable, callOf}
 use Rattle.admission.proofs.Stages.{stops-at}
-use Rattle.workspace.specs.Ready.{Ready, Drawn}
+use Rattle.workspace.specs.Ready.{Drawn}
 use Rattle.workspace.specs.Holds.{Kept}
 use Rattle.prover.specs.Words.{X, s, u₁-words, p-words, b″-words, u₂-words, z-words, t-words, g-words, h-words}
 use Rattle.prover.specs.Work.{Given, first-refusal}

@@ -8,7 +8,7 @@ use Rattle.lists.specs.Part.{splice}
 use Rattle.definitions.specs.declared.answers.Refusal.{Refusal}
 use Rattle.definitions.specs.declared.answers.Proved.{Proved}
 use Rattle.definitions.specs.declared.answers.Proved.the-variants as E
-use Rattle.definitions.specs.Answer.{fine, result, ofRefusal, ofProved}
+use Rattle.definitions.specs.Answer.{result, ofProved}
 use Rattle.protocol.specs.Parameters.{parameters}
 use Rattle.protocol.specs.Layout.{span, transcript-sections, scratch-need}
 use Rattle.protocol.specs.Prover.{made-sections, work-refusal, made, zeroed}

@@ -23,7 +23,6 @@ use Rattle.protocol.specs.Layout.{start, job-sections, witness-sections, scratc
 use Rattle.protocol.specs.Formulas as F
 use Rattle.protocol.specs.Formulas.{dot, flat, rows, triangle, norm-of}
 use Rattle.protocol.specs.Prover.{witness-norm, t-norm, g-norm, h-norm}
-use Rattle.protocol.proofs.Flat.{length-flat, length-rows, length-triangle}
 use Rattle.protocol.proofs.Then.{then-assoc}
 use Rattle.protocol.proofs.ReadBack.{g-symmetric, h-symmetric}
 use Rattle.rq_matrix.specs.Region.{vector, gram, Apart}
@@ -46,6 +45,7 @@ use Rattle.workspace.proofs.Aggregated.{a″-symmetric}
 use Rattle.workspace.proofs.Ready.{ready-changed, regions-end, A-within, φ″-end, a″-end, φ-end, a-end, g-end, c-end, t-end, u-end, b″-end}
 use Rattle.prover.specs.Words.{X, s, t-words, g-words, b″-words, h-words}
 use Rattle.prover.specs.Work.{Given, Where-made, first-refusal, Committed}
+use Rattle.prover.proofs.TranscriptSections.{length-t, length-g}
 
 -- the witness's words stand after their count
 witness-start : (P : Parameters) → start (witness-sections P) 0 ≡ 1
@@ -283,26 +283,16 @@ module _ (m : ℕ) (J R W : List ℕ) (p : EnvironmentParameters) (q : Regions) 
       ∙ ap (λ Q. leb (norm-of (digits-at S (digits (q .a) (T Q) (Q .t₁)) (Q .b))) (P .bound-D)) (h .ready .same))
       ∙ sym (h-norm-is J R S (q .a) (F.h (X J R W) (s J R W)) (triangle-held S (q .a) (P .r) (F.h (X J R W) (s J R W)) (h-symmetric (X J R W) (s J R W)) d))
 
-  -- the words of t, g and h
-  length-t : length (t-words J R W) ≡ 64 * (P .r * P .κ)
-  length-t = length-flat (rows (P .r) (P .κ) (F.t (X J R W) (s J R W))) ∙ ap (λ k. 64 * k) (length-rows (P .r) (F.t (X J R W) (s J R W)) (P .κ))
-
-  length-g : length (g-words J R W) ≡ 64 * T P
-  length-g = length-flat (triangle (P .r) (F.g (X J R W) (s J R W))) ∙ ap (λ k. 64 * k) (length-triangle (P .r) (F.g (X J R W) (s J R W)))
-
-  pub length-h : length (h-words J R W) ≡ 64 * T P
-  length-h = length-flat (triangle (P .r) (F.h (X J R W) (s J R W))) ∙ ap (λ k. 64 * k) (length-triangle (P .r) (F.h (X J R W) (s J R W)))
-
   -- a scratch into which t was stored
   module _ (S₁ : List ℕ) (e : S₁ ≡ splice S (q .t) (t-words J R W)) where
     pub given-t : Given m J R W p q S₁
     given-t = given-changed S₁ (ap length e ∙ length-splice S (q .t) (t-words J R W))
 
     pub held-t : Holds S₁ (q .t) (t-words J R W)
-    held-t = held-stored S S₁ (q .t) (t-words J R W) e (omega (arith, length-t, t-room, h .ready .room))
+    held-t = held-stored S S₁ (q .t) (t-words J R W) e (omega (arith, length-t J R W, t-room, h .ready .room))
 
     pub kept-t : Kept (scratch-need P) S S₁
-    kept-t = kept-stored (scratch-need P) S S S₁ (q .t) (t-words J R W) (kept-refl (scratch-need P) S) e (omega (arith, length-t, t-room))
+    kept-t = kept-stored (scratch-need P) S S S₁ (q .t) (t-words J R W) (kept-refl (scratch-need P) S) e (omega (arith, length-t J R W, t-room))
 
     -- and then g
     module _ (S₂ : List ℕ) (e′ : S₂ ≡ splice S₁ (q .g) (g-words J R W)) where
@@ -310,14 +300,14 @@ module _ (m : ℕ) (J R W : List ℕ) (p : EnvironmentParameters) (q : Regions) 
       given-g = given-changed S₂ (ap length e′ ∙ length-splice S₁ (q .g) (g-words J R W) ∙ ap length e ∙ length-splice S (q .t) (t-words J R W))
 
       pub held-g : Holds S₂ (q .g) (g-words J R W)
-      held-g = held-stored S₁ S₂ (q .g) (g-words J R W) e′ (omega (arith, length-g, g-room, h .ready .room, ap length e, length-splice S (q .t) (t-words J R W)))
+      held-g = held-stored S₁ S₂ (q .g) (g-words J R W) e′ (omega (arith, length-g J R W, g-room, h .ready .room, ap length e, length-splice S (q .t) (t-words J R W)))
 
       pub kept-g : Kept (scratch-need P) S S₂
-      kept-g = kept-stored (scratch-need P) S S₁ S₂ (q .g) (g-words J R W) kept-t e′ (omega (arith, length-g, g-room))
+      kept-g = kept-stored (scratch-need P) S S₁ S₂ (q .g) (g-words J R W) kept-t e′ (omega (arith, length-g J R W, g-room))
 
       pub committed : Committed J R W q S₂
       committed =
           record {
-            t = held-after S₁ S₂ (q .g) (g-words J R W) e′ (q .t) (t-words J R W) (omega (arith, length-g, g-end J p q S (h .ready), c-end J p q S (h .ready))) held-t;
+            t = held-after S₁ S₂ (q .g) (g-words J R W) e′ (q .t) (t-words J R W) (omega (arith, length-g J R W, g-end J p q S (h .ready), c-end J p q S (h .ready))) held-t;
             g = held-g;
           }

@@ -1,11 +1,10 @@
 -- What the scratch holds after each step of a round.
-use mathlib.Core.Path.{_≡_, sym, ap, subst, _∙_}
+use mathlib.Core.Path.{_≡_, sym, subst}
 use mathlib.Core.List.{List, _++_}
 use Prim.Native.Nat.{ℕ, _+_, _*_, _≤_}
 use native.Mathlib.Omega.{arith}
 use lib.ListN.{length, length-append}
 use Rattle.lists.specs.Part.{splice}
-use Rattle.lists.proofs.Splice.{length-splice}
 use Rattle.protocol.specs.Parameters.{Parameters, parameters, T}
 use Rattle.protocol.specs.Layout.{scratch-need}
 use Rattle.regions.specs.declared.Regions.{Regions}
@@ -71,10 +70,10 @@ module _ (m : ℕ) (J R W : List ℕ) (p : EnvironmentParameters) (q : Regions) 
     double-prime-held : Holds S′ 0 (φ″-words J R ++ a″-words J R)
     double-prime-held = held-stored S S′ 0 (φ″-words J R ++ a″-words J R) e (omega (arith, double-prime-end, g-below, c-below, t-below, b″-below, h .ready .room))
 
-    φ″-held : Holds S′ (q .phi2) (φ″-words J R)
+    pub φ″-held : Holds S′ (q .phi2) (φ″-words J R)
     φ″-held = subst (λ k. Holds S′ k (φ″-words J R)) (sym (h .ready .regions .first)) (holds-first S′ 0 (φ″-words J R) (a″-words J R) double-prime-held)
 
-    a″-held : Holds S′ (q .a2) (a″-words J R)
+    pub a″-held : Holds S′ (q .a2) (a″-words J R)
     a″-held = subst (λ k. Holds S′ k (a″-words J R)) (sym double-prime-place) (holds-second S′ 0 (φ″-words J R) (a″-words J R) double-prime-held)
 
     -- g stands as it did

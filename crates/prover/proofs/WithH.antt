@@ -1,5 +1,5 @@
 -- What the steps of `commit_with_h` find and leave in the scratch.
-use mathlib.Core.Path.{_≡_, refl, sym, ap, subst, _∙_}
+use mathlib.Core.Path.{_≡_, refl, sym, ap, _∙_}
 use mathlib.Core.List.{List, _++_}
 use Prim.Native.Nat.{ℕ, _+_, _≤_}
 use native.Mathlib.Omega.{arith}
@@ -19,12 +19,13 @@ use Rattle.relation.specs.declared.env_params.EnvironmentParameters.{Environmen
 use Rattle.workspace.specs.Ready.{Ready, Drawn}
 use Rattle.workspace.specs.Holds.{Holds, Kept}
 use Rattle.workspace.specs.Aggregated.{a″-words, φ″-words, φ-words}
-use Rattle.workspace.proofs.Holds.{holds-first, holds-second}
 use Rattle.workspace.proofs.Kept.{kept-stored}
 use Rattle.workspace.proofs.Ready.{drawn-fewer, ready-changed, φ″-end, a″-end, φ-end, a-end, g-end, c-end, length-φ″, length-a″, length-φ}
 use Rattle.prover.specs.Words.{X, s, t-words, g-words, h-words}
 use Rattle.prover.specs.Work.{Given, Where-made, first-refusal, Committed, Aggregated}
-use Rattle.prover.proofs.Commitments.{refused-then, made-then, from-made, held-stored, held-before, held-after, given-changed, a-room, length-h}
+use Rattle.prover.proofs.Commitments.{refused-then, made-then, from-made, held-stored, held-before, held-after, given-changed, a-room}
+use Rattle.prover.proofs.TranscriptSections.{length-h}
+use Rattle.prover.proofs.Scratch as Scratch
 
 -- the refusals with 16
 work-is : (J R W : List ℕ) → work-refusal (X J R W) round₄ (s J R W) ≡ first-refusal J R W then h-norm (X J R W) (F.h (X J R W) (s J R W))
@@ -49,7 +50,7 @@ module _ (J R W : List ℕ) (p : EnvironmentParameters) (q : Regions) (S : List 
 
   -- without the randomness
   pub given-none : Given 0 J R W p q S
-  given-none = record { ready = h .ready; drawn = drawn-fewer 5 0 J R (omega arith) (h .drawn); witness = h .witness }
+  given-none = Scratch.given-fewer J R W p q 5 0 S (omega arith) h
 
   -- where they end
   both-end : 0 + length both ≤ q .phi
@@ -59,13 +60,13 @@ module _ (J R W : List ℕ) (p : EnvironmentParameters) (q : Regions) (S : List 
   φ-stop = omega (arith, length-φ J R, φ-end J p q S (h .ready))
 
   a-stop : q .a + length (h-words J R W) ≤ q .g
-  a-stop = omega (arith, length-h 5 J R W p q S h, a-end J p q S (h .ready))
+  a-stop = omega (arith, length-h J R W, a-end J p q S (h .ready))
 
   g-first : q .g ≤ q .t
   g-first = omega (arith, g-end J p q S (h .ready), c-end J p q S (h .ready))
 
   h-room : q .a + length (h-words J R W) ≤ scratch-need P
-  h-room = omega (arith, length-h 5 J R W p q S h, a-room 5 J R W p q S h)
+  h-room = omega (arith, length-h J R W, a-room 5 J R W p q S h)
 
   -- t and g stand after what is stored
   committed-after : (L L′ : List ℕ) (to : ℕ) (new : List ℕ) → L′ ≡ splice L to new → to + length new ≤ q .g → Committed J R W q L → Committed J R W q L′
@@ -74,24 +75,22 @@ module _ (J R W : List ℕ) (p : EnvironmentParameters) (q : Regions) (S : List 
 
   -- a scratch of which the needed words changed
   module _ (S₁ : List ℕ) (kept : Kept (scratch-need P) S S₁) where
+    given₁ : Given 5 J R W p q S₁
+    given₁ = given-changed 5 J R W p q S h S₁ (kept .size)
+
     pub double-prime-needs : Ready J p q S₁ × Drawn 3 J R
-    double-prime-needs = (ready-changed J p q S (h .ready) S₁ (kept .size), drawn-fewer 5 3 J R (omega arith) (h .drawn))
+    double-prime-needs = (given₁ .ready, drawn-fewer 5 3 J R (omega arith) (h .drawn))
 
     -- into which φ'' and a'' were stored
     module _ (S₂ : List ℕ) (e₂ : S₂ ≡ splice S₁ 0 both) where
       size₂ : length S₂ ≡ length S
       size₂ = ap length e₂ ∙ length-splice S₁ 0 both ∙ kept .size
 
-      both-held : Holds S₂ 0 both
-      both-held = held-stored S₁ S₂ 0 both e₂ (omega (arith, both-end, φ-stop, h-room, h .ready .room, kept .size))
-
       φ″-held : Holds S₂ (q .phi2) (φ″-words J R)
-      φ″-held = subst (λ k. Holds S₂ k (φ″-words J R)) (sym (h .ready .regions .first)) (holds-first S₂ 0 (φ″-words J R) (a″-words J R) both-held)
+      φ″-held = Scratch.φ″-held 5 J R W p q S₁ given₁ S₂ e₂
 
       a″-held : Holds S₂ (q .a2) (a″-words J R)
-      a″-held =
-          let place : 0 + length (φ″-words J R) ≡ q .a2 = omega (arith, length-φ″ J R, h .ready .regions .first, h .ready .regions .a2) in
-          subst (λ k. Holds S₂ k (a″-words J R)) place (holds-second S₂ 0 (φ″-words J R) (a″-words J R) both-held)
+      a″-held = Scratch.a″-held 5 J R W p q S₁ given₁ S₂ e₂
 
       pub phi-needs : Ready J p q S₂ × Drawn 5 J R × Holds S₂ (q .phi2) (φ″-words J R)
       phi-needs = (ready-changed J p q S (h .ready) S₂ size₂, h .drawn, φ″-held)
