@@ -2,7 +2,7 @@
 use mathlib.Core.Path.{_≡_, refl, sym, ap, ap₂, _∙_}
 use mathlib.Core.Bool.{Bool, cond}
 use mathlib.Core.List.{List, _++_, List-discrete}
-use Prim.Native.Nat.{ℕ, zero, suc, _+_, _*_, _≤_, _<_}
+use Prim.Native.Nat.{ℕ, zero, suc, _+_, _*_, _≤_}
 use native.Mathlib.Decide.{ℕ-discrete}
 use native.Mathlib.Numerals.{add-one}
 use native.Mathlib.Omega.{arith}
@@ -12,7 +12,7 @@ use Rattle.lists.specs.Table.{table}
 use Rattle.lists.specs.Part.{part, splice}
 use Rattle.lists.proofs.Table.{table-suc}
 use Rattle.lists.proofs.Splice.{part-splice-same}
-use Rattle.definitions.specs.Answer.{Answer, fine, failed, _then_}
+use Rattle.definitions.specs.Answer.{fine, failed, _then_}
 use Rattle.definitions.specs.Rq.{Element}
 use Rattle.definitions.specs.Ring.{words}
 use Rattle.protocol.specs.Checks.{require, first}

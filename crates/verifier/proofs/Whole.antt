@@ -1,11 +1,11 @@
 -- The whole of the checks in order, and a call of the verifier that is refused before its work or not.
-use mathlib.Core.Path.{_≡_, refl, sym, ap, subst, _∙_}
+use mathlib.Core.Path.{_≡_, sym, ap, subst, _∙_}
 use mathlib.Core.List.{List}
-use Prim.Native.Nat.{ℕ, _+_, _≤_, _<_}
+use Prim.Native.Nat.{ℕ, _≤_}
 use native.Mathlib.Omega.{arith}
 use lib.ListN.{length, replicate, take, drop, length-append, length-replicate, length-drop}
 use Rattle.lists.specs.Part.{splice}
-use Rattle.definitions.specs.Answer.{Answer, fine, ofRefusal, result, _then_}
+use Rattle.definitions.specs.Answer.{Answer, ofRefusal, result, _then_}
 use Rattle.definitions.specs.declared.answers.Refusal.{Refusal}
 use Rattle.protocol.specs.Parameters.{parameters}
 use Rattle.protocol.specs.Layout.{randomness-sections, scratch-need}

@@ -7,8 +7,8 @@ use Rattle.labrador.proofs.calls.labrador_verify.Tie as tie
 
 returns : tie.Need-returns
 returns c =
-    let e = c .before .verify .ensures in
+    let e = c .before .before .before .verify .ensures in
     (c .verdict-of .ensures ∙ ap labradorVerdict (e .0), e .1)
 
 pub labrador-verify-spec : {M : Type 1} → statement M
-labrador-verify-spec = tie.close (tie.spec (λ c κs. search needs) (λ c κs. search needs) returns)
+labrador-verify-spec = tie.close (tie.spec (λ c κs. search needs) (λ c κs. search needs) (λ c. search needs) returns)
