@@ -1,4 +1,5 @@
-/* The calls of liblabrador.a on numbers modulo Q = 4294967295, ring elements modulo X^64 + 1, and challenges.
+/* The calls of liblabrador.a: on numbers modulo Q = 4294967295, ring elements modulo X^64 + 1 and challenges, and on whole slices of
+   words (prove, its five rounds, verify).
    An answer begins with a refusal's number, 0 where nothing is refused, and the refusal's place among the operands' words.
    On a refusal the result is zero. A word at or above Q is refused with 6. */
 #ifndef LABRADOR_H
@@ -105,6 +106,65 @@ labrador_status labrador_rq_digits(uint32_t base, uint32_t parts, labrador_eleme
 
 /* The challenge of its words. A sign word above 1 is refused with 8 at its place. */
 labrador_element_answer labrador_challenge(labrador_challenge_words words);
+
+/* The calls on whole slices. Each slice is a pointer, which is not null, and a length in words; no two overlap.
+   Refusals before the work touch nothing: 1 scratch too short, 2 output too short (place: the length needed); 3 the job's layout,
+   4 a parameter outside its limits, 5 kappa is not L, 6 a job word; 7, 8 the randomness's layout and words; 9, 10 the transcript's;
+   11, 12 the witness's. In the work: 13 norm of a witness vector (place: its index), 14, 15, 16 digits of t, g, h above their bound.
+   After the work scratch is zero to the length needed, and so is the output after 13 to 16. Words beyond never change. */
+
+/* number 0 and place 0 where something was made */
+typedef struct {
+    uint32_t number;
+    uint64_t place;
+} labrador_answer;
+
+/* a length in words, 0 on a refusal */
+typedef struct {
+    uint32_t number;
+    uint64_t place;
+    uint64_t words;
+} labrador_need;
+
+/* number 0: accepted. 1 to 16: refused, at `place`. 21: the projection's norm (first) above its limit (second), each hi * 2^64 + lo.
+   22: row `index`; the constant term sent (first_lo) is not the one worked out (second_lo). 23: the digits' norms (first) above the
+   limit (second). 24 to 29: that check failed. Fields without a meaning are zero. */
+typedef struct {
+    uint32_t number;
+    uint32_t index;
+    uint64_t first_hi;
+    uint64_t first_lo;
+    uint64_t second_hi;
+    uint64_t second_lo;
+    uint64_t place;
+} labrador_verdict;
+
+/* The words of scratch that a call with this job needs, or the job's refusal. */
+labrador_need labrador_scratch_need(const uint32_t *job, size_t job_length);
+
+/* The words of output that labrador_prove needs with this job, which are the transcript's, or the job's refusal. */
+labrador_need labrador_output_need(const uint32_t *job, size_t job_length);
+
+#define LABRADOR_PROVER(name)                                                                                          \
+    labrador_answer name(const uint32_t *job, size_t job_length, const uint32_t *randomness, size_t randomness_length, \
+                         const uint32_t *witness, size_t witness_length, uint32_t *scratch, size_t scratch_length,     \
+                         uint32_t *output, size_t output_length)
+
+/* The whole transcript into the output's first words. */
+LABRADOR_PROVER(labrador_prove);
+
+/* The rounds. Their outputs are u1; p; b''; u2; then z, t, g, h, and joined the whole transcript. The randomness of a round ends after its
+   first 0, 1, 3, 5 or 7 sections. */
+LABRADOR_PROVER(labrador_round_1);
+LABRADOR_PROVER(labrador_round_2);
+LABRADOR_PROVER(labrador_round_3);
+LABRADOR_PROVER(labrador_round_4);
+LABRADOR_PROVER(labrador_round_5);
+
+/* The verdict on a transcript. */
+labrador_verdict labrador_verify(const uint32_t *job, size_t job_length, const uint32_t *randomness, size_t randomness_length,
+                                 const uint32_t *transcript, size_t transcript_length, uint32_t *scratch,
+                                 size_t scratch_length);
 
 #ifdef __cplusplus
 }

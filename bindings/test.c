@@ -269,6 +269,120 @@ static void test_challenge(void) {
     CHECK(is_refused(labrador_challenge(w), 8, 0));
 }
 
+/* A small fit job (n 2, r 2, kappa and L 4, one constraint of each kind that every witness meets), its randomness and a short witness. */
+enum { JOB = 4096, RANDOMNESS = 131072, WITNESS = 512, SCRATCH = 65536, OUTPUT = 4096, MARK = 0x5a5a5a5a };
+
+static uint32_t job[JOB], randomness[RANDOMNESS], witness[WITNESS], scratch[SCRATCH], output[OUTPUT], joined[OUTPUT];
+static size_t job_length, randomness_length, witness_length, ends[8];
+
+/* A section after the first `length` words: its count, then words below a limit. */
+static size_t section(uint32_t *words, size_t length, uint32_t count, uint32_t limit) {
+    words[length] = count;
+    for (uint32_t k = 0; k < count; k++) words[length + 1 + k] = limit == 0 ? 0 : draw() % limit;
+    return length + 1 + count;
+}
+
+static void make_job(void) {
+    const uint32_t n = 2, r = 2, kappa = 4, t = 3, parts = 4;
+    const uint32_t one[11] = {n, r, kappa, 1, 1, 1, 1, 32, 256, parts, parts};
+    job[0] = 29;
+    memcpy(job + 1, one, sizeof one);
+    for (int k = 12; k < 30; k++) job[k] = 0xffffffffu;
+    size_t at = 30;
+    const uint32_t statement[6] = {64 * t, 64 * r * n, 1, 64 * t, 64 * r * n, 64};
+    for (int k = 0; k < 6; k++) at = section(job, at, statement[k], 0);
+    at = section(job, at, 64 * kappa * n, Q);
+    at = section(job, at, 64 * r * kappa * parts, Q);
+    at = section(job, at, 64 * t * parts, Q);
+    job_length = section(job, at, 64 * t * parts, Q);
+    const uint32_t counts[7] = {16384 * n * r, kappa, kappa * 256, 64, 64 * kappa, 41 * r, 63 * r};
+    const uint32_t limits[7] = {Q, Q, Q, Q, Q, 2, Q};
+    ends[0] = 0;
+    for (int k = 0; k < 7; k++) ends[k + 1] = section(randomness, ends[k], counts[k], limits[k]);
+    randomness_length = ends[7];
+    witness_length = section(witness, 0, 64 * r * n, 3);
+    for (size_t k = 0; k < SCRATCH; k++) scratch[k] = MARK;
+    for (size_t k = 0; k < OUTPUT; k++) output[k] = joined[k] = MARK;
+}
+
+static void test_needs(size_t *scratch_need, size_t *output_need) {
+    labrador_need s = labrador_scratch_need(job, job_length);
+    labrador_need o = labrador_output_need(job, job_length);
+    CHECK(s.number == 0 && s.place == 0 && s.words == 64 * (6 * (4 + 3) + 8 + 2 + 64));
+    CHECK(o.number == 0 && o.place == 0 && o.words == 64 * (1 + 4 + 1 + 2 + 8 + 3 + 3) + 256 + 8);
+    *scratch_need = s.words;
+    *output_need = o.words;
+    job[3] = 3;
+    s = labrador_scratch_need(job, job_length);
+    CHECK(s.number == 5 && s.place == 3 && s.words == 0);
+    job[3] = 4;
+    o = labrador_output_need(job, job_length - 1);
+    CHECK(o.number == 3 && o.place == job_length - 1 && o.words == 0);
+}
+
+static labrador_verdict verdict_on(uint32_t *transcript, size_t length, size_t lent) {
+    return labrador_verify(job, job_length, randomness, randomness_length, transcript, length, scratch, lent);
+}
+
+static int is_verdict(labrador_verdict v, uint32_t number, uint64_t place) {
+    return v.number == number && v.place == place && v.index == 0 && v.first_hi == 0 && v.first_lo == 0 && v.second_hi == 0 &&
+           v.second_lo == 0;
+}
+
+static void test_rounds(size_t scratch_need, size_t output_need) {
+    labrador_answer (*const rounds[5])(const uint32_t *, size_t, const uint32_t *, size_t, const uint32_t *, size_t, uint32_t *,
+                                       size_t, uint32_t *, size_t) = {labrador_round_1, labrador_round_2, labrador_round_3,
+                                                                      labrador_round_4, labrador_round_5};
+    const size_t handed[5] = {0, 1, 3, 5, 7};
+    const size_t words[5] = {65, 257, 257, 65, 129 + 513 + 193 + 193};
+    size_t at = 0;
+    for (int k = 0; k < 5; k++) {
+        labrador_answer a = rounds[k](job, job_length, randomness, ends[handed[k]], witness, witness_length, scratch, scratch_need,
+                                      joined + at, words[k]);
+        CHECK(a.number == 0 && a.place == 0);
+        at += words[k];
+    }
+    CHECK(at == output_need && same(joined, output, output_need));
+}
+
+static void test_calls(void) {
+    size_t scratch_need, output_need;
+    make_job();
+    test_needs(&scratch_need, &output_need);
+    labrador_answer a = labrador_prove(job, job_length, randomness, randomness_length, witness, witness_length, scratch,
+                                       scratch_need - 1, output, OUTPUT);
+    CHECK(a.number == 1 && a.place == scratch_need && scratch[0] == MARK && output[0] == MARK);
+    a = labrador_prove(job, job_length, randomness, randomness_length, witness, witness_length, scratch, SCRATCH, output,
+                       output_need - 1);
+    CHECK(a.number == 2 && a.place == output_need && scratch[0] == MARK && output[0] == MARK);
+    a = labrador_prove(job, job_length, randomness, randomness_length, witness, witness_length, scratch, SCRATCH, output, OUTPUT);
+    CHECK(a.number == 0 && a.place == 0);
+    CHECK(all_zero(scratch, scratch_need) && scratch[scratch_need] == MARK);
+    CHECK(output[0] == 64 && output[output_need - 193] == 192 && output[output_need] == MARK);
+    test_rounds(scratch_need, output_need);
+    CHECK(is_verdict(verdict_on(output, output_need, SCRATCH), 0, 0));
+    CHECK(is_verdict(verdict_on(output, output_need, scratch_need - 1), 1, scratch_need));
+    CHECK(is_verdict(verdict_on(output, output_need - 1, SCRATCH), 9, output_need - 1));
+    output[1] = (output[1] + 1) % Q;
+    CHECK(is_verdict(verdict_on(output, output_need, SCRATCH), 28, 0));
+    output[1] = (output[1] + Q - 1) % Q;
+    const size_t constant = 65 + 257 + 1 + 64;
+    uint32_t sent = output[constant] = (output[constant] + 1) % Q;
+    labrador_verdict v = verdict_on(output, output_need, SCRATCH);
+    CHECK(v.number == 22 && v.index == 1 && v.place == 0 && v.first_hi == 0 && v.first_lo == sent && v.second_hi == 0 &&
+          v.second_lo == (sent + Q - 1) % Q);
+    output[constant] = Q;
+    CHECK(is_verdict(verdict_on(output, output_need, SCRATCH), 10, constant));
+    job[12] = job[13] = job[14] = 0;
+    output[constant] = 0;
+    v = verdict_on(output, output_need, SCRATCH);
+    CHECK(v.number == 21 && v.index == 0 && v.first_lo > 0 && v.second_hi == 0 && v.second_lo == 0);
+    CHECK(all_zero(scratch, scratch_need) && scratch[scratch_need] == MARK);
+    job[18] = job[19] = job[20] = 0;
+    a = labrador_prove(job, job_length, randomness, randomness_length, witness, witness_length, scratch, SCRATCH, output, OUTPUT);
+    CHECK(a.number == 13 && a.place == 0 && all_zero(output, output_need) && output[output_need] == MARK);
+}
+
 int main(void) {
     test_numbers();
     test_digits();
@@ -276,6 +390,7 @@ int main(void) {
     test_random_elements();
     test_rows();
     test_challenge();
+    test_calls();
     if (failures > 0) {
         printf("%d of %d checks failed\n", failures, checks);
         return EXIT_FAILURE;

@@ -1,4 +1,4 @@
-mod Stages
+pub mod Stages
 mod Found
 mod Refusals
 pub mod Ready

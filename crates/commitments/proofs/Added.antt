@@ -23,7 +23,7 @@ use Rattle.protocol.proofs.Region.{elements-stored}
 use Rattle.commitments.specs.Cells.{CanonicalFrom}
 
 -- 64 words for each element
-length-flat-table : (n : ℕ) (f : ℕ → Element) → length (flat (table n f)) ≡ 64 * n
+pub length-flat-table : (n : ℕ) (f : ℕ → Element) → length (flat (table n f)) ≡ 64 * n
 length-flat-table n f = length-flat (table n f) ∙ ap (λ n. 64 * n) (length-table n f)
 
 -- stored elements have canonical words
@@ -58,7 +58,7 @@ from-zero l l′ l″ at n g h e e′ =
     ∙ ap (λ t. splice l at (flat t)) (table-ext n (λ k. RqOps .nil ⊕ g k) g (λ k q. nil-add RqOps rq-ring (g k)))
 
 -- canonical words are the words of their elements
-flat-run : (l : List ℕ) (at n : ℕ) → at + 64 * n ≤ length l → CanonicalFrom l at (64 * n) → flat (table n (run l at 64)) ≡ part l at (64 * n)
+pub flat-run : (l : List ℕ) (at n : ℕ) → at + 64 * n ≤ length l → CanonicalFrom l at (64 * n) → flat (table n (run l at 64)) ≡ part l at (64 * n)
 unfolding table flat flatMap
 flat-run l at zero h c = refl
 flat-run l at (suc n) h c =

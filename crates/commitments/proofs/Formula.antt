@@ -46,11 +46,11 @@ triangle-table r f =
     ∙ ap (λ n. table n f) (Σ-triangle r)
 
 -- the cells of vectors in a slice, one after the other
-vectors-cells : (ws : List ℕ) (at r m : ℕ) (f : ℕ → ℕ → Element) → Vectors ws at r m f → table (r * m) (run ws at 64) ≡ rows r m f
+pub vectors-cells : (ws : List ℕ) (at r m : ℕ) (f : ℕ → ℕ → Element) → Vectors ws at r m f → table (r * m) (run ws at 64) ≡ rows r m f
 vectors-cells ws at r m f h = sym (rows-table r m (run ws at 64)) ∙ rows-ext r m (λ i k. run ws at 64 (i * m + k)) f h
 
 -- the cells of a triangle in a slice, one after the other
-triangle-cells : (ws : List ℕ) (at r : ℕ) (f : ℕ → ℕ → Element) → Triangle ws at r f → table (triangular r) (run ws at 64) ≡ triangle r f
+pub triangle-cells : (ws : List ℕ) (at r : ℕ) (f : ℕ → ℕ → Element) → Triangle ws at r f → table (triangular r) (run ws at 64) ≡ triangle r f
 unfolding triangle
 triangle-cells ws at r f h =
     sym (triangle-table r (run ws at 64))

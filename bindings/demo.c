@@ -1,0 +1,225 @@
+/* Generates a small job with a witness that meets its constraints, proves it whole and in rounds, verifies it, then damages the transcript and the
+   statement and tells each verdict in words. */
+#include <inttypes.h>
+#include <stdio.h>
+#include <stdlib.h>
+#include <string.h>
+#include <time.h>
+
+#include "labrador.h"
+
+#define Q 4294967295u
+
+/* n elements a vector, r vectors, K = l constraints of each kind, kappa = L */
+enum { N = 4, R = 3, T = R * (R + 1) / 2, K = 2, KAPPA = 4, KAPPA_1 = 4, KAPPA_2 = 4, PARTS = 4, MOST = 1 << 20 };
+
+static uint32_t job[MOST], randomness[MOST], witness[MOST], scratch[MOST], transcript[MOST], joined[MOST];
+static size_t job_length, randomness_length, witness_length, transcript_length, scratch_length, ends[8];
+
+/* where the words of a section start */
+static size_t a_prime, phi_prime, b_0, a, phi, b;
+
+static uint64_t seed = 20261115;
+
+static uint32_t draw(uint32_t limit) {
+    seed = seed * 6364136223846793005u + 1442695040888963407u;
+    return (uint32_t)(seed >> 32) % limit;
+}
+
+/* A section of drawn words behind the others; answers where its words start. */
+static size_t section(uint32_t *words, size_t *length, uint32_t count, uint32_t limit) {
+    size_t start = *length + 1;
+    words[*length] = count;
+    for (uint32_t k = 0; k < count; k++) words[start + k] = draw(limit);
+    *length = start + count;
+    return start;
+}
+
+static labrador_element at(const uint32_t *words, size_t start, size_t m) {
+    labrador_element e;
+    memcpy(e.coeffs, words + start + 64 * m, sizeof e.coeffs);
+    return e;
+}
+
+static labrador_element taken(labrador_element_answer answer) {
+    labrador_element e;
+    memcpy(e.coeffs, answer.coeffs, sizeof e.coeffs);
+    return e;
+}
+
+static labrador_element plus_product(labrador_element sum, labrador_element x, labrador_element y) {
+    return taken(labrador_rq_add(sum, taken(labrador_rq_mul(x, y))));
+}
+
+static labrador_element inner(const uint32_t *x, size_t x_start, const uint32_t *y, size_t y_start) {
+    labrador_element sum = {{0}};
+    for (size_t m = 0; m < N; m++) sum = plus_product(sum, at(x, x_start, m), at(y, y_start, m));
+    return sum;
+}
+
+/* The left side of constraint k of the triangles and vectors that start at two places. */
+static labrador_element left(size_t triangles, size_t vectors, size_t k) {
+    labrador_element sum = {{0}};
+    for (size_t i = 0; i < R; i++)
+        for (size_t j = 0; j < R; j++) {
+            size_t cell = i >= j ? i * (i + 1) / 2 + j : j * (j + 1) / 2 + i;
+            sum = plus_product(sum, at(job, triangles, k * T + cell), inner(witness, 1 + 64 * N * i, witness, 1 + 64 * N * j));
+        }
+    for (size_t i = 0; i < R; i++)
+        sum = taken(labrador_rq_add(sum, inner(job, vectors + 64 * N * (k * R + i), witness, 1 + 64 * N * i)));
+    return sum;
+}
+
+static void generate(void) {
+    const uint32_t sizes[11] = {N, R, KAPPA, KAPPA_1, KAPPA_2, K, K, 32, 256, PARTS, PARTS};
+    job[0] = 29;
+    memcpy(job + 1, sizes, sizeof sizes);
+    for (int k = 12; k < 30; k++) job[k] = k % 3 == 2 ? 0 : Q; /* each limit 2^64 and about Q */
+    job_length = 30;
+    section(witness, &witness_length, 64 * R * N, 2);
+    a_prime = section(job, &job_length, 64 * K * T, Q);
+    phi_prime = section(job, &job_length, 64 * K * R * N, Q);
+    b_0 = section(job, &job_length, K, Q);
+    a = section(job, &job_length, 64 * K * T, Q);
+    phi = section(job, &job_length, 64 * K * R * N, Q);
+    b = section(job, &job_length, 64 * K, Q);
+    for (size_t k = 0; k < K; k++) {
+        job[b_0 + k] = left(a_prime, phi_prime, k).coeffs[0];
+        labrador_element side = left(a, phi, k);
+        memcpy(job + b + 64 * k, side.coeffs, sizeof side.coeffs);
+    }
+    section(job, &job_length, 64 * KAPPA * N, Q);
+    section(job, &job_length, 64 * KAPPA_1 * R * KAPPA * PARTS, Q);
+    section(job, &job_length, 64 * KAPPA_1 * T * PARTS, Q);
+    section(job, &job_length, 64 * KAPPA_2 * T * PARTS, Q);
+    const uint32_t counts[7] = {16384 * N * R, KAPPA * K, KAPPA * 256, 64 * K, 64 * KAPPA, 41 * R, 63 * R};
+    for (int k = 0; k < 7; k++) {
+        section(randomness, &randomness_length, counts[k], k == 5 ? 2 : Q);
+        ends[k + 1] = randomness_length;
+    }
+}
+
+static double milliseconds(void) {
+    struct timespec t;
+    clock_gettime(CLOCK_MONOTONIC, &t);
+    return 1e3 * (double)t.tv_sec + 1e-6 * (double)t.tv_nsec;
+}
+
+/* hi * 2^64 + lo in decimal. */
+static void print_number(uint64_t hi, uint64_t lo) {
+    char digits[40];
+    int at = 39;
+    digits[at] = 0;
+    unsigned __int128 value = (unsigned __int128)hi << 64 | lo;
+    do {
+        digits[--at] = (char)('0' + (int)(value % 10));
+        value /= 10;
+    } while (value != 0);
+    printf("%s", digits + at);
+}
+
+static const char *const checks[9] = {"the projection's norm is above its limit",
+                                      "a constant term is not the one that psi, b0, omega and p give",
+                                      "the digits' norms are above their limit",
+                                      "A times z is not the sum of t_i c_i",
+                                      "<z,z> is not the sum of g_ij c_i c_j",
+                                      "twice the sum of <phi_i,z> c_i is not the sum of h_ij c_i c_j",
+                                      "twice the sum of a_ij g_ij plus the sum of h_ii is not twice b",
+                                      "u1 is not the commitment to t and g",
+                                      "u2 is not the commitment to h"};
+
+/* Verifies, and tells the verdict in words. */
+static void judge(const char *what) {
+    double begin = milliseconds();
+    labrador_verdict v = labrador_verify(job, job_length, randomness, randomness_length, transcript, transcript_length, scratch,
+                                         scratch_length);
+    double end = milliseconds();
+    printf("%-42s", what);
+    if (v.number == 0)
+        printf("accepted");
+    else if (v.number < 21)
+        printf("refused with %" PRIu32 " at %" PRIu64, v.number, v.place);
+    else
+        printf("%" PRIu32 ": %s", v.number, checks[v.number - 21]);
+    if (v.number == 21 || v.number == 23) {
+        printf(" (");
+        print_number(v.first_hi, v.first_lo);
+        printf(", limit ");
+        print_number(v.second_hi, v.second_lo);
+        printf(")");
+    }
+    if (v.number == 22) printf(" (row %" PRIu32 ": sent %" PRIu64 ", worked out %" PRIu64 ")", v.index, v.first_lo, v.second_lo);
+    printf(" (%.2f ms)\n", end - begin);
+}
+
+/* Judges with one word of the job or the transcript one higher, and sets it back. */
+static void damage(uint32_t *words, size_t place, const char *what) {
+    uint32_t was = words[place];
+    words[place] = (was + 1) % Q;
+    judge(what);
+    words[place] = was;
+}
+
+/* Judges with a limit of three words set to a small number, and sets it back. */
+static void lower(size_t place, uint32_t to, const char *what) {
+    uint32_t was[3];
+    memcpy(was, job + place, sizeof was);
+    job[place] = to;
+    job[place + 1] = job[place + 2] = 0;
+    judge(what);
+    memcpy(job + place, was, sizeof was);
+}
+
+static void prove_in_rounds(void) {
+    labrador_answer (*const rounds[5])(const uint32_t *, size_t, const uint32_t *, size_t, const uint32_t *, size_t, uint32_t *,
+                                       size_t, uint32_t *, size_t) = {labrador_round_1, labrador_round_2, labrador_round_3,
+                                                                      labrador_round_4, labrador_round_5};
+    const char *const made[5] = {"u1", "p", "b''", "u2", "z, t, g, h"};
+    const size_t handed[5] = {0, 1, 3, 5, 7};
+    const size_t words[5] = {1 + 64 * KAPPA_1, 257, 1 + 64 * KAPPA, 1 + 64 * KAPPA_2, 4 + 64 * (N + R * KAPPA + 2 * T)};
+    size_t place = 0;
+    for (int k = 0; k < 5; k++) {
+        double begin = milliseconds();
+        labrador_answer answer = rounds[k](job, job_length, randomness, ends[handed[k]], witness, witness_length, scratch,
+                                           scratch_length, joined + place, words[k]);
+        printf("  round %d: %-10s %5zu words, answer %" PRIu32 " (%.2f ms)\n", k + 1, made[k], words[k], answer.number,
+               milliseconds() - begin);
+        place += words[k];
+    }
+    int same = place == transcript_length && memcmp(joined, transcript, 4 * place) == 0;
+    printf("  the rounds joined %s the whole transcript\n", same ? "are" : "ARE NOT");
+    if (!same) exit(EXIT_FAILURE);
+}
+
+int main(void) {
+    generate();
+    scratch_length = labrador_scratch_need(job, job_length).words;
+    transcript_length = labrador_output_need(job, job_length).words;
+    printf("job %zu words, randomness %zu, witness %zu, scratch %zu, transcript %zu\n", job_length, randomness_length,
+           witness_length, scratch_length, transcript_length);
+    double begin = milliseconds();
+    labrador_answer answer = labrador_prove(job, job_length, randomness, randomness_length, witness, witness_length, scratch,
+                                            scratch_length, transcript, transcript_length);
+    printf("prove: answer %" PRIu32 " (%.2f ms)\n", answer.number, milliseconds() - begin);
+    if (answer.number != 0) return EXIT_FAILURE;
+    prove_in_rounds();
+    const size_t p_at = 1 + 64 * KAPPA_1 + 1, b_at = p_at + 256 + 1, u2_at = b_at + 64 * KAPPA + 1, z_at = u2_at + 64 * KAPPA_2 + 1,
+                 t_at = z_at + 64 * N + 1, g_at = t_at + 64 * R * KAPPA + 1, h_at = g_at + 64 * T + 1;
+    judge("the transcript as it was made:");
+    damage(transcript, 1, "a word of u1 changed:");
+    damage(transcript, p_at, "a word of p changed:");
+    damage(transcript, b_at + 64, "the constant term of b''_1 changed:");
+    damage(transcript, b_at + 1, "another word of b''_0 changed:");
+    damage(transcript, u2_at, "a word of u2 changed:");
+    damage(transcript, z_at, "a word of z changed:");
+    damage(transcript, t_at, "a word of t changed:");
+    damage(transcript, g_at, "a word of g changed:");
+    damage(transcript, h_at, "a word of h changed:");
+    damage(transcript, 0, "a count changed:");
+    damage(job, b_0, "the statement's b0 changed:");
+    damage(job, b, "the statement's b changed:");
+    lower(12, 1, "beta_sq lowered to 1:");
+    lower(15, 1, "beta_prime_sq lowered to 1:");
+    lower(27, 1, "D's norm bound lowered to 1:");
+    return EXIT_SUCCESS;
+}

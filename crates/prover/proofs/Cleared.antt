@@ -1,0 +1,90 @@
+-- The buffers after the work of a call that is refused nothing before it.
+use mathlib.Core.Path.{_≡_, sym, ap, ap₂, subst, _∙_}
+use mathlib.Core.List.{List, _++_}
+use Prim.Native.Nat.{ℕ, _≤_}
+use native.Mathlib.Omega.{arith}
+use lib.ListN.{length, take, drop, replicate}
+use Rattle.lists.specs.Part.{splice}
+use Rattle.definitions.specs.declared.answers.Refusal.{Refusal}
+use Rattle.definitions.specs.declared.answers.Proved.{Proved}
+use Rattle.definitions.specs.declared.answers.Proved.the-variants as E
+use Rattle.definitions.specs.Answer.{fine, result, ofRefusal, ofProved}
+use Rattle.protocol.specs.Parameters.{parameters}
+use Rattle.protocol.specs.Layout.{span, transcript-sections, scratch-need}
+use Rattle.protocol.specs.Prover.{made-sections, work-refusal, made, zeroed}
+use Rattle.relation.specs.declared.env_params.EnvironmentParameters.{EnvironmentParameters}
+use Rattle.relation.specs.Parameters.{parametersOf}
+use Rattle.sizes.specs.Sizes.{Sized}
+use Rattle.sizes.proofs.Sized.{sized}
+use Rattle.admission.specs.declared.calls.Call.{Call}
+use Rattle.admission.specs.Admission.{callOf, Provable}
+use Rattle.workspace.specs.Holds.{Kept}
+use Rattle.workspace.proofs.Kept.{kept-clear}
+use Rattle.prover.specs.Words.{X, s}
+use Rattle.prover.proofs.Calls.{Done, refused-is, unchanged, output-made, output-zeroed}
+
+module _ (call : Call) (J R W : List ℕ) (p : EnvironmentParameters) (S O : List ℕ) (h : Provable (callOf call) J R W (length S) (length O) p) where
+  -- the parameters can be reckoned with
+  pub call-sized : Sized (parametersOf p)
+  call-sized = sized J (parametersOf p) (h .handed .sound) (h .handed .same)
+
+  -- what `lay_out` requires
+  pub lay-needs : (p .rank ≤ 64) × (p .multiplicity ≤ 16) × (p .kappa ≤ 16) × (p .«const_agg_length» ≤ 16)
+  lay-needs =
+      let w = call-sized .within in
+      let l : p .«const_agg_length» ≤ 8 = call-sized .aggregated in
+      (w .n .1, w .r .1, w .κ .1, up (p .«const_agg_length») l)
+    where
+      up : (n : ℕ) → n ≤ 8 → n ≤ 16
+      up n l = omega arith
+
+  -- the scratch that the work leaves
+  module _ (n : ℕ) (e : n ≡ scratch-need (parametersOf p)) (S₁ : List ℕ) (kept : Kept (scratch-need (parameters J)) S S₁) where
+    scratch-size : n ≡ scratch-need (parameters J)
+    scratch-size = e ∙ ap scratch-need (h .handed .same)
+
+    pub scratch-room : n ≤ length S₁
+    scratch-room = subst (λ k. k ≤ length S₁) (sym scratch-size) (subst (λ k. scratch-need (parameters J) ≤ k) (sym (kept .size)) (h .handed .scratch-fits))
+
+    -- set to zero
+    pub scratch-cleared : (S₂ : List ℕ) → S₂ ≡ splice S₁ 0 (replicate n 0) → S₂ ≡ zeroed (scratch-need (parameters J)) S
+    scratch-cleared S₂ f = f ∙ ap (λ k. splice S₁ 0 (replicate k 0)) scratch-size ∙ kept-clear (scratch-need (parameters J)) S S₁ kept (h .handed .scratch-fits)
+
+  -- the output that it leaves where something was made
+  module _ (k : Proved) (S₁ O₁ : List ℕ) (d : Done (callOf call) J R W k S S₁ O O₁) (told : k ≡ E.Made) where
+    pub answer-made : ofProved E.Made ≡ work-refusal (X J R W) (callOf call) (s J R W)
+    answer-made = sym (ap ofProved told) ∙ d .0
+
+    pub output-left : O₁ ≡ result (work-refusal (X J R W) (callOf call) (s J R W)) (made (X J R W) (callOf call) (s J R W) ++ drop (span (made-sections (callOf call) (parameters J))) O) (zeroed (span (made-sections (callOf call) (parameters J))) O)
+    output-left =
+        d .1 .1
+        ∙ ap (λ x. result (ofProved x) (splice O 0 (made (X J R W) (callOf call) (s J R W))) O) told
+        ∙ output-made J R W (callOf call) O (h .output-fits)
+        ∙ ap (λ a. result a (made (X J R W) (callOf call) (s J R W) ++ drop (span (made-sections (callOf call) (parameters J))) O) (zeroed (span (made-sections (callOf call) (parameters J))) O)) answer-made
+
+  -- and where it is refused
+  module _ (k : Proved) (r : Refusal) (S₁ O₁ : List ℕ) (d : Done (callOf call) J R W k S S₁ O O₁) (told : k ≡ E.Refused r)
+      (n from makes : ℕ) (e : n ≡ span (take makes (drop from (transcript-sections (parametersOf p))))) (f : from ≡ callOf call .from) (g : makes ≡ callOf call .makes) where
+    pub answer-refused : ofProved (E.Refused r) ≡ work-refusal (X J R W) (callOf call) (s J R W)
+    answer-refused = sym (ap ofProved told) ∙ d .0
+
+    output-size : n ≡ span (made-sections (callOf call) (parameters J))
+    output-size =
+        e
+        ∙ ap₂ (λ m k. span (take m (drop k (transcript-sections (parametersOf p))))) g f
+        ∙ ap (λ Q. span (made-sections (callOf call) Q)) (h .handed .same)
+
+    same-output : O₁ ≡ O
+    same-output = unchanged k r O₁ (splice O 0 (made (X J R W) (callOf call) (s J R W))) O told (d .1 .1)
+
+    pub output-room : n ≤ length O₁
+    output-room = subst (λ k. k ≤ length O₁) (sym output-size) (subst (λ l. span (made-sections (callOf call) (parameters J)) ≤ length l) (sym same-output) (h .output-fits))
+
+    -- set to zero
+    pub output-cleared : (O₂ : List ℕ) → O₂ ≡ splice O₁ 0 (replicate n 0)
+        → O₂ ≡ result (work-refusal (X J R W) (callOf call) (s J R W)) (made (X J R W) (callOf call) (s J R W) ++ drop (span (made-sections (callOf call) (parameters J))) O) (zeroed (span (made-sections (callOf call) (parameters J))) O)
+    output-cleared O₂ c =
+        c
+        ∙ ap₂ (λ l k. splice l 0 (replicate k 0)) same-output output-size
+        ∙ output-zeroed (span (made-sections (callOf call) (parameters J))) O (h .output-fits)
+        ∙ refused-is r (made (X J R W) (callOf call) (s J R W) ++ drop (span (made-sections (callOf call) (parameters J))) O) (zeroed (span (made-sections (callOf call) (parameters J))) O) answer-refused

@@ -1,0 +1,143 @@
+-- The whole of the checks in order, and a call of the verifier that is refused before its work or not.
+use mathlib.Core.Path.{_≡_, refl, sym, ap, subst, _∙_}
+use mathlib.Core.List.{List}
+use Prim.Native.Nat.{ℕ, _+_, _≤_, _<_}
+use native.Mathlib.Omega.{arith}
+use lib.ListN.{length, replicate, take, drop, length-append, length-replicate, length-drop}
+use Rattle.lists.specs.Part.{splice}
+use Rattle.definitions.specs.Answer.{Answer, fine, ofRefusal, result, _then_}
+use Rattle.definitions.specs.declared.answers.Refusal.{Refusal}
+use Rattle.protocol.specs.Parameters.{parameters}
+use Rattle.protocol.specs.Layout.{randomness-sections, scratch-need}
+use Rattle.protocol.specs.Views.{Public, Message, public, message}
+use Rattle.protocol.specs.Prover.{t-norm, g-norm, h-norm, zeroed}
+use Rattle.protocol.specs.Verifier.{check-21, check-22, check-23, check-24, check-25, check-26, check-27, check-28, check-29, checks, verify-refusal, verify, verify-scratch}
+use Rattle.protocol.proofs.Then.{then-assoc}
+use Rattle.layout.specs.Laid.{Laid}
+use Rattle.layout.proofs.Then.{goes-on}
+use Rattle.regions.specs.declared.Regions.{Regions}
+use Rattle.regions.specs.Laid as Places
+use Rattle.relation.specs.declared.env_params.EnvironmentParameters.{EnvironmentParameters}
+use Rattle.relation.specs.Parameters.{parametersOf}
+use Rattle.sizes.specs.Sizes.{Sized}
+use Rattle.admission.specs.declared.answers.Admitted.{Admitted}
+use Rattle.admission.specs.declared.answers.Admitted.the-variants as A
+use Rattle.admission.specs.Admission.{ofAdmitted, At, Verifiable}
+use Rattle.admission.proofs.Fit.{refusal-none}
+use Rattle.workspace.specs.Ready.{Ready, Drawn}
+use Rattle.workspace.specs.Holds.{Kept}
+use Rattle.workspace.proofs.Kept.{kept-clear}
+use Rattle.verifier.specs.Work.{Sent}
+use Rattle.verifier.proofs.Sent.{reckoned}
+use Rattle.verifier.proofs.Verdicts.{refusal-then}
+
+-- two pairs of answers after another answer
+pairs-after : (x a b c d : Answer) → x then ((a then b) then (c then d)) ≡ x then a then b then c then d
+pairs-after x a b c d = sym (then-assoc x (a then b) (c then d)) ∙ ap (λ y. y then (c then d)) (sym (then-assoc x a b)) ∙ sym (then-assoc (x then a then b) c d)
+
+-- three answers and two after another answer
+five-after : (x a b c d e : Answer) → x then (((a then b) then c) then (d then e)) ≡ x then a then b then c then d then e
+five-after x a b c d e =
+    sym (then-assoc x ((a then b) then c) (d then e))
+    ∙ ap (λ y. y then (d then e)) (sym (then-assoc x (a then b) c) ∙ ap (λ y. y then c) (sym (then-assoc x a b)))
+    ∙ sym (then-assoc (x then a then b then c) d e)
+
+-- the checks of the commitments, as `check_commitments` groups them
+abbrev pub of-commitments : Public → Message → Answer
+of-commitments X M = ((t-norm X (M .t) then g-norm X (M .g)) then check-28 X M) then (h-norm X (M .h) then check-29 X M)
+
+-- the checks from 24 on, as `check_rest` groups them
+abbrev pub of-rest : Public → Message → Answer
+of-rest X M = ((check-24 X M then check-25 X M) then (check-26 X M then check-27 X M)) then of-commitments X M
+
+-- the groups of checks are all checks in order
+pub groups-are : (X : Public) (M : Message)
+    → (check-21 X M then check-22 X M then check-23 X M) then of-rest X M ≡ checks X M
+unfolding checks
+groups-are X M =
+    let norms = check-21 X M then check-22 X M then check-23 X M in
+    sym (then-assoc norms ((check-24 X M then check-25 X M) then (check-26 X M then check-27 X M)) (of-commitments X M))
+    ∙ ap (λ y. y then of-commitments X M) (pairs-after norms (check-24 X M) (check-25 X M) (check-26 X M) (check-27 X M))
+    ∙ five-after (norms then check-24 X M then check-25 X M then check-26 X M then check-27 X M) (t-norm X (M .t)) (g-norm X (M .g)) (check-28 X M) (h-norm X (M .h)) (check-29 X M)
+
+-- a call that is refused nothing before its work
+module _ (J R T : List ℕ) (p : EnvironmentParameters) where
+  -- its sections of the randomness lie within it
+  pub all-drawn : Laid R 0 (take 7 (randomness-sections (parameters J))) → Drawn 7 J R
+  all-drawn laid k h = omega (arith, laid .inside k h)
+
+  module _ (scratch : ℕ) (v : Verifiable J R T scratch p) where
+    -- what its checks stand on
+    pub sent-of : Sent J R T p
+    sent-of = record { same = v .handed .same; sound = v .handed .sound; job = v .handed .job; drawn = all-drawn (v .handed .randomness); transcript = v .transcript }
+
+    -- its parameters can be reckoned with
+    pub call-sized : Sized (parametersOf p)
+    call-sized = reckoned sent-of
+
+    -- and regions be laid out
+    pub few-regions : (p .rank ≤ 64) × (p .multiplicity ≤ 16) × (p .kappa ≤ 16) × (p .«const_agg_length» ≤ 16)
+    few-regions =
+        let w = call-sized .within in
+        (w .n .1, w .r .1, w .κ .1, omega (arith, call-sized .aggregated))
+
+    -- with the regions of its scratch
+    pub ready-of : (q : Regions) (S : List ℕ) → length S ≡ scratch → Places.Laid (p .rank) (p .multiplicity) (p .kappa) (p .«const_agg_length») q → Ready J p q S
+    ready-of q S e laid = record {
+      same = v .handed .same;
+      sound = v .handed .sound;
+      job = v .handed .job;
+      regions = subst (λ Q. Places.Laid (Q .n) (Q .r) (Q .κ) (Q .L) q) (v .handed .same) laid;
+      room = subst (λ n. scratch-need (parameters J) ≤ n) (sym e) (v .handed .scratch-fits);
+    }
+
+    -- the length that is cleared
+    pub need-is : (n : ℕ) → n ≡ scratch-need (parametersOf p) → n ≡ scratch-need (parameters J)
+    need-is n e = e ∙ ap scratch-need (v .handed .same)
+
+    -- it lies within the scratch
+    pub need-within : (n : ℕ) (S′ : List ℕ) → n ≡ scratch-need (parametersOf p) → length S′ ≡ scratch → n ≤ length S′
+    need-within n S′ e f = subst (λ m. n ≤ m) (sym f) (subst (λ m. m ≤ scratch) (sym (need-is n e)) (v .handed .scratch-fits))
+
+    -- the scratch at the end
+    pub cleared : (n : ℕ) (S S′ S″ : List ℕ) → n ≡ scratch-need (parametersOf p) → length S ≡ scratch → Kept (scratch-need (parameters J)) S S′
+        → S″ ≡ splice S′ 0 (replicate n 0) → S″ ≡ zeroed (scratch-need (parameters J)) S
+    cleared n S S′ S″ e f kept g =
+        g
+        ∙ ap (λ m. splice S′ 0 (replicate m 0)) (need-is n e)
+        ∙ kept-clear (scratch-need (parameters J)) S S′ kept (subst (λ m. scratch-need (parameters J) ≤ m) (sym f) (v .handed .scratch-fits))
+
+-- a slice whose first words are set to zero keeps its length
+pub length-zeroed : (need : ℕ) (S S′ : List ℕ) → S′ ≡ zeroed need S → need ≤ length S → length S′ ≡ length S
+length-zeroed need S S′ e h = omega (arith, ap length e, length-append (replicate {A = ℕ} need 0) (drop need S), length-replicate {A = ℕ} need 0, length-drop need S)
+
+-- the call's answer and scratch by what is admitted
+module _ (J R T S : List ℕ) (x : Admitted) (e : ofAdmitted x ≡ verify-refusal J R T (length S)) where
+  -- a refusal before the work
+  module _ (r : Refusal) (is : x ≡ A.Refused r) where
+    pub refused-verdict : ofRefusal r ≡ verify J R T (length S)
+    unfolding verify
+    refused-verdict =
+        let rest = checks (public J R) (message (parameters J) T) in
+        sym (refusal-then r rest) ∙ ap (λ a. a then rest) (sym (ap ofAdmitted is) ∙ e)
+
+    pub refused-scratch : S ≡ verify-scratch J R T S
+    unfolding verify-scratch
+    refused-scratch =
+        let Z = zeroed (scratch-need (parameters J)) S in
+        refusal-none r Z S ∙ ap (λ a. result a Z S) (sym (ap ofAdmitted is) ∙ e)
+
+  -- a call whose work is done
+  module _ (p : EnvironmentParameters) (is : x ≡ A.Fit p) where
+    pub admitted : At x (Verifiable J R T (length S)) → Verifiable J R T (length S) p
+    admitted h = subst (λ y. At y (Verifiable J R T (length S))) is h
+
+    pub worked-verdict : {a : Answer} → a ≡ checks (public J R) (message (parameters J) T) → a ≡ verify J R T (length S)
+    unfolding verify
+    worked-verdict f = goes-on (sym (ap ofAdmitted is) ∙ e) f
+
+    pub worked-scratch : {S′ : List ℕ} → S′ ≡ zeroed (scratch-need (parameters J)) S → S′ ≡ verify-scratch J R T S
+    unfolding verify-scratch
+    worked-scratch f =
+        let Z = zeroed (scratch-need (parameters J)) S in
+        f ∙ ap (λ a. result a Z S) (sym (ap ofAdmitted is) ∙ e)

@@ -1,0 +1,99 @@
+// The verifier's call on whole slices, for every input.
+use crate::norm_checks;
+use crate::outer_commitments;
+use crate::relations;
+use admission::answers::Admitted;
+use admission::verifier;
+use definitions::answers::Verdict;
+use regions::Regions;
+use relation::env_params::EnvironmentParameters;
+use sizes::buffers;
+ghost use mathlib.Core.Path.{_≡_};
+ghost use Rattle.definitions.specs.Answer.{ofVerdict, _then_};
+ghost use Rattle.protocol.specs.Parameters.{parameters};
+ghost use Rattle.protocol.specs.Views.{public, message};
+ghost use lib.ListN.{length};
+ghost use Rattle.protocol.specs.Layout.{scratch-need};
+ghost use Rattle.protocol.specs.Prover.{t-norm, g-norm, h-norm, zeroed};
+ghost use Rattle.protocol.specs.Verifier.{check-24, check-25, check-26, check-27, check-28, check-29, checks, verify as verdict, verify-scratch};
+ghost use Rattle.admission.specs.Admission.{Verifiable};
+ghost use Rattle.workspace.specs.Ready.{Ready};
+ghost use Rattle.workspace.specs.Holds.{Kept};
+ghost use Rattle.verifier.specs.Work.{Sent};
+
+// The checks from 24 on, in order.
+fn check_rest(
+    job: &[u32],
+    randomness: &[u32],
+    transcript: &[u32],
+    p: EnvironmentParameters,
+    q: Regions,
+    scratch: &mut [u32],
+) -> Verdict
+    requires { ⌜ Sent (now job) (now randomness) (now transcript) p × Ready (now job) p q (now scratch) ⌝ }
+    ensures { λ v. ⌜ ofVerdict v ≡ ((check-24 (public (now (job .entry)) (now (randomness .entry))) (message (parameters (now (job .entry))) (now (transcript .entry))) then check-25 (public (now (job .entry)) (now (randomness .entry))) (message (parameters (now (job .entry))) (now (transcript .entry)))) then (check-26 (public (now (job .entry)) (now (randomness .entry))) (message (parameters (now (job .entry))) (now (transcript .entry))) then check-27 (public (now (job .entry)) (now (randomness .entry))) (message (parameters (now (job .entry))) (now (transcript .entry))))) then (((t-norm (public (now (job .entry)) (now (randomness .entry))) ((message (parameters (now (job .entry))) (now (transcript .entry))) .t) then g-norm (public (now (job .entry)) (now (randomness .entry))) ((message (parameters (now (job .entry))) (now (transcript .entry))) .g)) then check-28 (public (now (job .entry)) (now (randomness .entry))) (message (parameters (now (job .entry))) (now (transcript .entry)))) then (h-norm (public (now (job .entry)) (now (randomness .entry))) ((message (parameters (now (job .entry))) (now (transcript .entry))) .h) then check-29 (public (now (job .entry)) (now (randomness .entry))) (message (parameters (now (job .entry))) (now (transcript .entry))))) ⌝ }
+    ensures { λ v. ⌜ Kept (scratch-need (parameters (now (job .entry)))) (now (scratch .entry)) (now (scratch .exit)) ⌝ }
+{
+    match relations::check_relations(job, randomness, transcript, p, q, scratch) {
+        Verdict::Accepted => outer_commitments::check_commitments(
+            job,
+            randomness,
+            transcript,
+            p,
+            q,
+            scratch,
+        ),
+        Verdict::Refused(refusal) => Verdict::Refused(refusal),
+        Verdict::Failed(check) => Verdict::Failed(check),
+    }
+}
+
+// All checks, in order.
+pub fn check_all(
+    job: &[u32],
+    randomness: &[u32],
+    transcript: &[u32],
+    p: EnvironmentParameters,
+    q: Regions,
+    scratch: &mut [u32],
+) -> Verdict
+    requires { ⌜ Sent (now job) (now randomness) (now transcript) p × Ready (now job) p q (now scratch) ⌝ }
+    ensures { λ v. ⌜ ofVerdict v ≡ checks (public (now (job .entry)) (now (randomness .entry))) (message (parameters (now (job .entry))) (now (transcript .entry))) ⌝ }
+    ensures { λ v. ⌜ Kept (scratch-need (parameters (now (job .entry)))) (now (scratch .entry)) (now (scratch .exit)) ⌝ }
+{
+    match norm_checks::check_norms(job, randomness, transcript, p) {
+        Verdict::Accepted => check_rest(job, randomness, transcript, p, q, scratch),
+        Verdict::Refused(refusal) => Verdict::Refused(refusal),
+        Verdict::Failed(check) => Verdict::Failed(check),
+    }
+}
+
+// The work of a call that is refused nothing before it: "After any later answer scratch is zero to the length needed".
+fn work_and_clear(
+    job: &[u32],
+    randomness: &[u32],
+    transcript: &[u32],
+    p: EnvironmentParameters,
+    scratch: &mut [u32],
+) -> Verdict
+    requires { ⌜ Verifiable (now job) (now randomness) (now transcript) (length (now scratch)) p ⌝ }
+    ensures { λ v. ⌜ ofVerdict v ≡ checks (public (now (job .entry)) (now (randomness .entry))) (message (parameters (now (job .entry))) (now (transcript .entry))) ⌝ }
+    ensures { λ v. ⌜ now (scratch .exit) ≡ zeroed (scratch-need (parameters (now (job .entry)))) (now (scratch .entry)) ⌝ }
+{
+    let q = regions::lay_out(p.rank, p.multiplicity, p.kappa, p.const_agg_length);
+    let verdict = check_all(job, randomness, transcript, p, q, scratch);
+    let need = buffers::scratch_length(p);
+    words::clear(scratch, need);
+    verdict
+}
+
+// The verifier: its verdict and scratch.
+pub fn verify(job: &[u32], randomness: &[u32], transcript: &[u32], scratch: &mut [u32]) -> Verdict
+    ensures { λ v. ⌜ ofVerdict v ≡ verdict (now (job .entry)) (now (randomness .entry)) (now (transcript .entry)) (length (now (scratch .entry))) ⌝ }
+    ensures { λ v. ⌜ now (scratch .exit) ≡ verify-scratch (now (job .entry)) (now (randomness .entry)) (now (transcript .entry)) (now (scratch .entry)) ⌝ }
+{
+    match verifier::admit(job, randomness, transcript, scratch.len()) {
+        Admitted::Refused(refusal) => Verdict::Refused(refusal),
+        Admitted::Fit(p) => work_and_clear(job, randomness, transcript, p, scratch),
+    }
+}
