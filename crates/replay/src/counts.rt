@@ -7,22 +7,31 @@ pub const RECORDS: usize = 32;
 // How often a file's last record counted the others right.
 pub const WHOLE: usize = 33;
 
-// Where calls that are refused before the work are counted, by the refusal's number; those that reach it by 0.
-pub fn all_calls_of(number: u32) -> usize {
-    if number < 13 {
-        34 + number as usize
+// How many rows the calls on whole slices are counted in.
+pub const ROWS: u32 = 31;
+
+// The row of the transcripts that are accepted. Row 0 has what the prover makes; each other answer's row is its number.
+pub const ACCEPTED: u32 = 30;
+
+// The row of an answer's number; the calls that no row is for are in row 17, whose number no answer has.
+pub fn row_of(number: u32, verifies: bool) -> u32 {
+    if number == 0 && verifies {
+        ACCEPTED
+    } else if number < 30 {
+        number
     } else {
-        34
+        17
     }
 }
 
+// Where the calls of a row are counted.
+pub fn all_calls_of(row: u32) -> usize {
+    if row < ROWS { 34 + row as usize } else { 34 }
+}
+
 // Where those that are the same are counted.
-pub fn same_calls_of(number: u32) -> usize {
-    if number < 13 {
-        47 + number as usize
-    } else {
-        47
-    }
+pub fn same_calls_of(row: u32) -> usize {
+    if row < ROWS { 65 + row as usize } else { 65 }
 }
 
 // Where the records of a kind are counted.

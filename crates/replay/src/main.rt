@@ -1,8 +1,9 @@
-// Replays the published Rust's recorded answers on the leaf calls, and those of the calls on whole slices as far as they are refused before the work.
+// Replays the published Rust's recorded answers on the leaf calls and on the calls on whole slices.
 // It prints how many of each kind are the same, and a `differs` line for each that is not.
 mod calls;
 mod counts;
 mod leaves;
+mod marks;
 mod report;
 mod slices;
 mod words;
@@ -27,12 +28,20 @@ fn take_leaf(kind: u32, body: &[u8], record: u64, tally: &mut [u64]) {
     }
 }
 
-// Counts a call on whole slices.
-fn take_call(body: &[u8], record: u64, run: &[u32], lengths: &[usize], tally: &mut [u64]) {
-    let number = calls::number(body);
-    counts::bump(tally, counts::all_calls_of(number));
-    if calls::same(body, run, lengths) {
-        counts::bump(tally, counts::same_calls_of(number));
+// Makes a call on whole slices, with two buffers, and counts it.
+fn take_call(
+    body: &[u8],
+    record: u64,
+    run: &[u32],
+    lengths: &[usize],
+    scratch: &mut [u32],
+    output: &mut [u32],
+    tally: &mut [u64],
+) {
+    let row = counts::row_of(calls::number(body), calls::verifies(body));
+    counts::bump(tally, counts::all_calls_of(row));
+    if calls::same(body, run, lengths, scratch, output) {
+        counts::bump(tally, counts::same_calls_of(row));
     } else {
         report::differs(CALL, record);
     }
@@ -48,7 +57,15 @@ fn end(body: &[u8], tally: &mut [u64]) {
 }
 
 // Replays a record and counts it. Answers whether more records can follow.
-fn take(kind: u32, body: &[u8], run: &mut [u32], lengths: &mut [usize], tally: &mut [u64]) -> bool {
+fn take(
+    kind: u32,
+    body: &[u8],
+    run: &mut [u32],
+    lengths: &mut [usize],
+    scratch: &mut [u32],
+    output: &mut [u32],
+    tally: &mut [u64],
+) -> bool {
     let record = counts::read(tally, counts::RECORDS);
     if kind == END {
         end(body, tally);
@@ -58,7 +75,7 @@ fn take(kind: u32, body: &[u8], run: &mut [u32], lengths: &mut [usize], tally: &
     match kind {
         PUT => slices::put(body, run),
         LENGTH => slices::resize(body, lengths),
-        CALL => take_call(body, record, run, lengths, tally),
+        CALL => take_call(body, record, run, lengths, scratch, output, tally),
         _ => take_leaf(kind, body, record, tally),
     }
     true
@@ -79,16 +96,25 @@ fn take_part(
     bytes: &[u8],
     run: &mut [u32],
     lengths: &mut [usize],
+    scratch: &mut [u32],
+    output: &mut [u32],
     tally: &mut [u64],
 ) -> bool {
     if length > bytes.len() {
         return false;
     }
-    take(kind, &bytes[..length], run, lengths, tally)
+    take(kind, &bytes[..length], run, lengths, scratch, output, tally)
 }
 
 // Reads one record and replays it. Answers whether more records can follow.
-fn read_record(fd: i32, run: &mut [u32], lengths: &mut [usize], tally: &mut [u64]) -> bool {
+fn read_record(
+    fd: i32,
+    run: &mut [u32],
+    lengths: &mut [usize],
+    scratch: &mut [u32],
+    output: &mut [u32],
+    tally: &mut [u64],
+) -> bool {
     let mut head = [0u8; 8];
     let got = io::read_full(fd, &mut head);
     if got < 8 {
@@ -103,13 +129,29 @@ fn read_record(fd: i32, run: &mut [u32], lengths: &mut [usize], tally: &mut [u64
     if !read_part(fd, 4 * length, &mut bytes) {
         return false;
     }
-    take_part(kind, 4 * length, &bytes, run, lengths, tally)
+    take_part(
+        kind,
+        4 * length,
+        &bytes,
+        run,
+        lengths,
+        scratch,
+        output,
+        tally,
+    )
 }
 
 // Reads records until a file's last one. A proved loop has to end, so it counts down from a number that no file uses up.
-fn read_all(fd: i32, run: &mut [u32], lengths: &mut [usize], tally: &mut [u64]) {
+fn read_all(
+    fd: i32,
+    run: &mut [u32],
+    lengths: &mut [usize],
+    scratch: &mut [u32],
+    output: &mut [u32],
+    tally: &mut [u64],
+) {
     let mut turns = u64::MAX;
-    while turns > 0 && read_record(fd, run, lengths, tally) {
+    while turns > 0 && read_record(fd, run, lengths, scratch, output, tally) {
         turns -= 1;
     }
 }
@@ -123,12 +165,14 @@ fn read_file(path: &[u8], tally: &mut [u64]) {
     }
     let mut run = [0u32; slices::WORDS];
     let mut lengths = [0usize; 4];
-    read_all(fd, &mut run, &mut lengths, tally);
+    let mut scratch = [0u32; 16384];
+    let mut output = [0u32; 8192];
+    read_all(fd, &mut run, &mut lengths, &mut scratch, &mut output, tally);
     libc::close(fd);
 }
 
 fn main() {
-    let mut tally = [0u64; 64];
+    let mut tally = [0u64; 96];
     read_file(b"leaves", &mut tally);
     read_file(b"calls", &mut tally);
     report::all(&tally);

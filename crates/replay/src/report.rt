@@ -55,24 +55,31 @@ pub fn all(tally: &[u64]) {
     }
 }
 
-// A refusal before the work; `admitted` where there is none.
-fn print_refusal(number: u32) {
-    if number == 0 {
-        io::write_all(STDOUT_FILENO, b"admitted");
+// The answer of a row.
+fn print_answer(row: u32) {
+    if row == 0 {
+        io::write_all(STDOUT_FILENO, b"made");
+    } else if row == counts::ACCEPTED {
+        io::write_all(STDOUT_FILENO, b"accepted");
     } else {
-        io::write_all(STDOUT_FILENO, b"refusal ");
-        io::print_decimal(STDOUT_FILENO, number as u64);
+        io::write_all(STDOUT_FILENO, b"number ");
+        io::print_decimal(STDOUT_FILENO, row as u64);
     }
 }
 
-// The counts of the calls on whole slices, by their refusal before the work.
+// The counts of a row of calls on whole slices; nothing where the row has none.
+fn call_line(tally: &[u64], row: u32) {
+    let all = counts::read(tally, counts::all_calls_of(row));
+    if all > 0 {
+        print_answer(row);
+        counted(counts::read(tally, counts::same_calls_of(row)), all);
+    }
+}
+
+// The counts of the calls on whole slices, by their answers.
 pub fn calls(tally: &[u64]) {
-    for number in 0..13 {
-        print_refusal(number);
-        counted(
-            counts::read(tally, counts::same_calls_of(number)),
-            counts::read(tally, counts::all_calls_of(number)),
-        );
+    for row in 0..31 {
+        call_line(tally, row);
     }
 }
 

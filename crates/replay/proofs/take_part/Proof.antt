@@ -1,21 +1,20 @@
 -- `take_part` is safe: the part lent has the length asked for.
 use mathlib.Core.Path.{sym}
 use native.Mathlib.Omega.{arith}
-use lib.Seq.{length-take-le}
 use borrow.Author.Needs.{needs}
+use lib.Seq.{length-take-le}
 use Rattle.replay.proofs.take_part.Statement.{statement}
 use Rattle.replay.proofs.take_part.Tie as tie
-
-slice-aggregate-take : tie.Need-slice-aggregate-take
-slice-aggregate-take c = sym (length-take-le _ _ (omega arith))
 
 pub take-part-spec : {M : Type 1} → statement M
 take-part-spec =
     tie.close
     (tie.spec
     (λ c. search needs)
-    slice-aggregate-take
+    (λ c. sym (length-take-le _ _ (omega arith)))
     (λ c κs. search needs)
+    (λ c. search needs)
+    (λ c. search needs)
     (λ c. search needs)
     (λ c. search needs)
     (λ c. search needs)

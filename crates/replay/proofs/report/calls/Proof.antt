@@ -6,25 +6,10 @@ use Rattle.replay.proofs.report.calls.Statement.{statement}
 use Rattle.replay.proofs.report.calls.Tie as tie
 
 abbrev Inv-loop : tie.InvT-loop
-Inv-loop tally number₀ number = number ≤ 13
+Inv-loop tally row₀ row = row ≤ 31
 
 abbrev μ-loop : tie.MeasureT-loop
-μ-loop tally number₀ number = 13 - number
+μ-loop tally row₀ row = 31 - row
 
 pub calls-spec : {M : Type 1} → statement M
-calls-spec =
-    tie.close
-    (tie.spec
-    Inv-loop
-    μ-loop
-    (λ c. omega arith)
-    (λ c κs. search needs)
-    (λ c κs. search needs)
-    (λ c κs. search needs)
-    (λ c κs. search needs)
-    (λ c κs. search needs)
-    (λ c κs. search needs)
-    (λ c. omega arith)
-    (λ c. omega arith)
-    (λ c. omega arith)
-    (λ c. search needs))
+calls-spec = tie.close (tie.spec Inv-loop μ-loop (λ c. omega arith) (λ c κs. search needs) (λ c. omega arith) (λ c. omega arith) (λ c. omega arith) (λ c. search needs))
