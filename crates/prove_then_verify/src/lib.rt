@@ -1,0 +1,66 @@
+// The prover's whole call, then the verifier on the transcript that it makes: demand 3 over the two calls.
+use admission::answers::Admitted;
+use admission::calls::Call;
+use admission::job;
+use definitions::answers::Proved;
+use definitions::answers::Verdict;
+use prover::prove;
+use sizes::buffers;
+use verifier::verify;
+ghost use mathlib.Core.Path.{_≡_};
+ghost use Prim.Native.Nat.{_≤_};
+ghost use lib.ListN.{length, take};
+ghost use Rattle.definitions.specs.Answer.{result, _then_, ofVerdict};
+ghost use Rattle.protocol.specs.Parameters.{parameters};
+ghost use Rattle.protocol.specs.Layout.{span, transcript-sections, job-refusal};
+ghost use Rattle.protocol.specs.Views.{public, witness as vectors};
+ghost use Rattle.protocol.specs.Prover.{whole, prove as proved, prove-output, prove-scratch};
+ghost use Rattle.protocol.specs.Verifier.{verify as verdict, verify-scratch};
+ghost use Rattle.protocol.specs.Conditions.{conditions};
+
+// The length of a transcript of this job; 0 where the job is refused.
+pub fn transcript_length(job: &[u32]) -> usize
+    ensures { λ r. ⌜ r ≡ result (job-refusal (now (job .entry))) (span (transcript-sections (parameters (now (job .entry))))) 0 ⌝ }
+{
+    match job::check(job) {
+        Admitted::Refused(_) => 0,
+        Admitted::Fit(p) => buffers::output_length(p, 0, 8),
+    }
+}
+
+// The verdict on the first words of a buffer.
+fn verify_first(
+    job: &[u32],
+    randomness: &[u32],
+    words: &[u32],
+    count: usize,
+    scratch: &mut [u32],
+) -> Verdict
+    requires { ⌜ count ≤ length (now words) ⌝ }
+    ensures { λ v. ⌜ ofVerdict v ≡ verdict (now (job .entry)) (now (randomness .entry)) (take count (now (words .entry))) (length (now (scratch .entry))) ⌝ }
+    ensures { λ v. ⌜ now (scratch .exit) ≡ verify-scratch (now (job .entry)) (now (randomness .entry)) (take count (now (words .entry))) (now (scratch .entry)) ⌝ }
+{
+    let transcript = &words[..count];
+    verify::verify(job, randomness, transcript, scratch)
+}
+
+// The prover's refusal, or the verdict of the four conditions on job, randomness and witness.
+pub fn prove_then_verify(
+    job: &[u32],
+    randomness: &[u32],
+    witness: &[u32],
+    scratch: &mut [u32],
+    output: &mut [u32],
+) -> Verdict
+    ensures { λ v. ⌜ ofVerdict v ≡ proved whole (now (job .entry)) (now (randomness .entry)) (now (witness .entry)) (length (now (scratch .entry))) (length (now (output .entry))) then conditions (public (now (job .entry)) (now (randomness .entry))) (vectors (parameters (now (job .entry))) (now (witness .entry))) ⌝ }
+    ensures { λ v. ⌜ now (output .exit) ≡ prove-output whole (now (job .entry)) (now (randomness .entry)) (now (witness .entry)) (now (scratch .entry)) (now (output .entry)) ⌝ }
+    ensures { λ v. ⌜ now (scratch .exit) ≡ prove-scratch whole (now (job .entry)) (now (randomness .entry)) (now (witness .entry)) (now (scratch .entry)) (now (output .entry)) ⌝ }
+{
+    match prove::prove(Call::Whole, job, randomness, witness, scratch, output) {
+        Proved::Refused(refusal) => Verdict::Refused(refusal),
+        Proved::Made => {
+            let count = transcript_length(job);
+            verify_first(job, randomness, output, count, scratch)
+        }
+    }
+}
