@@ -270,7 +270,7 @@ static void test_challenge(void) {
 }
 
 /* A small fit job (n 2, r 2, kappa and L 4, one constraint of each kind that every witness meets), its randomness and a short witness. */
-enum { JOB = 4096, RANDOMNESS = 131072, WITNESS = 512, SCRATCH = 65536, OUTPUT = 4096, MARK = 0x5a5a5a5a };
+enum { JOB = 8192, RANDOMNESS = 131072, WITNESS = 512, SCRATCH = 65536, OUTPUT = 4096, MARK = 0x5a5a5a5a };
 
 static uint32_t job[JOB], randomness[RANDOMNESS], witness[WITNESS], scratch[SCRATCH], output[OUTPUT], joined[OUTPUT];
 static size_t job_length, randomness_length, witness_length, ends[8];
