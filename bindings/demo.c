@@ -155,7 +155,7 @@ static void judge(const char *what) {
 /* Judges with one word of the job or the transcript one higher, and sets it back. */
 static void damage(uint32_t *words, size_t place, const char *what) {
     uint32_t was = words[place];
-    words[place] = (was + 1) % Q;
+    words[place] = was == Q - 1 ? 0 : was + 1;
     judge(what);
     words[place] = was;
 }

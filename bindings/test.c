@@ -345,6 +345,8 @@ static void test_rounds(size_t scratch_need, size_t output_need) {
     CHECK(at == output_need && same(joined, output, output_need));
 }
 
+static uint32_t next(uint32_t word) { return word == Q - 1 ? 0 : word + 1; }
+
 static void test_calls(void) {
     size_t scratch_need, output_need;
     make_job();
@@ -363,14 +365,16 @@ static void test_calls(void) {
     CHECK(is_verdict(verdict_on(output, output_need, SCRATCH), 0, 0));
     CHECK(is_verdict(verdict_on(output, output_need, scratch_need - 1), 1, scratch_need));
     CHECK(is_verdict(verdict_on(output, output_need - 1, SCRATCH), 9, output_need - 1));
-    output[1] = (output[1] + 1) % Q;
+    uint32_t was = output[1];
+    output[1] = next(was);
     CHECK(is_verdict(verdict_on(output, output_need, SCRATCH), 28, 0));
-    output[1] = (output[1] + Q - 1) % Q;
+    output[1] = was;
     const size_t constant = 65 + 257 + 1 + 64;
-    uint32_t sent = output[constant] = (output[constant] + 1) % Q;
+    was = output[constant];
+    uint32_t sent = output[constant] = next(was);
     labrador_verdict v = verdict_on(output, output_need, SCRATCH);
     CHECK(v.number == 22 && v.index == 1 && v.place == 0 && v.first_hi == 0 && v.first_lo == sent && v.second_hi == 0 &&
-          v.second_lo == (sent + Q - 1) % Q);
+          v.second_lo == was);
     output[constant] = Q;
     CHECK(is_verdict(verdict_on(output, output_need, SCRATCH), 10, constant));
     job[12] = job[13] = job[14] = 0;
