@@ -166,14 +166,14 @@ fn slice(random: &mut Random, call: SliceCall, sizes: Vec<usize>) -> Kernel {
     }
 }
 
-/// A whole call on a statement that is met.
-fn whole(random: &mut Random, call: Call, n: usize, r: usize) -> Kernel {
-    let p = Parameters {
+/// The parameters of the calls on whole slices.
+fn parameters(n: usize, r: usize) -> Parameters {
+    Parameters {
         n,
         r,
         kappa: 4,
-        kappa1: 5,
-        kappa2: 5,
+        kappa1: 4,
+        kappa2: 4,
         ring: 5,
         constant: 5,
         log_q: 32,
@@ -183,7 +183,66 @@ fn whole(random: &mut Random, call: Call, n: usize, r: usize) -> Kernel {
         beta_sq: LOOSE,
         beta_prime_sq: LOOSE,
         bounds: [LOOSE; 4],
+    }
+}
+
+/// Rounds of timing of a whole call: fewer where it takes longer.
+fn rounds(n: usize, r: usize) -> usize {
+    (2000 / (n * r)).clamp(2, 30)
+}
+
+/// The verifier on a transcript with a word one higher, or under a limit of 0, so that a check fails: the work up to that check.
+fn failing(random: &mut Random, number: u32) -> Kernel {
+    let (n, r) = (16, 4);
+    let mut p = parameters(n, r);
+    match number {
+        21 => p.beta_sq = 0,
+        23 => p.beta_prime_sq = 0,
+        _ => {}
+    }
+    let instance = Instance::random(random, p, Size::Bits(8));
+    let (job, randomness) = (instance.job_words(), instance.randomness_words());
+    let rust_job = rust::Job::new(&job);
+    let mut sections = rust::prove(&rust_job, &randomness, &instance.witness_words()).1;
+    let place = match number {
+        22 => Some((2, 0)),
+        24 => Some((4, 0)),
+        25 => Some((6, 0)),
+        26 => Some((7, 0)),
+        27 => Some((2, 1)),
+        28 => Some((0, 0)),
+        29 => Some((3, 0)),
+        _ => None,
     };
+    if let Some((section, word)) = place {
+        let changed = &mut sections[section][word];
+        *changed = (*changed + 1) % Q;
+    }
+    let transcript = join(&sections);
+    let proof = rust::proof(&rust_job, &transcript);
+    let loaded = randomness.clone();
+    let mut scratch = vec![0; p.scratch_need()];
+    Kernel {
+        calls: 1,
+        rounds: rounds(n, r),
+        ours: Box::new(move || {
+            let handed = library::Handed {
+                job: &job,
+                randomness: &randomness,
+                third: black_box(&transcript),
+                scratch: &mut scratch,
+                output: &mut [],
+            };
+            assert!(library::whole(Call::Verify, handed).is_some_and(|answer| answer.number == number));
+        }),
+        prepare: Box::new(move || rust::load(&loaded)),
+        theirs: Box::new(move || assert!(rust::run_verifier(&rust_job, black_box(&proof)).is_err())),
+    }
+}
+
+/// A whole call on a statement that is met. A round is timed against the Rust's whole prover.
+fn whole(random: &mut Random, call: Call, n: usize, r: usize) -> Kernel {
+    let p = parameters(n, r);
     let instance = Instance::random(random, p, Size::Bits(8));
     let (job, randomness) = (instance.job_words(), instance.randomness_words());
     let rust_job = rust::Job::new(&job);
@@ -203,15 +262,16 @@ fn whole(random: &mut Random, call: Call, n: usize, r: usize) -> Kernel {
         }
     };
     let loaded = randomness.clone();
+    let handed_over = join(&instance.randomness[..call.randomness_sections()]);
     let mut scratch = vec![0; p.scratch_need()];
     let mut output = vec![0; output_need(&p, call)];
     Kernel {
         calls: 1,
-        rounds: 30,
+        rounds: rounds(n, r),
         ours: Box::new(move || {
             let handed = library::Handed {
                 job: &job,
-                randomness: &randomness,
+                randomness: &handed_over,
                 third: black_box(&third),
                 scratch: &mut scratch,
                 output: &mut output,
@@ -300,15 +360,41 @@ pub fn kernels() -> Vec<Entry> {
         ]);
     }
     if library::HAS_WHOLE_CALLS {
-        all.extend([
-            (
-                "prove, n 4, r 2",
-                (|random| whole(random, Call::Prove, 4, 2)) as fn(&mut Random) -> Kernel,
-            ),
-            ("verify, n 4, r 2", |random| whole(random, Call::Verify, 4, 2)),
+        let rows: [Entry; 32] = [
+            ("prove, n 4, r 3", |random| whole(random, Call::Prove, 4, 3)),
+            ("verify, n 4, r 3", |random| whole(random, Call::Verify, 4, 3)),
             ("prove, n 16, r 4", |random| whole(random, Call::Prove, 16, 4)),
             ("verify, n 16, r 4", |random| whole(random, Call::Verify, 16, 4)),
-        ]);
+            ("prove, n 64, r 16", |random| whole(random, Call::Prove, 64, 16)),
+            ("verify, n 64, r 16", |random| whole(random, Call::Verify, 64, 16)),
+            ("round 1 (u1), n 16, r 4, against the whole prover", |random| whole(random, Call::Round(1), 16, 4)),
+            ("round 2 (p), n 16, r 4, against the whole prover", |random| whole(random, Call::Round(2), 16, 4)),
+            ("round 3 (b''), n 16, r 4, against the whole prover", |random| whole(random, Call::Round(3), 16, 4)),
+            ("round 4 (u2), n 16, r 4, against the whole prover", |random| whole(random, Call::Round(4), 16, 4)),
+            ("round 5 (z, t, g, h), n 16, r 4, against the whole prover", |random| whole(random, Call::Round(5), 16, 4)),
+            ("verify that fails 21, n 16, r 4", |random| failing(random, 21)),
+            ("verify that fails 22, n 16, r 4", |random| failing(random, 22)),
+            ("verify that fails 23, n 16, r 4", |random| failing(random, 23)),
+            ("verify that fails 24, n 16, r 4", |random| failing(random, 24)),
+            ("verify that fails 25, n 16, r 4", |random| failing(random, 25)),
+            ("verify that fails 26, n 16, r 4", |random| failing(random, 26)),
+            ("verify that fails 27, n 16, r 4", |random| failing(random, 27)),
+            ("verify that fails 28, n 16, r 4", |random| failing(random, 28)),
+            ("verify that fails 29, n 16, r 4", |random| failing(random, 29)),
+            ("prove, n 8, r 4 (growth)", |random| whole(random, Call::Prove, 8, 4)),
+            ("verify, n 8, r 4 (growth)", |random| whole(random, Call::Verify, 8, 4)),
+            ("prove, n 32, r 4 (growth)", |random| whole(random, Call::Prove, 32, 4)),
+            ("verify, n 32, r 4 (growth)", |random| whole(random, Call::Verify, 32, 4)),
+            ("prove, n 64, r 4 (growth)", |random| whole(random, Call::Prove, 64, 4)),
+            ("verify, n 64, r 4 (growth)", |random| whole(random, Call::Verify, 64, 4)),
+            ("prove, n 16, r 2 (growth)", |random| whole(random, Call::Prove, 16, 2)),
+            ("verify, n 16, r 2 (growth)", |random| whole(random, Call::Verify, 16, 2)),
+            ("prove, n 16, r 8 (growth)", |random| whole(random, Call::Prove, 16, 8)),
+            ("verify, n 16, r 8 (growth)", |random| whole(random, Call::Verify, 16, 8)),
+            ("prove, n 16, r 16 (growth)", |random| whole(random, Call::Prove, 16, 16)),
+            ("verify, n 16, r 16 (growth)", |random| whole(random, Call::Verify, 16, 16)),
+        ];
+        all.extend(rows);
     }
     all
 }

@@ -57,14 +57,15 @@ fn instructions(name: &str, calls: usize, side: &str) -> Option<f64> {
     Some(more as f64 / ((many - few) * calls) as f64)
 }
 
-pub fn print() {
+pub fn print(start: &str) {
     println!("| call | ours, ns | Rust, ns | ratio | ours, instructions | Rust, instructions | ratio |");
     println!("|---|---:|---:|---:|---:|---:|---:|");
-    for (name, make) in kernels() {
+    for (name, make) in kernels().into_iter().filter(|entry| entry.0.starts_with(start)) {
         let mut kernel = make(&mut Random::new(1));
         let (ours, theirs) = time(&mut kernel);
         print!("| {name} | {ours:.0} | {theirs:.0} | {:.2} |", ours / theirs);
-        let count = |side: &str| instructions(name, kernel.calls, side);
+        // a call that is timed a few times only is too long for callgrind
+        let count = |side: &str| (kernel.rounds > 20).then(|| instructions(name, kernel.calls, side)).flatten();
         match (count("ours"), count("theirs")) {
             (Some(ours), Some(theirs)) => println!(" {ours:.0} | {theirs:.0} | {:.2} |", ours / theirs),
             _ => println!(" not counted | not counted | |"),

@@ -185,6 +185,10 @@ impl Context {
         let breach = conditions::first_breach(&values, &drawn, &s);
         self.tally
             .compare("four conditions with the Rust's verdict", &breach, &verdict, described);
+        if let Some(ours) = prove_then_verify(&job, &randomness, &witness, p.scratch_need(), transcript.len()) {
+            self.tally
+                .compare("library's prove then verify with the four conditions", &ours, &breach, described);
+        }
         self.tally.occurred(CONDITIONS, format!("{:>2}", breach.number));
         Some(transcript)
     }
@@ -279,4 +283,33 @@ fn ours(case: &Case) -> Option<Seen> {
 
 fn row(call: Call, number: u32) -> String {
     format!("{:<8}{number:>2}", call.name())
+}
+
+/// The library's prover, then its verifier on the words that the prover made.
+fn prove_then_verify(job: &[u32], randomness: &[u32], witness: &[u32], scratch: usize, output: usize) -> Option<Answer> {
+    let mut scratch = vec![0; scratch];
+    let mut made = vec![0; output];
+    let proved = library::whole(
+        Call::Prove,
+        library::Handed {
+            job,
+            randomness,
+            third: witness,
+            scratch: &mut scratch,
+            output: &mut made,
+        },
+    )?;
+    if proved.number > 0 {
+        return Some(proved);
+    }
+    library::whole(
+        Call::Verify,
+        library::Handed {
+            job,
+            randomness,
+            third: &made,
+            scratch: &mut scratch,
+            output: &mut [],
+        },
+    )
 }
