@@ -191,6 +191,38 @@ fn rounds(n: usize, r: usize) -> usize {
     (2000 / (n * r)).clamp(2, 30)
 }
 
+/// A call on whole slices, whose answer has a number, against a run of the Rust that is loaded with the randomness.
+fn on_slices(
+    p: Parameters,
+    call: Call,
+    instance: &Instance,
+    third: Vec<u32>,
+    number: u32,
+    theirs: Box<dyn FnMut()>,
+) -> Kernel {
+    let job = instance.job_words();
+    let randomness = join(&instance.randomness[..call.randomness_sections()]);
+    let loaded = instance.randomness_words();
+    let mut scratch = vec![0; p.scratch_need()];
+    let mut output = vec![0; output_need(&p, call)];
+    Kernel {
+        calls: 1,
+        rounds: rounds(p.n, p.r),
+        ours: Box::new(move || {
+            let handed = library::Handed {
+                job: &job,
+                randomness: &randomness,
+                third: black_box(&third),
+                scratch: &mut scratch,
+                output: &mut output,
+            };
+            assert!(library::whole(call, handed).is_some_and(|answer| answer.number == number));
+        }),
+        prepare: Box::new(move || rust::load(&loaded)),
+        theirs,
+    }
+}
+
 /// The verifier on a transcript with a word one higher, or under a limit of 0, so that a check fails: the work up to that check.
 fn failing(random: &mut Random, number: u32) -> Kernel {
     let (n, r) = (16, 4);
@@ -220,24 +252,8 @@ fn failing(random: &mut Random, number: u32) -> Kernel {
     }
     let transcript = join(&sections);
     let proof = rust::proof(&rust_job, &transcript);
-    let loaded = randomness.clone();
-    let mut scratch = vec![0; p.scratch_need()];
-    Kernel {
-        calls: 1,
-        rounds: rounds(n, r),
-        ours: Box::new(move || {
-            let handed = library::Handed {
-                job: &job,
-                randomness: &randomness,
-                third: black_box(&transcript),
-                scratch: &mut scratch,
-                output: &mut [],
-            };
-            assert!(library::whole(Call::Verify, handed).is_some_and(|answer| answer.number == number));
-        }),
-        prepare: Box::new(move || rust::load(&loaded)),
-        theirs: Box::new(move || assert!(rust::run_verifier(&rust_job, black_box(&proof)).is_err())),
-    }
+    let theirs = Box::new(move || assert!(rust::run_verifier(&rust_job, black_box(&proof)).is_err()));
+    on_slices(p, Call::Verify, &instance, transcript, number, theirs)
 }
 
 /// A whole call on a statement that is met. A round is timed against the Rust's whole prover.
@@ -261,46 +277,16 @@ fn whole(random: &mut Random, call: Call, n: usize, r: usize) -> Kernel {
             Box::new(move || assert!(rust::run_prover(&rust_job, black_box(&witness)).is_ok()))
         }
     };
-    let loaded = randomness.clone();
-    let handed_over = join(&instance.randomness[..call.randomness_sections()]);
-    let mut scratch = vec![0; p.scratch_need()];
-    let mut output = vec![0; output_need(&p, call)];
-    Kernel {
-        calls: 1,
-        rounds: rounds(n, r),
-        ours: Box::new(move || {
-            let handed = library::Handed {
-                job: &job,
-                randomness: &handed_over,
-                third: black_box(&third),
-                scratch: &mut scratch,
-                output: &mut output,
-            };
-            assert!(library::whole(call, handed).is_some_and(|answer| answer.is_fine()));
-        }),
-        prepare: Box::new(move || rust::load(&loaded)),
-        theirs,
-    }
+    on_slices(p, call, &instance, third, 0, theirs)
 }
 
 /// The tests before the work: a call on fit slices that is lent no scratch, so that it is refused once every word of the
 /// slices has been judged. Beside it a plain scan of the same words.
 fn judged(random: &mut Random) -> Kernel {
     let p = Parameters {
-        n: 16,
-        r: 4,
-        kappa: 4,
-        kappa1: 5,
-        kappa2: 5,
         ring: 64,
         constant: 64,
-        log_q: 32,
-        b: 256,
-        t1: 4,
-        t2: 4,
-        beta_sq: LOOSE,
-        beta_prime_sq: LOOSE,
-        bounds: [LOOSE; 4],
+        ..parameters(16, 4)
     };
     let instance = Instance::random(random, p, Size::Bits(8));
     let slices = [
