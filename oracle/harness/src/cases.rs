@@ -238,7 +238,7 @@ impl Tally {
     }
 }
 
-/// What is seen of a call of the library: its answer, and the first word of each buffer that is not as expected.
+/// What is seen of a call of the library: its answer, and the first word of each buffer, guard words before it included, that is not as expected.
 #[derive(Debug, Default, PartialEq, Eq)]
 struct Seen {
     answer: Answer,
@@ -246,7 +246,7 @@ struct Seen {
     output: Option<usize>,
 }
 
-/// Words behind each lent buffer, which no call may touch.
+/// Words before and behind each lent buffer, which no call may touch.
 const GUARD: usize = 16;
 
 /// The library's call on a case, with buffers whose words are all known beforehand.
@@ -254,7 +254,7 @@ fn ours(case: &Case) -> Option<Seen> {
     if !library::HAS_WHOLE_CALLS {
         return None;
     }
-    let before = |length: usize| -> Vec<u32> { (0..length + GUARD).map(|k| 0xc0de_0000 ^ k as u32).collect() };
+    let before = |length: usize| -> Vec<u32> { (0..GUARD + length + GUARD).map(|k| 0xc0de_0000 ^ k as u32).collect() };
     let mut scratch = before(case.scratch);
     let mut output = before(case.output);
     let answer = library::whole(
@@ -263,15 +263,15 @@ fn ours(case: &Case) -> Option<Seen> {
             job: &case.job,
             randomness: &case.randomness,
             third: &case.third,
-            scratch: &mut scratch[..case.scratch],
-            output: &mut output[..case.output],
+            scratch: &mut scratch[GUARD..GUARD + case.scratch],
+            output: &mut output[GUARD..GUARD + case.output],
         },
     )?;
     let mut scratch_after = before(case.scratch);
     let mut output_after = before(case.output);
     if let Some(words) = &case.expected.worked {
-        scratch_after[..case.scratch_need()].fill(0);
-        output_after[..words.len()].copy_from_slice(words);
+        scratch_after[GUARD..GUARD + case.scratch_need()].fill(0);
+        output_after[GUARD..GUARD + words.len()].copy_from_slice(words);
     }
     let first = |x: &[u32], y: &[u32]| x.iter().zip(y).position(|(a, b)| a != b);
     Some(Seen {
