@@ -9,7 +9,6 @@ use lib.Seq.{getD-take, length-take-le}
 use Rattle.lists.specs.Part.{splice}
 use Rattle.lists.proofs.Splice.{splice-eq, length-splice}
 use Rattle.definitions.specs.declared.answers.Refusal.{Refusal}
-use Rattle.definitions.specs.declared.answers.Refusal.the-variants as R
 use Rattle.definitions.specs.declared.answers.Proved.{Proved}
 use Rattle.definitions.specs.declared.answers.Proved.the-variants as E
 use Rattle.definitions.specs.Answer.{Answer, fine, result, ofRefusal, ofProved, _then_}
@@ -30,6 +29,7 @@ use Rattle.admission.specs.declared.calls.Call.the-variants as C
 use Rattle.admission.specs.declared.calls.Call as Code
 use Rattle.admission.specs.Admission.{Provable, callOf}
 use Rattle.admission.proofs.Stages.{stops-at}
+use Rattle.admission.proofs.Fit.{refusal-none}
 use Rattle.workspace.specs.Ready.{Drawn}
 use Rattle.workspace.specs.Holds.{Kept}
 use Rattle.prover.specs.Words.{X, s, u₁-words, p-words, b″-words, u₂-words, z-words, t-words, g-words, h-words}
@@ -46,28 +46,9 @@ from-zero a b c h = omega arith
 none-before : (a b : ℕ) → a ≡ b → 0 + a ≡ b
 none-before a b h = omega arith
 
--- the result part of a refusal
-pub refused-result {ℓ} : {A : Type ℓ} (r : Refusal) (value none : A) → none ≡ result (ofRefusal r) value none
-refused-result (R.ScratchTooShort p) value none = refl
-refused-result (R.OutputTooShort p) value none = refl
-refused-result (R.JobLayout p) value none = refl
-refused-result (R.ParameterOutOfLimits p) value none = refl
-refused-result (R.KappaIsNotL p) value none = refl
-refused-result (R.JobWord p) value none = refl
-refused-result (R.RandomnessLayout p) value none = refl
-refused-result (R.RandomnessWord p) value none = refl
-refused-result (R.TranscriptLayout p) value none = refl
-refused-result (R.TranscriptWord p) value none = refl
-refused-result (R.WitnessLayout p) value none = refl
-refused-result (R.WitnessWord p) value none = refl
-refused-result (R.WitnessNorm p) value none = refl
-refused-result R.DigitsOfT value none = refl
-refused-result R.DigitsOfG value none = refl
-refused-result R.DigitsOfH value none = refl
-
 -- a refusal that is an answer: that answer's result part
 pub refused-is {ℓ} : {A : Type ℓ} (r : Refusal) {a : Answer} (value none : A) → ofRefusal r ≡ a → none ≡ result a value none
-refused-is r value none e = refused-result r value none ∙ ap (λ x. result x value none) e
+refused-is r value none e = refusal-none r value none ∙ ap (λ x. result x value none) e
 
 module _ (J R W : List ℕ) where
   -- calls that work out h refuse the same, and so do calls that do not
@@ -133,7 +114,7 @@ Done call J R W r S S′ O O′ =
 -- of a refusal
 pub done-refused : (call : Call) (J R W : List ℕ) (k : Proved) (r : Refusal) (S S′ O : List ℕ) → k ≡ E.Refused r → ofProved k ≡ work-refusal (X J R W) call (s J R W)
     → Kept (scratch-need (parameters J)) S S′ → Done call J R W (E.Refused r) S S′ O O
-done-refused call J R W k r S S′ O told e kept = (sym (ap ofProved told) ∙ e, (kept, refused-result r (splice O 0 (made (X J R W) call (s J R W))) O))
+done-refused call J R W k r S S′ O told e kept = (sym (ap ofProved told) ∙ e, (kept, refusal-none r (splice O 0 (made (X J R W) call (s J R W))) O))
 
 -- of words that are made
 pub done-made : (call : Call) (J R W : List ℕ) (k : Proved) (S S′ O O′ ws : List ℕ) → k ≡ E.Made → ofProved k ≡ work-refusal (X J R W) call (s J R W)
@@ -142,7 +123,7 @@ done-made call J R W k S S′ O O′ ws told e kept stored same = (sym (ap ofPro
 
 -- a refusal leaves the output as it was
 pub unchanged : (k : Proved) (r : Refusal) (O′ ws O : List ℕ) → k ≡ E.Refused r → O′ ≡ result (ofProved k) ws O → O′ ≡ O
-unchanged k r O′ ws O told e = e ∙ ap (λ x. result (ofProved x) ws O) told ∙ sym (refused-result r ws O)
+unchanged k r O′ ws O told e = e ∙ ap (λ x. result (ofProved x) ws O) told ∙ sym (refusal-none r ws O)
 
 -- room for the first of some sections
 pub room-first : (room at : ℕ) (xs ys : List (List ℕ)) → at + length (sections (xs ++ ys)) ≤ room → at + length (sections xs) ≤ room
