@@ -26,6 +26,10 @@ refused-not-fine number place e = let z : _≡_ {A = ℕ} 0 1 = cc in omega arit
 pub failed-not-fine : (number : ℕ) (values : List ℕ) → failed number values ≡ fine → ⊥
 failed-not-fine number values e = let z : _≡_ {A = ℕ} 0 1 = cc in omega arith
 
+-- a failed check is not a refusal
+pub failed-not-refused : (number : ℕ) (values : List ℕ) (number′ place : ℕ) → failed number values ≡ refused number′ place → ⊥
+failed-not-refused number values number′ place e = let z : _≡_ {A = ℕ} 0 1 = cc in omega arith
+
 -- two fine answers
 pub then-both-fine : {a b : Answer} → a ≡ fine → b ≡ fine → a then b ≡ fine
 then-both-fine {b = b} e f = ap (λ x. x then b) e ∙ f

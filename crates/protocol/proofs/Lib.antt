@@ -18,6 +18,7 @@ pub mod Handed
 pub mod Rounds
 pub mod Total
 pub mod Demand3
+pub mod Stated
 pub mod Stored
 pub mod Region
 pub mod Examples

@@ -1,11 +1,13 @@
 -- Demand 3's four conditions, of job, randomness and witness alone (document 01, "What the prover works out", its last two paragraphs).
+use mathlib.Core.Path.{_≡_}
+use mathlib.Core.Logic.{_↔_, _⊎_}
 use mathlib.Core.List.{List, [], _∷_}
-use Prim.Native.Nat.{ℕ, _+_, _*_, _%_}
+use Prim.Native.Nat.{ℕ, _+_, _*_, _%_, _≤_, _<_}
 use native.Mathlib.Decide.{decLe, ℕ-discrete}
 use Rattle.lists.specs.Sum.{Σ}
 use Rattle.definitions.specs.Zq.{Q, zsub}
 use Rattle.definitions.specs.Norm.{square, norm}
-use Rattle.definitions.specs.Answer.{Answer, failed, _then_}
+use Rattle.definitions.specs.Answer.{Answer, fine, refused, failed, number, _then_}
 use Rattle.definitions.specs.Rq.{Element, coeff, rzero, rsub, digitRow}
 use Rattle.definitions.specs.Ring.{words, element}
 use mathlib.Core.List.{List-discrete}
@@ -64,3 +66,34 @@ module _ (X : Public) (s : ℕ → ℕ → Element) where
       then first L (λ k. require (ℕ-discrete (psi-error k) 0) (failed 22 (k ∷ sent k ∷ computed k ∷ [])))
       then require (decLe digit-sum beta-prime-sq) (failed 23 (digit-sum ∷ beta-prime-sq ∷ []))
       then require (List-discrete ℕ-discrete (words alpha-error) rzero) (failed 27 [])
+
+  -- "It accepts exactly when: the projection's norm is within its limit; for each psi row the weighted errors of the constant-term constraints sum to zero; the digit norms together are within their limit; the alpha-weighted errors of the ring constraints sum to zero."
+  pub record Held : Type 0 where
+    pub projection : p-norm ≤ 128 * beta-sq
+    pub psi : (k : ℕ) → k < L → psi-error k ≡ 0
+    pub digits : digit-sum ≤ beta-prime-sq
+    pub alpha : words alpha-error ≡ rzero
+
+  -- "Otherwise it names the first of these four, in this order, that fails, with its figures": what an answer says of the four
+  pub data Named : Answer → Type 0 where
+    all-hold : Held → Named fine
+    by-21 : 128 * beta-sq < p-norm → Named (failed 21 (p-norm ∷ 128 * beta-sq ∷ []))
+    by-22 : (k : ℕ) → p-norm ≤ 128 * beta-sq → k < L → ((j : ℕ) → j < k → psi-error j ≡ 0) → (psi-error k ≡ 0 → ⊥) → Named (failed 22 (k ∷ sent k ∷ computed k ∷ []))
+    by-23 : p-norm ≤ 128 * beta-sq → ((k : ℕ) → k < L → psi-error k ≡ 0) → beta-prime-sq < digit-sum → Named (failed 23 (digit-sum ∷ beta-prime-sq ∷ []))
+    by-27 : p-norm ≤ 128 * beta-sq → ((k : ℕ) → k < L → psi-error k ≡ 0) → digit-sum ≤ beta-prime-sq → (words alpha-error ≡ rzero → ⊥) → Named (failed 27 [])
+
+  -- "a constraint is met where it is zero": a witness that meets all constraints
+  pub record Meets : Type 0 where
+    pub constants : (x : ℕ) → x < l → constant-error x ≡ 0
+    pub rings : (k : ℕ) → k < K → words (ring-error k) ≡ rzero
+
+  -- demand 3's sentences, of an answer
+  pub record Demand-3 (verdict : Answer) : Type 0 where
+    -- "It accepts exactly when" the four hold
+    pub accepts-exactly-when : (verdict ≡ fine) ↔ Held
+    -- "the verifier never refuses it"
+    pub never-refuses : (number place : ℕ) → verdict ≡ refused number place → ⊥
+    -- "it names the first of these four, in this order, that fails, with its figures, and none of document 01's other checks ever fails"
+    pub names-the-first : Named verdict
+    -- "A witness that meets all constraints can fail by norm only, the projection's or the digits'."
+    pub by-norm-only : Meets → (verdict ≡ fine) ⊎ ((number verdict ≡ 21) ⊎ (number verdict ≡ 23))

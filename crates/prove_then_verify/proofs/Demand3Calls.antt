@@ -15,11 +15,12 @@ use Rattle.protocol.specs.Layout.{span, sections, transcript-sections, job-refu
 use Rattle.protocol.specs.Views.{public, witness}
 use Rattle.protocol.specs.Prover.{whole, transcript, zeroed, prove, prove-refusal, prove-output, prove-scratch}
 use Rattle.protocol.specs.Verifier.{verify, verify-refusal, verify-scratch}
-use Rattle.protocol.specs.Conditions.{conditions}
+use Rattle.protocol.specs.Conditions.{conditions, Demand-3}
 use Rattle.protocol.proofs.Fine.{require-holds, then-both-fine}
 use Rattle.protocol.proofs.Accepted.{Admitted, admitted, before-work, output-made, made-whole, transcript-fine}
 use Rattle.protocol.proofs.Total.{output-kept, scratch-kept}
 use Rattle.protocol.proofs.Demand3.{demand-3}
+use Rattle.protocol.proofs.Stated.{stated}
 use Rattle.admission.proofs.Stages.{stops-at}
 
 -- the part of the output that is handed to the verifier
@@ -49,6 +50,10 @@ module _ (J R W scratch output : List ℕ) where
       -- the verdict that the verifier's contract ensures is that of the four conditions
       pub demand-3-over-calls : (v : Verdict) (lent : ℕ) → scratch-need (parameters J) ≤ lent → ofVerdict v ≡ verify J R (sent J exit) lent → ofVerdict v ≡ conditions (public J R) (witness (parameters J) W)
       demand-3-over-calls v lent enough judged = judged ∙ ap (λ o. verify J R (sent J o) lent) left ∙ demand-3 J R W scratch output lent (sym proved) enough
+
+      -- and so it is as demand 3 says: accepted exactly when the four hold, never refused, else the first that fails; by norm only where all constraints are met
+      pub stated-over-calls : (v : Verdict) (lent : ℕ) → scratch-need (parameters J) ≤ lent → ofVerdict v ≡ verify J R (sent J exit) lent → Demand-3 (public J R) (witness (parameters J) W) (ofVerdict v)
+      stated-over-calls v lent enough judged = stated (demand-3-over-calls v lent enough judged)
 
       -- as one answer of both calls
       pub verdict-of-both : (v : Verdict) (lent : ℕ) → scratch-need (parameters J) ≤ lent → ofVerdict v ≡ verify J R (sent J exit) lent
