@@ -14,8 +14,8 @@ use Rattle.definitions.specs.Rq.{Element}
 use Rattle.protocol.specs.Formulas.{flat, rows}
 use Rattle.protocol.proofs.Flat.{length-flat, length-rows}
 use Rattle.protocol.proofs.Stored.{flat-append}
-use Rattle.jl.specs.Fours.{spread}
-use Rattle.jl.proofs.Spread.{spread-ext, spread-all, spread-more}
+use Rattle.jl_fours.specs.Fours.{spread}
+use Rattle.jl_fours.proofs.Spread.{spread-ext, spread-all, spread-more}
 
 -- empty runs
 spread-nil : (l : List ℕ) (at step q : ℕ) (f : ℕ → List ℕ) → ((k : ℕ) → f k ≡ []) → l ≡ spread l at step q f

@@ -14,8 +14,8 @@ use Rattle.definitions.specs.Rq.{Element}
 use Rattle.definitions.specs.Ring.{RqOps, element, scale}
 use Rattle.definitions.proofs.RqRing.{rq-ring}
 use Rattle.inner_product.specs.Run.{run}
-use Rattle.jl.specs.Omega.{omega-element}
-use Rattle.jl.proofs.Formula.{φ″-parts}
+use Rattle.jl_omega.specs.Omega.{omega-element}
+use Rattle.jl_omega.proofs.Formula.{φ″-parts}
 use Rattle.protocol.specs.Parameters.{Parameters, parameters, T}
 use Rattle.protocol.specs.Layout.{start, job-sections, randomness-sections}
 use Rattle.protocol.specs.Views.{Public, public, element-at, cell}

@@ -14,7 +14,7 @@ use Rattle.definitions.specs.Ring.{RqOps, words, element}
 use Rattle.definitions.proofs.Bridge.{element-words, element-radd, words-element, radd-element}
 use Rattle.protocol.specs.Views.{element-at}
 use Rattle.protocol.specs.Formulas.{flat, rows, _⊕_}
-use Rattle.jl.specs.Omega.{omega-element}
+use Rattle.jl_omega.specs.Omega.{omega-element}
 use Rattle.protocol.proofs.Flat.{length-flat, length-rows, row-cell}
 use Rattle.protocol.proofs.Stored.{flat-append}
 use Rattle.protocol.proofs.Region.{Vectors, elements-list, length-lists, rows-ext, vectors-of}

@@ -5,7 +5,7 @@ use lib.ListN.{length, getD}
 use Rattle.definitions.specs.Rq.{Element}
 use Rattle.definitions.specs.Ring.{scale}
 use Rattle.inner_product.specs.Run.{run}
-use Rattle.jl.specs.Omega.{omega-element}
+use Rattle.jl_omega.specs.Omega.{omega-element}
 use Rattle.protocol.specs.Parameters.{triangular}
 use Rattle.protocol.specs.Views.{element-at, cell}
 use Rattle.protocol.specs.Formulas.{rows, _⊕_, _⊗_, sum, dot, pairs}

@@ -1,8 +1,6 @@
 // The two aggregations (core/aggregate.rs). The constraints' cells or vectors stand one constraint after the other, `width` elements each; element c of
 // the result is weighed over the constraints' elements c.
 use inner_product;
-use jl::fours;
-use jl::omega;
 use rq::rq::Rq;
 use rq_matrix;
 ghost use mathlib.Core.Path.{_≡_};
@@ -12,7 +10,7 @@ ghost use Rattle.lists.specs.Table.{table, cat};
 ghost use Rattle.lists.specs.Part.{splice};
 ghost use Rattle.definitions.specs.Ring.{words};
 ghost use Rattle.inner_product.specs.Run.{Run, run};
-ghost use Rattle.jl.specs.Omega.{omega-element};
+ghost use Rattle.jl_omega.specs.Omega.{omega-element};
 ghost use Rattle.protocol.specs.Parameters.{triangular};
 ghost use Rattle.protocol.specs.Formulas.{flat, rows, _⊕_};
 ghost use Rattle.aggregate.specs.Weighed.{Grid, weighed, omega-rows, both, mixed, Formed, formed};
@@ -89,7 +87,7 @@ pub fn omega_parts(
     let mut place = to;
     let mut i = 0;
     while i < r {
-        omega::omega_part(randomness, pi, omega_at, n, out, place);
+        jl_omega::omega_part(randomness, pi, omega_at, n, out, place);
         pi += 16384 * n;
         place += 64 * n;
         i += 1;
@@ -114,7 +112,7 @@ pub fn omega_parts_of_four(
     let mut place = to;
     let mut i = 0;
     while i < r {
-        fours::omega_part(randomness, pi, omega_at, n, out, place, step);
+        jl_fours::omega_part(randomness, pi, omega_at, n, out, place, step);
         pi += 16384 * n;
         place += 64 * n;
         i += 1;

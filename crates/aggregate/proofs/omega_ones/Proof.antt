@@ -7,7 +7,7 @@ use lib.ListN.{length}
 use Rattle.lists.specs.Table.{cat}
 use Rattle.lists.specs.Part.{splice}
 use Rattle.lists.proofs.Splice.{length-splice}
-use Rattle.jl.specs.Omega.{omega-element}
+use Rattle.jl_omega.specs.Omega.{omega-element}
 use Rattle.protocol.specs.Formulas.{flat, rows}
 use Rattle.protocol.proofs.Flat.{length-rows}
 use Rattle.protocol.proofs.Stored.{lists-none, lists-next, lists-all}

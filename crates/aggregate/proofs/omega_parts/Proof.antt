@@ -7,7 +7,7 @@ use lib.ListN.{length}
 use Rattle.lists.specs.Table.{table}
 use Rattle.lists.specs.Part.{splice}
 use Rattle.lists.proofs.Splice.{length-splice}
-use Rattle.jl.specs.Omega.{omega-element}
+use Rattle.jl_omega.specs.Omega.{omega-element}
 use Rattle.protocol.specs.Formulas.{flat, rows}
 use Rattle.protocol.proofs.Stored.{rows-none, rows-next, rows-all}
 use Rattle.aggregate.proofs.omega_parts.Statement.{statement}

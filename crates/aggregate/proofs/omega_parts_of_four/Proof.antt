@@ -6,9 +6,9 @@ use native.Mathlib.Omega.{arith}
 use lib.ListN.{length}
 use Rattle.lists.specs.Table.{table}
 use Rattle.definitions.specs.Rq.{Element}
-use Rattle.jl.specs.Omega.{omega-element}
-use Rattle.jl.specs.Fours.{spread}
-use Rattle.jl.proofs.Spread.{length-spread}
+use Rattle.jl_omega.specs.Omega.{omega-element}
+use Rattle.jl_fours.specs.Fours.{spread}
+use Rattle.jl_fours.proofs.Spread.{length-spread}
 use Rattle.protocol.specs.Formulas.{flat, rows}
 use Rattle.aggregate.proofs.Fours.{side-none, side-next, side-all}
 use Rattle.aggregate.proofs.omega_parts_of_four.Statement.{statement}
