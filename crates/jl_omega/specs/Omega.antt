@@ -24,7 +24,15 @@ omega-element R pi om n m = sum RqOps 256 (λ j. scale (conj (row-element R (pi 
 abbrev pub carried : ℕ → ℕ → ℕ
 carried a b = cond (ltb (a + b) (2 ^ 32)) (a + b) (a + b - Q)
 
+-- the `width` sums from a place on with a row's entries times a value added
+abbrev pub row-sums : List ℕ → (row value : ℕ) → List ℕ → (at width : ℕ) → List ℕ
+row-sums R row value sums at width = table width (λ c. carried (getD sums (at + c) 0) (term (getD R (row + c) 0) value))
+
 -- the sum of column c after the first rows are added to x
 unfoldable pub added : List ℕ → ℕ → ℕ → ℕ → ℕ → ℕ → ℕ → ℕ
 added R pi om width x c zero = x
 added R pi om width x c (suc j) = carried (added R pi om width x c j) (term (getD R (pi + j * width + c) 0) (getD R (om + j) 0))
+
+-- the `width` sums from a place on with the 256 rows, each times its omega, added
+abbrev pub rows-sums : List ℕ → (pi om : ℕ) → List ℕ → (at width : ℕ) → List ℕ
+rows-sums R pi om sums at width = table width (λ c. added R pi om width (getD sums (at + c) 0) c 256)

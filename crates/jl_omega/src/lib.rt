@@ -4,14 +4,13 @@ use jl::projection;
 use rq::rq::Rq;
 ghost use mathlib.Core.Path.{_≡_};
 ghost use Prim.Native.Nat.{_+_, _*_, _≤_};
-ghost use lib.ListN.{length, getD};
+ghost use lib.ListN.{length};
 ghost use Rattle.lists.specs.Table.{table};
 ghost use Rattle.lists.specs.Part.{splice};
 ghost use Rattle.definitions.specs.Ring.{conj};
 ghost use Rattle.protocol.specs.Views.{element-at};
 ghost use Rattle.protocol.specs.Formulas.{flat};
-ghost use Rattle.jl.specs.Rows.{term};
-ghost use Rattle.jl_omega.specs.Omega.{carried, added, omega-element};
+ghost use Rattle.jl_omega.specs.Omega.{carried, row-sums, rows-sums, omega-element};
 
 // The sum, less Q where it passes 32 bits.
 pub fn carry_add(a: u32, b: u32) -> u32
@@ -31,7 +30,7 @@ fn add_row(
     width: usize,
 )
     requires { ⌜ («row_at» + width ≤ length (now randomness)) × («out_at» + width ≤ length (now out)) ⌝ }
-    ensures { λ _. ⌜ now (out .exit) ≡ splice (now (out .entry)) «out_at» (table width (λ c. carried (getD (now (out .entry)) («out_at» + c) 0) (term (getD (now (randomness .entry)) («row_at» + c) 0) value))) ⌝ }
+    ensures { λ _. ⌜ now (out .exit) ≡ splice (now (out .entry)) «out_at» (row-sums (now (randomness .entry)) «row_at» value (now (out .entry)) «out_at» width) ⌝ }
 {
     let mut c = 0;
     while c < width {
@@ -52,7 +51,7 @@ fn add_rows(
     width: usize,
 )
     requires { ⌜ («pi_at» + 256 * width ≤ length (now randomness)) × («omega_at» + 256 ≤ length (now randomness)) × («out_at» + width ≤ length (now out)) ⌝ }
-    ensures { λ _. ⌜ now (out .exit) ≡ splice (now (out .entry)) «out_at» (table width (λ c. added (now (randomness .entry)) «pi_at» «omega_at» width (getD (now (out .entry)) («out_at» + c) 0) c 256)) ⌝ }
+    ensures { λ _. ⌜ now (out .exit) ≡ splice (now (out .entry)) «out_at» (rows-sums (now (randomness .entry)) «pi_at» «omega_at» (now (out .entry)) «out_at» width) ⌝ }
 {
     let mut j = 0;
     while j < 256 {

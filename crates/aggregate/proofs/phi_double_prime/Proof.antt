@@ -2,7 +2,8 @@
 use Prim.Native.Nat.{_+_, _*_}
 use borrow.Author.Needs.{needs}
 use Rattle.jl_omega.specs.Omega.{omega-element}
-use Rattle.aggregate.specs.Weighed.{weighed, both}
+use Rattle.aggregate_psi.specs.Grid.{weighed}
+use Rattle.aggregate.specs.Weighed.{both}
 use Rattle.aggregate.proofs.Sums.{lists-added}
 use Rattle.aggregate.proofs.phi_double_prime.Statement.{statement}
 use Rattle.aggregate.proofs.phi_double_prime.Tie as tie

@@ -11,11 +11,10 @@ use Rattle.definitions.specs.Rq.{radd}
 use Rattle.inner_product.specs.Run.{run}
 use Rattle.protocol.specs.Formulas.{flat, _⊕_}
 use Rattle.protocol.proofs.Stored.{stored-none, stored-next, stored-rest, stored-all}
-use Rattle.aggregate.specs.Weighed.{weighed}
-use Rattle.aggregate.proofs.Grid.{grid-run}
-use Rattle.aggregate.proofs.Sums.{words-add-element}
-use Rattle.aggregate.proofs.add_weighed.Statement.{statement}
-use Rattle.aggregate.proofs.add_weighed.Tie as tie
+use Rattle.aggregate_psi.specs.Grid.{weighed}
+use Rattle.aggregate_psi.proofs.Sums.{grid-run, words-add-element}
+use Rattle.aggregate_psi.proofs.add_weighed.Statement.{statement}
+use Rattle.aggregate_psi.proofs.add_weighed.Tie as tie
 
 abbrev Inv-loop : tie.InvT-loop
 Inv-loop job at width count numbers row out₀ to c₀ out c =

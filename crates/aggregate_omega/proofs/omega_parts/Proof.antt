@@ -10,8 +10,8 @@ use Rattle.lists.proofs.Splice.{length-splice}
 use Rattle.jl_omega.specs.Omega.{omega-element}
 use Rattle.protocol.specs.Formulas.{flat, rows}
 use Rattle.protocol.proofs.Stored.{rows-none, rows-next, rows-all}
-use Rattle.aggregate.proofs.omega_parts.Statement.{statement}
-use Rattle.aggregate.proofs.omega_parts.Tie as tie
+use Rattle.aggregate_omega.proofs.omega_parts.Statement.{statement}
+use Rattle.aggregate_omega.proofs.omega_parts.Tie as tie
 
 abbrev Inv-loop : tie.InvT-loop
 Inv-loop randomness pi-at omega-at r n out₀ to pi₀ place₀ i₀ out pi place i =

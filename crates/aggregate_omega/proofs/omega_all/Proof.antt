@@ -9,10 +9,10 @@ use Rattle.lists.specs.Part.{splice}
 use Rattle.definitions.specs.Rq.{Element}
 use Rattle.protocol.specs.Formulas.{flat}
 use Rattle.protocol.proofs.Flat.{length-rows}
-use Rattle.aggregate.specs.Weighed.{omega-rows}
-use Rattle.aggregate.proofs.Sums.{lists-more, omega-rows-from}
-use Rattle.aggregate.proofs.omega_all.Statement.{statement}
-use Rattle.aggregate.proofs.omega_all.Tie as tie
+use Rattle.aggregate_omega.specs.Omega.{omega-rows}
+use Rattle.aggregate_omega.proofs.Rows.{lists-more, omega-rows-from}
+use Rattle.aggregate_omega.proofs.omega_all.Statement.{statement}
+use Rattle.aggregate_omega.proofs.omega_all.Tie as tie
 
 -- the fours and what is left
 whole : (number : ℕ) → 4 * (number / 4) + number % 4 ≡ number

@@ -13,10 +13,10 @@ use Rattle.definitions.specs.Ring.{element}
 use Rattle.inner_product.specs.Run.{run}
 use Rattle.protocol.specs.Formulas.{flat, rows, _⊕_}
 use Rattle.protocol.proofs.Stored.{rows-none, rows-next, rows-all}
-use Rattle.aggregate.specs.Weighed.{weighed}
-use Rattle.aggregate.proofs.Sums.{rows-rest}
-use Rattle.aggregate.proofs.add_weighed_rows.Statement.{statement}
-use Rattle.aggregate.proofs.add_weighed_rows.Tie as tie
+use Rattle.aggregate_psi.specs.Grid.{weighed}
+use Rattle.aggregate_psi.proofs.Sums.{rows-rest}
+use Rattle.aggregate_psi.proofs.add_weighed_rows.Statement.{statement}
+use Rattle.aggregate_psi.proofs.add_weighed_rows.Tie as tie
 
 abbrev Inv-loop : tie.InvT-loop
 Inv-loop job at width count numbers row number out₀ to first₀ place₀ k₀ out first place k =

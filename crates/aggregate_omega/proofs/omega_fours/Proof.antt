@@ -12,10 +12,10 @@ use Rattle.definitions.specs.Rq.{Element}
 use Rattle.protocol.specs.Formulas.{flat}
 use Rattle.protocol.proofs.Flat.{length-rows}
 use Rattle.protocol.proofs.Stored.{lists-none, lists-all}
-use Rattle.aggregate.specs.Weighed.{omega-rows}
-use Rattle.aggregate.proofs.Sums.{lists-more, omega-rows-from}
-use Rattle.aggregate.proofs.omega_fours.Statement.{statement}
-use Rattle.aggregate.proofs.omega_fours.Tie as tie
+use Rattle.aggregate_omega.specs.Omega.{omega-rows}
+use Rattle.aggregate_omega.proofs.Rows.{lists-more, omega-rows-from}
+use Rattle.aggregate_omega.proofs.omega_fours.Statement.{statement}
+use Rattle.aggregate_omega.proofs.omega_fours.Tie as tie
 
 abbrev Inv-loop : tie.InvT-loop
 Inv-loop randomness pi-at omega-at r n groups out₀ to width weights₀ place₀ g₀ out weights place g =

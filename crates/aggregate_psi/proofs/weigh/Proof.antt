@@ -8,10 +8,10 @@ use Rattle.lists.specs.Part.{splice}
 use Rattle.lists.proofs.Splice.{length-splice}
 use Rattle.protocol.specs.Formulas.{flat}
 use Rattle.protocol.proofs.Stored.{stored-none, stored-next, stored-all}
-use Rattle.aggregate.specs.Weighed.{weighed}
-use Rattle.aggregate.proofs.Grid.{grid-run}
-use Rattle.aggregate.proofs.weigh.Statement.{statement}
-use Rattle.aggregate.proofs.weigh.Tie as tie
+use Rattle.aggregate_psi.specs.Grid.{weighed}
+use Rattle.aggregate_psi.proofs.Sums.{grid-run}
+use Rattle.aggregate_psi.proofs.weigh.Statement.{statement}
+use Rattle.aggregate_psi.proofs.weigh.Tie as tie
 
 abbrev Inv-loop : tie.InvT-loop
 Inv-loop job at width count numbers row out₀ to c₀ out c =

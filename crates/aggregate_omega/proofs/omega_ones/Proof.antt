@@ -12,10 +12,10 @@ use Rattle.protocol.specs.Formulas.{flat, rows}
 use Rattle.protocol.proofs.Flat.{length-rows}
 use Rattle.protocol.proofs.Stored.{lists-none, lists-next, lists-all}
 use Rattle.protocol.proofs.Region.{length-lists}
-use Rattle.aggregate.specs.Weighed.{omega-rows}
-use Rattle.aggregate.proofs.Grid.{row-within, row-next}
-use Rattle.aggregate.proofs.omega_ones.Statement.{statement}
-use Rattle.aggregate.proofs.omega_ones.Tie as tie
+use Rattle.aggregate_omega.specs.Omega.{omega-rows}
+use Rattle.aggregate_omega.proofs.Rows.{row-within, row-next}
+use Rattle.aggregate_omega.proofs.omega_ones.Statement.{statement}
+use Rattle.aggregate_omega.proofs.omega_ones.Tie as tie
 
 abbrev Inv-loop : tie.InvT-loop
 Inv-loop randomness pi-at omega-at r n number out₀ to width weights₀ place₀ k₀ out weights place k =
@@ -34,7 +34,7 @@ omega-parts-requires c κs =
     let h = c .before .before .before .before .before .pre in
     let l = c .before .before .loop in
     let more : l .k < s .number = omega arith in
-    (h .0, omega (arith, h .1, more), omega (arith, row-within (s .to) (l .k) (s .number) (s .r * s .n) (length (s .out .now)) more (h .2)), h .4)
+    (h .0, omega (arith, h .1, more), omega (arith, row-within (s .to) (l .k) (s .number) (s .r * s .n) (length (s .out .now)) more (h .2)), h .3, h .4)
 
 add-weights : tie.Need-add-weights Inv-loop μ-loop
 add-weights c =

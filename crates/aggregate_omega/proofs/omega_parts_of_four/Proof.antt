@@ -10,9 +10,9 @@ use Rattle.jl_omega.specs.Omega.{omega-element}
 use Rattle.jl_fours.specs.Fours.{spread}
 use Rattle.jl_fours.proofs.Spread.{length-spread}
 use Rattle.protocol.specs.Formulas.{flat, rows}
-use Rattle.aggregate.proofs.Fours.{side-none, side-next, side-all}
-use Rattle.aggregate.proofs.omega_parts_of_four.Statement.{statement}
-use Rattle.aggregate.proofs.omega_parts_of_four.Tie as tie
+use Rattle.aggregate_omega.proofs.Fours.{side-none, side-next, side-all}
+use Rattle.aggregate_omega.proofs.omega_parts_of_four.Statement.{statement}
+use Rattle.aggregate_omega.proofs.omega_parts_of_four.Tie as tie
 
 abbrev Inv-loop : tie.InvT-loop
 Inv-loop randomness pi-at omega-at r n out₀ to step pi₀ place₀ i₀ out pi place i =
