@@ -46,10 +46,10 @@ pub fn clear_run(words: &mut [u32], at: usize, count: usize)
     requires { ⌜ at + count ≤ length (now words) ⌝ }
     ensures { λ _. ⌜ now (words .exit) ≡ splice (now (words .entry)) at (replicate count 0) ⌝ }
 {
-    let mut k = 0;
-    while k < count {
-        words[at + k] = 0;
-        k += 1;
+    let mut m = 0;
+    while m < count {
+        words[at + m] = 0;
+        m += 1;
     }
 }
 
