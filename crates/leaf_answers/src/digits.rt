@@ -2,8 +2,8 @@
 use crate::answers;
 use definitions::answers::Operands;
 use operands::leaf;
-use rq::digits;
 use rq::rq::Rq;
+use rq_digits::digits;
 ghost use mathlib.Core.Path.{_≡_};
 ghost use Prim.Native.Nat.{_≤_};
 ghost use lib.ListN.{length};
