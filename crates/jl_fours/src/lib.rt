@@ -43,8 +43,8 @@ fn column_element(sums: &[u32], at: usize) -> Rq
     requires { ⌜ at + 253 ≤ length (now sums) ⌝ }
     ensures { λ r. ⌜ r .coeffs ≡ table 64 (λ w. getD (now (sums .entry)) (at + 4 * w) 0) ⌝ }
 {
-    let mut coeffs = [0u32; 64];
-    for w in 0..64 {
+    let mut coeffs = [0u32; Rq::DEGREE];
+    for w in 0..Rq::DEGREE {
         coeffs[w] = sums[at + 4 * w];
     }
     Rq { coeffs }

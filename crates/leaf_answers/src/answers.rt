@@ -93,7 +93,11 @@ pub fn element_of(o: Operands, value: Rq) -> ElementAnswer
 {
     let s = status_of(o);
     let coeffs = value.coeffs;
-    let kept = if s.number == 0 { coeffs } else { [0u32; 64] };
+    let kept = if s.number == 0 {
+        coeffs
+    } else {
+        [0u32; Rq::DEGREE]
+    };
     ElementAnswer {
         number: s.number,
         place: s.place,

@@ -28,7 +28,7 @@ pub fn rq_digit_rows(base: u32, parts: u32, a: Rq) -> [[u32; 64]; 32]
     if s.number == 0 {
         digits::decompose(a, base, parts as usize)
     } else {
-        [[0u32; 64]; 32]
+        [[0u32; Rq::DEGREE]; 32]
     }
 }
 

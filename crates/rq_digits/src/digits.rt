@@ -14,8 +14,8 @@ ghost use Rattle.rq_digits.specs.Digits.{digitOf};
 pub fn sizes_of(a: [u32; 64]) -> [u32; 64]
     ensures { λ r. ⌜ r ≡ table 64 (λ j. size (coeff a j)) ⌝ }
 {
-    let mut sizes = [0u32; 64];
-    for j in 0..64 {
+    let mut sizes = [0u32; Rq::DEGREE];
+    for j in 0..Rq::DEGREE {
         sizes[j] = Zq(a[j]).size();
     }
     sizes
@@ -32,9 +32,9 @@ pub fn take_row(a: [u32; 64], base: u32, sizes: [u32; 64]) -> Taken
     requires { ⌜ 1 < base ⌝ }
     ensures { λ r. ⌜ (r .row ≡ table 64 (λ j. digitOf base (coeff a j) (coeff sizes j))) × (r .sizes ≡ table 64 (λ j. nextSize base (coeff sizes j))) ⌝ }
 {
-    let mut row = [0u32; 64];
-    let mut next = [0u32; 64];
-    for j in 0..64 {
+    let mut row = [0u32; Rq::DEGREE];
+    let mut next = [0u32; Rq::DEGREE];
+    for j in 0..Rq::DEGREE {
         row[j] = digits::digit(Zq(a[j]).is_larger_than_half(), base, sizes[j]);
         next[j] = digits::next_size(base, sizes[j]);
     }
@@ -48,7 +48,7 @@ pub fn decompose(a: Rq, base: u32, parts: usize) -> [[u32; 64]; 32]
 {
     let coeffs = a.coeffs;
     let mut sizes = sizes_of(coeffs);
-    let mut rows = [[0u32; 64]; 32];
+    let mut rows = [[0u32; Rq::DEGREE]; 32];
     let mut k = 0;
     while k < parts {
         let taken = take_row(coeffs, base, sizes);

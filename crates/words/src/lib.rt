@@ -11,8 +11,8 @@ pub fn load(words: &[u32], at: usize) -> Rq
     requires { ⌜ at + 64 ≤ length (now words) ⌝ }
     ensures { λ r. ⌜ r .coeffs ≡ part (now (words .entry)) at 64 ⌝ }
 {
-    let mut coeffs = [0u32; 64];
-    for k in 0..64 {
+    let mut coeffs = [0u32; Rq::DEGREE];
+    for k in 0..Rq::DEGREE {
         coeffs[k] = words[at + k];
     }
     Rq { coeffs }
@@ -24,7 +24,7 @@ pub fn store(words: &mut [u32], at: usize, element: Rq)
     ensures { λ _. ⌜ now (words .exit) ≡ splice (now (words .entry)) at (element .coeffs) ⌝ }
 {
     let coeffs = element.coeffs;
-    for k in 0..64 {
+    for k in 0..Rq::DEGREE {
         words[at + k] = coeffs[k];
     }
 }
