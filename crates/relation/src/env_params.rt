@@ -2,7 +2,7 @@
 use definitions::answers::U128;
 use zq::wide::wide;
 ghost use mathlib.Core.Path.{_≡_};
-ghost use Prim.Native.Nat.{_+_, _≤_};
+ghost use Prim.Native.Nat.{_+_, _≤_, _<_};
 ghost use lib.ListN.{length, getD};
 ghost use Rattle.definitions.specs.Answer.{value128};
 ghost use Rattle.protocol.specs.Parameters.{three-words, rounded-up, parameters};
