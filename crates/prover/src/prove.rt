@@ -3,7 +3,7 @@ use crate::work;
 use admission::answers::Admitted;
 use admission::calls;
 use admission::calls::Call;
-use admission::prover;
+use admission_order::prover;
 use definitions::answers::Proved;
 use relation::env_params::EnvironmentParameters;
 use sizes::buffers;

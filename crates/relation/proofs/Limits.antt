@@ -14,11 +14,10 @@ use Rattle.definitions.specs.Leaf.{limited}
 use Rattle.protocol.specs.Checks.{first}
 use Rattle.protocol.specs.Parameters.{Parameters, parameters, rounded-up, limits, kappa-is-L}
 use Rattle.protocol.specs.Layout.{span, counted, first-section}
-use Rattle.protocol.proofs.Fine.{require-holds, required, refused-not-fine, then-fine-left, then-fine-right}
-use Rattle.layout.proofs.Then.{require-fails}
+use Rattle.protocol.proofs.Fine.{require-holds, require-fails, required, refused-not-fine, then-fine-left, then-fine-right}
 use Rattle.layout.proofs.Laid.{counted-inside}
 use Rattle.relation.specs.SectionOne.{section-one, limit-at, Within, Sound}
-use Rattle.relation.proofs.First.{first-each}
+use Rattle.protocol.proofs.First.{first-each}
 
 -- a value below its least
 pub limited-low : (least greatest place x : ℕ) → x < least → refused 4 place ≡ limited least greatest place x

@@ -1,6 +1,6 @@
 // Sums of squared norms, and their comparison with the job's bounds of three words.
 use definitions::answers::U128;
-use rq::product::wide;
+use zq::wide::wide;
 ghost use mathlib.Core.Path.{_≡_};
 ghost use Prim.Native.Nat.{_+_, _≤_, _<_, _^_};
 ghost use lib.Dec.{leb};

@@ -8,7 +8,8 @@ ghost use Rattle.lists.specs.Table.{table};
 ghost use Rattle.lists.specs.Part.{splice};
 ghost use Rattle.protocol.specs.Parameters.{triangular};
 ghost use Rattle.protocol.specs.Formulas.{flat, rows};
-ghost use Rattle.aggregate.specs.Weighed.{weighed, mixed, formed};
+ghost use Rattle.aggregate_psi.specs.Grid.{weighed};
+ghost use Rattle.aggregate.specs.Weighed.{mixed, formed};
 ghost use Rattle.slice_sums.specs.Fits.{sizes-within, lengths-are, g-place, phi-place, b-place};
 
 // a'' for `number` rows of psi, of `count` constraints' triangles of r rows.

@@ -18,9 +18,8 @@ use Rattle.definitions.specs.Ring.{words}
 use Rattle.protocol.specs.Checks.{require, first}
 use Rattle.protocol.specs.Formulas.{flat}
 use Rattle.protocol.specs.Verifier.{same}
-use Rattle.protocol.proofs.Fine.{require-holds}
+use Rattle.protocol.proofs.Fine.{require-holds, require-fails}
 use Rattle.protocol.proofs.Stored.{flat-append, flat-one}
-use Rattle.layout.proofs.Then.{require-fails}
 use Rattle.inner_product.specs.Run.{run}
 use Rattle.commitments.specs.Cells.{CanonicalFrom}
 use Rattle.commitments.proofs.Added.{length-flat-table, flat-run}

@@ -1,6 +1,6 @@
 // Sums of products of words, and a limit 128 times another.
 use definitions::answers::U128;
-use rq::product::wide;
+use zq::wide::wide;
 ghost use mathlib.Core.Path.{_≡_};
 ghost use Prim.Native.Nat.{_+_, _*_, _≤_, _<_, _%_, _^_};
 ghost use lib.ListN.{length, getD};

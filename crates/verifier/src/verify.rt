@@ -3,7 +3,7 @@ use crate::norm_checks;
 use crate::outer_commitments;
 use crate::relations;
 use admission::answers::Admitted;
-use admission::verifier;
+use admission_order::verifier;
 use definitions::answers::Verdict;
 use regions::Regions;
 use relation::env_params::EnvironmentParameters;

@@ -12,7 +12,8 @@ use Rattle.protocol.specs.Parameters.{three-words}
 use Rattle.protocol.specs.Formulas.{norm-of}
 use Rattle.rq_matrix.specs.Region.{vector}
 use Rattle.rq_matrix.proofs.Place.{rows-within, run-vector}
-use Rattle.commitments.proofs.Answers.{first-next, first-stops, require-by}
+use Rattle.protocol.proofs.First.{first-next, first-found}
+use Rattle.commitments.proofs.Answers.{require-by}
 use Rattle.commitments.proofs.common_instances.check_witness.Statement.{statement}
 use Rattle.commitments.proofs.common_instances.check_witness.Tie as tie
 
@@ -60,7 +61,7 @@ returns c =
     let s = c .before .before .before .before .before .before .before .args in
     let l = c .before .before .before .before .loop in
     let f : ℕ → Answer = λ i. require (decLe (norm-of (table (s .n) (vector (s .witness .now) (s .at) (s .n) i))) (three-words (s .job .now) 18)) (refused 13 i) in
-    sym (first-stops (s .r) (l .i) f 13 (l .i) (omega arith) (l .inv .2) (tested (c .before) ∙ ap (λ t. cond t fine (refused 13 (l .i))) (c .if1 .left)))
+    first-found (s .r) (l .i) f (omega arith) (l .inv .2) (sym (tested (c .before) ∙ ap (λ t. cond t fine (refused 13 (l .i))) (c .if1 .left)))
 
 returns-2 : tie.Need-returns-2 Inv-loop μ-loop
 returns-2 c =

@@ -8,9 +8,8 @@ use lib.ListN.{length, getD}
 use Rattle.definitions.specs.Answer.{fine, failed}
 use Rattle.protocol.specs.Checks.{first}
 use Rattle.protocol.specs.Parameters.{parameters}
-use Rattle.protocol.proofs.Fine.{require-holds}
-use Rattle.layout.proofs.Then.{require-fails}
-use Rattle.commitments.proofs.Answers.{first-next}
+use Rattle.protocol.proofs.Fine.{require-holds, require-fails}
+use Rattle.protocol.proofs.First.{first-next}
 use Rattle.verifier.proofs.Sent.{reckoned}
 use Rattle.verifier.proofs.Terms.{test, check-22-is, Terms, terms, test-is}
 use Rattle.verifier.proofs.Verdicts.{first-failed}

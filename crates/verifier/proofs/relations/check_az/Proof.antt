@@ -7,7 +7,7 @@ use native.Mathlib.Omega.{arith}
 use borrow.Author.Tests.{not-true, not-false}
 use Rattle.definitions.specs.Answer.{fine, failed}
 use Rattle.protocol.specs.Checks.{first}
-use Rattle.commitments.proofs.Answers.{first-next}
+use Rattle.protocol.proofs.First.{first-next}
 use Rattle.verifier.proofs.Sent.{reckoned}
 use Rattle.verifier.proofs.Sides.{az-test, row-bounds, row-requires, column-requires, az-tested, az-fails, az-passes}
 use borrow.Author.Needs.{needs}
