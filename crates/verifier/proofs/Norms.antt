@@ -1,16 +1,18 @@
 -- Checks 21 and 23 as the code makes them.
 use mathlib.Core.Path.{_≡_, refl, sym, ap, ap₂, _∙_}
-use mathlib.Core.Bool.{Bool, cond}
+use mathlib.Core.Bool.{Bool, true, cond}
 use mathlib.Core.List.{List, [], _∷_, flatMap}
-use Prim.Native.Nat.{ℕ, _+_, _*_, _≤_}
+use Prim.Native.Nat.{ℕ, _+_, _*_, _≤_, _<_, _^_}
 use native.Mathlib.Decide.{decLe}
 use native.Mathlib.Omega.{arith}
+use borrow.Author.Tests.{le-leb}
 use lib.Dec.{leb}
 use lib.ListN.{length, getD}
 use Rattle.lists.specs.Part.{part}
 use Rattle.lists.specs.Table.{table}
 use Rattle.lists.proofs.Splice.{part-table}
-use Rattle.definitions.specs.Answer.{Answer, fine, failed}
+use Rattle.definitions.specs.Answer.{Answer, fine, failed, value128}
+use Rattle.definitions.specs.declared.answers.U128.{U128}
 use Rattle.definitions.specs.Norm.{norm}
 use Rattle.inner_product.specs.Run.{run}
 use Rattle.protocol.specs.Checks.{require}
@@ -30,20 +32,31 @@ limited-is : (number x y a b : ℕ) (t : Bool) → a ≡ x → b ≡ y → t ≡
 limited-is number x y a b t e g h =
     ap₂ (λ x y. require (decLe x y) (failed number (x ∷ y ∷ []))) (sym e) (sym g) ∙ require-by a b (failed number (a ∷ b ∷ [])) t h
 
+-- a number below one with a small upper half has a small one
+pub upper : (x y : U128) → value128 x < value128 y → y .hi ≤ 256 → y .lo < 2 ^ 64 → x .hi < 2 ^ 32
+unfolding value128
+upper x y h k l = omega arith
+
 -- four norms added one after the other
 four : (s₃ s₂ s₁ z t g h z′ t′ g′ h′ : ℕ) → s₃ ≡ s₂ + h → s₂ ≡ s₁ + g → s₁ ≡ z + t → z ≡ z′ → t ≡ t′ → g ≡ g′ → h ≡ h′ → s₃ ≡ z′ + t′ + g′ + h′
 four s₃ s₂ s₁ z t g h z′ t′ g′ h′ a b c d e f i = omega arith
 
 module _ {J R T : List ℕ} {p : EnvironmentParameters} (w : Sent J R T p) where
   -- 21, by the boolean's value
-  pub check-21-is : (at a b : ℕ) (t : Bool) → at ≡ start (transcript-sections (parametersOf p)) 1 → at + 256 ≤ length T → a ≡ norm (part T at 256) → b ≡ 128 * parameters J .beta-sq → t ≡ leb a b
+  pub check-21-is : (at a b : ℕ) (t : Bool) → at ≡ start (transcript-sections (parametersOf p)) 1 → at + 256 ≤ length T → a ≡ norm (part T at 256) → b ≡ 128 * parametersOf p .beta-sq → t ≡ leb a b
       → check-21 (public J R) (message (parameters J) T) ≡ cond t fine (failed 21 (a ∷ b ∷ []))
   unfolding check-21
   check-21-is at a b t place room e g h =
       limited-is 21 (norm (table 256 (message (parameters J) T .p))) (128 * parameters J .beta-sq) a b t
       (e ∙ ap norm (sym (part-table 0 T at 256 room)) ∙ ap (λ at. norm (table 256 (λ j. getD T (at + j) 0))) (place ∙ ap (λ (P : Parameters). start (transcript-sections P) 1) (w .same)))
-      g
+      (g ∙ ap (λ (P : Parameters). 128 * P .beta-sq) (w .same))
       h
+
+  -- 21 with a norm up to beta_sq
+  pub check-21-below : (at a : ℕ) → at ≡ start (transcript-sections (parametersOf p)) 1 → at + 256 ≤ length T → a ≡ norm (part T at 256) → a ≤ parametersOf p .beta-sq
+      → check-21 (public J R) (message (parameters J) T) ≡ fine
+  check-21-below at a place room e h =
+      check-21-is at a (128 * parametersOf p .beta-sq) true place room e refl (sym (le-leb a (128 * parametersOf p .beta-sq) (omega arith)))
 
   -- the norm of the digits of z in the transcript
   z-norm : (at v : ℕ) → at ≡ start (transcript-sections (parametersOf p)) 4 → v ≡ norm-of (digits-of (p .b) 2 (table (p .rank) (run T at 64)))

@@ -11,7 +11,7 @@ use lib.ListN.{length, getD}
 use Rattle.lists.specs.Table.{table}
 use Rattle.lists.specs.Part.{part, splice}
 use Rattle.definitions.specs.Zq.{Canonical}
-use Rattle.definitions.specs.Answer.{Answer, fine, refused, failed}
+use Rattle.definitions.specs.Answer.{Answer, fine, refused, failed, value128}
 use Rattle.definitions.specs.Rq.{Element}
 use Rattle.protocol.specs.Checks.{require, first}
 use Rattle.protocol.specs.Parameters.{Parameters, parameters, triangular}
@@ -77,38 +77,38 @@ module _ (J R X : List ℕ) (p : EnvironmentParameters) (s : Sent J R X p) where
 
     -- 14 by the boolean's value
     pub t-answer : (t : Bool) → at ≡ transcript-at (parametersOf p) 5 → cells ≡ p .multiplicity * p .kappa
-        → t ≡ leb (norm-of (digits-at X (digits at cells (p .«t_1»)) (p .b))) (parameters J .bound-B)
+        → t ≡ leb (norm-of (digits-at X (digits at cells (p .«t_1»)) (p .b))) (value128 (p .«bound_b»))
         → cond t fine (refused 14 0) ≡ t-norm (public J R) (message (parameters J) X .t)
     t-answer t e f h =
         ap (λ x. cond x fine (refused 14 0))
         (h
-        ∙ ap (λ a. leb (norm-of (digits-at X (digits a cells (p .«t_1»)) (p .b))) (parameters J .bound-B)) e
-        ∙ ap (λ n. leb (norm-of (digits-at X (digits (transcript-at (parametersOf p) 5) n (p .«t_1»)) (p .b))) (parameters J .bound-B)) f
-        ∙ ap (λ Q. leb (norm-of (digits-at X (digits (transcript-at Q 5) (Q .r * Q .κ) (Q .t₁)) (Q .b))) (parameters J .bound-B)) (s .same))
+        ∙ ap (λ a. leb (norm-of (digits-at X (digits a cells (p .«t_1»)) (p .b))) (value128 (p .«bound_b»))) e
+        ∙ ap (λ n. leb (norm-of (digits-at X (digits (transcript-at (parametersOf p) 5) n (p .«t_1»)) (p .b))) (value128 (p .«bound_b»))) f
+        ∙ ap (λ (Q : Parameters). leb (norm-of (digits-at X (digits (transcript-at Q 5) (Q .r * Q .κ) (Q .t₁)) (Q .b))) (Q .bound-B)) (s .same))
         ∙ sym (t-norm-is J R X (transcript-at (parameters J) 5) (message (parameters J) X .t) (λ i k l m. refl))
 
     -- 15 by the boolean's value
     pub g-answer : (t : Bool) → at ≡ transcript-at (parametersOf p) 6 → cells ≡ triangular (p .multiplicity)
-        → t ≡ leb (norm-of (digits-at X (digits at cells (p .«t_2»)) (p .b))) (parameters J .bound-C)
+        → t ≡ leb (norm-of (digits-at X (digits at cells (p .«t_2»)) (p .b))) (value128 (p .«bound_c»))
         → cond t fine (refused 15 0) ≡ g-norm (public J R) (message (parameters J) X .g)
     g-answer t e f h =
         ap (λ x. cond x fine (refused 15 0))
         (h
-        ∙ ap (λ a. leb (norm-of (digits-at X (digits a cells (p .«t_2»)) (p .b))) (parameters J .bound-C)) e
-        ∙ ap (λ n. leb (norm-of (digits-at X (digits (transcript-at (parametersOf p) 6) n (p .«t_2»)) (p .b))) (parameters J .bound-C)) f
-        ∙ ap (λ Q. leb (norm-of (digits-at X (digits (transcript-at Q 6) (triangular (Q .r)) (Q .t₂)) (Q .b))) (parameters J .bound-C)) (s .same))
+        ∙ ap (λ a. leb (norm-of (digits-at X (digits a cells (p .«t_2»)) (p .b))) (value128 (p .«bound_c»))) e
+        ∙ ap (λ n. leb (norm-of (digits-at X (digits (transcript-at (parametersOf p) 6) n (p .«t_2»)) (p .b))) (value128 (p .«bound_c»))) f
+        ∙ ap (λ (Q : Parameters). leb (norm-of (digits-at X (digits (transcript-at Q 6) (triangular (Q .r)) (Q .t₂)) (Q .b))) (Q .bound-C)) (s .same))
         ∙ sym (g-norm-is J R X (transcript-at (parameters J) 6) (message (parameters J) X .g) (λ i j l m. refl))
 
     -- 16 by the boolean's value
     pub h-answer : (t : Bool) → at ≡ transcript-at (parametersOf p) 7 → cells ≡ triangular (p .multiplicity)
-        → t ≡ leb (norm-of (digits-at X (digits at cells (p .«t_1»)) (p .b))) (parameters J .bound-D)
+        → t ≡ leb (norm-of (digits-at X (digits at cells (p .«t_1»)) (p .b))) (value128 (p .«bound_d»))
         → cond t fine (refused 16 0) ≡ h-norm (public J R) (message (parameters J) X .h)
     h-answer t e f h =
         ap (λ x. cond x fine (refused 16 0))
         (h
-        ∙ ap (λ a. leb (norm-of (digits-at X (digits a cells (p .«t_1»)) (p .b))) (parameters J .bound-D)) e
-        ∙ ap (λ n. leb (norm-of (digits-at X (digits (transcript-at (parametersOf p) 7) n (p .«t_1»)) (p .b))) (parameters J .bound-D)) f
-        ∙ ap (λ Q. leb (norm-of (digits-at X (digits (transcript-at Q 7) (triangular (Q .r)) (Q .t₁)) (Q .b))) (parameters J .bound-D)) (s .same))
+        ∙ ap (λ a. leb (norm-of (digits-at X (digits a cells (p .«t_1»)) (p .b))) (value128 (p .«bound_d»))) e
+        ∙ ap (λ n. leb (norm-of (digits-at X (digits (transcript-at (parametersOf p) 7) n (p .«t_1»)) (p .b))) (value128 (p .«bound_d»))) f
+        ∙ ap (λ (Q : Parameters). leb (norm-of (digits-at X (digits (transcript-at Q 7) (triangular (Q .r)) (Q .t₁)) (Q .b))) (Q .bound-D)) (s .same))
         ∙ sym (h-norm-is J R X (transcript-at (parameters J) 7) (message (parameters J) X .h) (λ i j l m. refl))
 
   -- u2's words in the transcript lie within it and are canonical

@@ -19,7 +19,7 @@ ghost use Rattle.definitions.specs.Answer.{_then_};
 ghost use Rattle.protocol.specs.Verifier.{check-21, check-22, check-23};
 ghost use Rattle.verifier.specs.Work.{Sent};
 
-// "21 norm of p above 128·beta_sq (norm and limit given)."
+// "21 norm of p above 128·beta_sq (norm and limit given)." A beta_sq below the norm is so small that the limit fits.
 pub fn check_projection_norm(
     job: &[u32],
     randomness: &[u32],
@@ -30,7 +30,10 @@ pub fn check_projection_norm(
     ensures { λ v. ⌜ ofVerdict v ≡ check-21 (public (now (job .entry)) (now (randomness .entry))) (message (parameters (now (job .entry))) (now (transcript .entry))) ⌝ }
 {
     let norm = norms::norm_of(transcript, offsets::of_transcript(p, 1), 256);
-    let limit = numbers::times_128(bound::three_words(job, 12));
+    if bound::at_most(norm, p.beta_sq) {
+        return Verdict::Accepted;
+    }
+    let limit = numbers::times_128(p.beta_sq);
     if bound::at_most(norm, limit) {
         Verdict::Accepted
     } else {

@@ -116,10 +116,10 @@ pub fn check_t_and_g(
         cells: slices::triangle(p.multiplicity),
         parts: p.t_2,
     };
-    if !common_instances::t_within(job, transcript, t, p.b) {
+    if !common_instances::digits_within(transcript, t, p.b, p.bound_b) {
         return Verdict::Refused(Refusal::DigitsOfT);
     }
-    if !common_instances::g_within(job, transcript, g, p.b) {
+    if !common_instances::digits_within(transcript, g, p.b, p.bound_c) {
         return Verdict::Refused(Refusal::DigitsOfG);
     }
     Verdict::Accepted
@@ -140,7 +140,7 @@ pub fn check_h(
         cells: slices::triangle(p.multiplicity),
         parts: p.t_1,
     };
-    if common_instances::h_within(job, transcript, h, p.b) {
+    if common_instances::digits_within(transcript, h, p.b, p.bound_d) {
         Verdict::Accepted
     } else {
         Verdict::Refused(Refusal::DigitsOfH)

@@ -24,50 +24,50 @@ of-transcript-requires-2 c κs = (reckoned (c .before .before .before .before .b
 triangle-requires : tie.Need-triangle-requires
 triangle-requires c κs = reckoned (c .before .before .before .before .before .before .pre) .within .r .1
 
-t-within-requires : tie.Need-t-within-requires
-t-within-requires c κs =
+digits-within-requires : tie.Need-digits-within-requires
+digits-within-requires c κs =
     let s = c .before .before .before .before .before .before .before .pre in
-    (s .sound .room, t-cells _ _ _ _ s _ _ (c .before .before .before .of-transcript .ensures) refl, base-large _ _ _ _ s)
+    (t-cells _ _ _ _ s _ _ (c .before .before .before .of-transcript .ensures) refl, base-large _ _ _ _ s)
 
 -- 14 by the boolean's value
-answer-t : (c : tie.After-t-within)
+answer-t : (c : tie.After-digits-within)
     → let s = c .before .before .before .before .before .before .before .before .args in
-    cond (c .t-within .result) fine (refused 14 0) ≡ t-norm (public (s .job .now) (s .randomness .now)) (message (parameters (s .job .now)) (s .transcript .now) .t)
+    cond (c .digits-within .result) fine (refused 14 0) ≡ t-norm (public (s .job .now) (s .randomness .now)) (message (parameters (s .job .now)) (s .transcript .now) .t)
 answer-t c =
     let s = c .before .before .before .before .before .before .before .before in
-    t-answer (s .args .job .now) (s .args .randomness .now) (s .args .transcript .now) (s .args .p) (s .pre) _ _ (c .t-within .result) (c .before .before .before .before .of-transcript .ensures) refl (c .t-within .ensures)
+    t-answer (s .args .job .now) (s .args .randomness .now) (s .args .transcript .now) (s .args .p) (s .pre) _ _ (c .digits-within .result) (c .before .before .before .before .of-transcript .ensures) refl (c .digits-within .ensures)
 
-g-within-requires : tie.Need-g-within-requires
-g-within-requires c κs =
+digits-within-requires-2 : tie.Need-digits-within-requires-2
+digits-within-requires-2 c κs =
     let s = c .before .before .before .before .before .before .before .before .before .pre in
-    (s .sound .room, g-cells _ _ _ _ s _ _ (c .before .before .before .of-transcript2 .ensures) (c .before .before .triangle .ensures), base-large _ _ _ _ s)
+    (g-cells _ _ _ _ s _ _ (c .before .before .before .of-transcript2 .ensures) (c .before .before .triangle .ensures), base-large _ _ _ _ s)
 
 -- 15 by the boolean's value
-answer-g : (c : tie.After-g-within)
+answer-g : (c : tie.After-digits-within2)
     → let s = c .before .before .before .before .before .before .before .before .before .before .args in
-    cond (c .g-within .result) fine (refused 15 0) ≡ g-norm (public (s .job .now) (s .randomness .now)) (message (parameters (s .job .now)) (s .transcript .now) .g)
+    cond (c .digits-within2 .result) fine (refused 15 0) ≡ g-norm (public (s .job .now) (s .randomness .now)) (message (parameters (s .job .now)) (s .transcript .now) .g)
 answer-g c =
     let s = c .before .before .before .before .before .before .before .before .before .before in
-    g-answer (s .args .job .now) (s .args .randomness .now) (s .args .transcript .now) (s .args .p) (s .pre) _ _ (c .g-within .result) (c .before .before .before .before .of-transcript2 .ensures) (c .before .before .before .triangle .ensures .0) (c .g-within .ensures)
+    g-answer (s .args .job .now) (s .args .randomness .now) (s .args .transcript .now) (s .args .p) (s .pre) _ _ (c .digits-within2 .result) (c .before .before .before .before .of-transcript2 .ensures) (c .before .before .before .triangle .ensures .0) (c .digits-within2 .ensures)
 
 returns : tie.Need-returns
 returns c =
     let s = c .before .before .before .before .before .before .before .before .before .args in
     let g = g-norm (public (s .job .now) (s .randomness .now)) (message (parameters (s .job .now)) (s .transcript .now) .g) in
-    ap (λ a. a then g) (ap (λ t. cond t fine (refused 14 0)) (sym (not-true (c .before .t-within .result) (c .if1 .taken))) ∙ answer-t (c .before))
+    ap (λ a. a then g) (ap (λ t. cond t fine (refused 14 0)) (sym (not-true (c .before .digits-within .result) (c .if1 .taken))) ∙ answer-t (c .before))
 
 -- where 14 is not refused, the answer is that of 15
-both : (c : tie.After-g-within)
+both : (c : tie.After-digits-within2)
     → let s = c .before .before .before .before .before .before .before .before .before .before .args in
-    cond (c .g-within .result) fine (refused 15 0)
+    cond (c .digits-within2 .result) fine (refused 15 0)
     ≡ t-norm (public (s .job .now) (s .randomness .now)) (message (parameters (s .job .now)) (s .transcript .now) .t) then g-norm (public (s .job .now) (s .randomness .now)) (message (parameters (s .job .now)) (s .transcript .now) .g)
-both c = ap₂ _then_ (ap (λ t. cond t fine (refused 14 0)) (sym (not-false (c .before .before .t-within .result) (c .before .if1 .left))) ∙ answer-t (c .before .before)) (answer-g c)
+both c = ap₂ _then_ (ap (λ t. cond t fine (refused 14 0)) (sym (not-false (c .before .before .digits-within .result) (c .before .if1 .left))) ∙ answer-t (c .before .before)) (answer-g c)
 
 returns-2 : tie.Need-returns-2
-returns-2 c = ap (λ t. cond t fine (refused 15 0)) (sym (not-true (c .before .g-within .result) (c .if2 .taken))) ∙ both (c .before)
+returns-2 c = ap (λ t. cond t fine (refused 15 0)) (sym (not-true (c .before .digits-within2 .result) (c .if2 .taken))) ∙ both (c .before)
 
 returns-3 : tie.Need-returns-3
-returns-3 c = ap (λ t. cond t fine (refused 15 0)) (sym (not-false (c .before .g-within .result) (c .if2 .left))) ∙ both (c .before)
+returns-3 c = ap (λ t. cond t fine (refused 15 0)) (sym (not-false (c .before .digits-within2 .result) (c .if2 .left))) ∙ both (c .before)
 
 pub check-t-and-g-spec : {M : Type 1} → statement M
 check-t-and-g-spec =
@@ -77,8 +77,8 @@ check-t-and-g-spec =
     mul-t8
     of-transcript-requires-2
     triangle-requires
-    t-within-requires
+    digits-within-requires
     returns
-    g-within-requires
+    digits-within-requires-2
     returns-2
     returns-3)
