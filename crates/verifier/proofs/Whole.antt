@@ -27,9 +27,9 @@ use Rattle.admission.proofs.Fit.{refusal-none}
 use Rattle.workspace.specs.Ready.{Ready, Drawn}
 use Rattle.workspace.specs.Holds.{Kept}
 use Rattle.workspace.proofs.Kept.{kept-clear}
-use Rattle.verifier.specs.Work.{Sent}
-use Rattle.verifier.proofs.Sent.{reckoned}
-use Rattle.verifier.proofs.Verdicts.{refusal-then}
+use Rattle.verifier_common.specs.Work.{Sent}
+use Rattle.verifier_common.proofs.Sent.{reckoned}
+use Rattle.verifier_common.proofs.Verdicts.{refusal-then}
 
 -- two pairs of answers after another answer
 pairs-after : (x a b c d : Answer) → x then ((a then b) then (c then d)) ≡ x then a then b then c then d

@@ -1,7 +1,7 @@
 // The verifier's call on whole slices, for every input.
-use crate::norm_checks;
-use crate::outer_commitments;
-use crate::relations;
+use verifier_norms::norm_checks;
+use verifier_commitments::outer_commitments;
+use verifier_relations::relations;
 use admission::answers::Admitted;
 use admission::verifier;
 use definitions::answers::Verdict;
@@ -19,7 +19,7 @@ ghost use Rattle.protocol.specs.Verifier.{check-24, check-25, check-26, check-2
 ghost use Rattle.admission.specs.Admission.{Verifiable};
 ghost use Rattle.workspace.specs.Ready.{Ready};
 ghost use Rattle.workspace.specs.Holds.{Kept};
-ghost use Rattle.verifier.specs.Work.{Sent};
+ghost use Rattle.verifier_common.specs.Work.{Sent};
 
 // The checks from 24 on, in order.
 fn check_rest(

@@ -4,7 +4,7 @@ use borrow.Author.Needs.{needs}
 use Rattle.protocol.specs.Parameters.{parameters}
 use Rattle.protocol.specs.Views.{public, message}
 use Rattle.workspace.proofs.Kept.{kept-refl}
-use Rattle.verifier.proofs.Verdicts.{accepted-then, refused-stops, failed-stops}
+use Rattle.verifier_common.proofs.Verdicts.{accepted-then, refused-stops, failed-stops}
 use Rattle.verifier.proofs.Whole.{of-rest, groups-are}
 use Rattle.verifier.proofs.verify.check_all.Statement.{statement}
 use Rattle.verifier.proofs.verify.check_all.Tie as tie

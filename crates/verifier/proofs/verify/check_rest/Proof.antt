@@ -5,7 +5,7 @@ use Rattle.protocol.specs.Parameters.{parameters}
 use Rattle.protocol.specs.Views.{public, message}
 use Rattle.workspace.proofs.Kept.{kept-trans}
 use Rattle.workspace.proofs.Ready.{ready-changed}
-use Rattle.verifier.proofs.Verdicts.{accepted-then, refused-stops, failed-stops}
+use Rattle.verifier_common.proofs.Verdicts.{accepted-then, refused-stops, failed-stops}
 use Rattle.verifier.proofs.Whole.{of-commitments}
 use Rattle.verifier.proofs.verify.check_rest.Statement.{statement}
 use Rattle.verifier.proofs.verify.check_rest.Tie as tie

@@ -1,0 +1,208 @@
+// The outer commitments to what the prover sends: 14, 15 and 28; 16 and 29.
+use verifier_common::equal;
+use commitments::common_instances;
+use commitments::outer_commitments;
+use commitments::outer_commitments::Digits;
+use definitions::answers::FailedCheck;
+use definitions::answers::Refusal;
+use definitions::answers::Verdict;
+use regions::Regions;
+use relation::env_params::EnvironmentParameters;
+use sizes::offsets;
+use sizes::slices;
+ghost use mathlib.Core.Path.{_≡_};
+ghost use Rattle.definitions.specs.Answer.{ofVerdict};
+ghost use Rattle.protocol.specs.Parameters.{parameters};
+ghost use Rattle.protocol.specs.Views.{public, message};
+ghost use Rattle.definitions.specs.Answer.{_then_};
+ghost use Rattle.protocol.specs.Layout.{scratch-need};
+ghost use Rattle.protocol.specs.Prover.{t-norm, g-norm, h-norm};
+ghost use Rattle.protocol.specs.Verifier.{check-28, check-29};
+ghost use Rattle.workspace.specs.Ready.{Ready};
+ghost use Rattle.workspace.specs.Holds.{Kept};
+ghost use Rattle.verifier_common.specs.Work.{Sent};
+
+// "28 u1 differs"
+pub fn check_u1(
+    job: &[u32],
+    randomness: &[u32],
+    transcript: &[u32],
+    p: EnvironmentParameters,
+    q: Regions,
+    scratch: &mut [u32],
+) -> Verdict
+    requires { ⌜ Sent (now job) (now randomness) (now transcript) p × Ready (now job) p q (now scratch) ⌝ }
+    ensures { λ v. ⌜ ofVerdict v ≡ check-28 (public (now (job .entry)) (now (randomness .entry))) (message (parameters (now (job .entry))) (now (transcript .entry))) ⌝ }
+    ensures { λ v. ⌜ Kept (scratch-need (parameters (now (job .entry)))) (now (scratch .entry)) (now (scratch .exit)) ⌝ }
+{
+    let t = Digits {
+        at: offsets::of_transcript(p, 5),
+        cells: p.multiplicity * p.kappa,
+        parts: p.t_1,
+    };
+    let g = Digits {
+        at: offsets::of_transcript(p, 6),
+        cells: slices::triangle(p.multiplicity),
+        parts: p.t_2,
+    };
+    let b_at = offsets::of_job(p, 7);
+    let c_at = offsets::of_job(p, 8);
+    let rows = p.kappa_1;
+    outer_commitments::compute_u1(job, b_at, c_at, rows, transcript, t, g, p.b, scratch, q.u);
+    if equal::same_words(
+        transcript,
+        offsets::of_transcript(p, 0),
+        scratch,
+        q.u,
+        64 * rows,
+    ) {
+        Verdict::Accepted
+    } else {
+        Verdict::Failed(FailedCheck::OuterCommitU1)
+    }
+}
+
+// "29 u2 differs"
+pub fn check_u2(
+    job: &[u32],
+    randomness: &[u32],
+    transcript: &[u32],
+    p: EnvironmentParameters,
+    q: Regions,
+    scratch: &mut [u32],
+) -> Verdict
+    requires { ⌜ Sent (now job) (now randomness) (now transcript) p × Ready (now job) p q (now scratch) ⌝ }
+    ensures { λ v. ⌜ ofVerdict v ≡ check-29 (public (now (job .entry)) (now (randomness .entry))) (message (parameters (now (job .entry))) (now (transcript .entry))) ⌝ }
+    ensures { λ v. ⌜ Kept (scratch-need (parameters (now (job .entry)))) (now (scratch .entry)) (now (scratch .exit)) ⌝ }
+{
+    let h = Digits {
+        at: offsets::of_transcript(p, 7),
+        cells: slices::triangle(p.multiplicity),
+        parts: p.t_1,
+    };
+    let d_at = offsets::of_job(p, 9);
+    let rows = p.kappa_2;
+    outer_commitments::compute_u2(job, d_at, rows, transcript, h, p.b, scratch, q.u);
+    if equal::same_words(
+        transcript,
+        offsets::of_transcript(p, 3),
+        scratch,
+        q.u,
+        64 * rows,
+    ) {
+        Verdict::Accepted
+    } else {
+        Verdict::Failed(FailedCheck::OuterCommitU2)
+    }
+}
+
+// "14 digits of t above B's bound, 15 of g above C's"
+pub fn check_t_and_g(
+    job: &[u32],
+    randomness: &[u32],
+    transcript: &[u32],
+    p: EnvironmentParameters,
+) -> Verdict
+    requires { ⌜ Sent (now job) (now randomness) (now transcript) p ⌝ }
+    ensures { λ v. ⌜ ofVerdict v ≡ t-norm (public (now (job .entry)) (now (randomness .entry))) ((message (parameters (now (job .entry))) (now (transcript .entry))) .t) then g-norm (public (now (job .entry)) (now (randomness .entry))) ((message (parameters (now (job .entry))) (now (transcript .entry))) .g) ⌝ }
+{
+    let t = Digits {
+        at: offsets::of_transcript(p, 5),
+        cells: p.multiplicity * p.kappa,
+        parts: p.t_1,
+    };
+    let g = Digits {
+        at: offsets::of_transcript(p, 6),
+        cells: slices::triangle(p.multiplicity),
+        parts: p.t_2,
+    };
+    if !common_instances::digits_within(transcript, t, p.b, p.bound_b) {
+        return Verdict::Refused(Refusal::DigitsOfT);
+    }
+    if !common_instances::digits_within(transcript, g, p.b, p.bound_c) {
+        return Verdict::Refused(Refusal::DigitsOfG);
+    }
+    Verdict::Accepted
+}
+
+// "16 of h above D's"
+pub fn check_h(
+    job: &[u32],
+    randomness: &[u32],
+    transcript: &[u32],
+    p: EnvironmentParameters,
+) -> Verdict
+    requires { ⌜ Sent (now job) (now randomness) (now transcript) p ⌝ }
+    ensures { λ v. ⌜ ofVerdict v ≡ h-norm (public (now (job .entry)) (now (randomness .entry))) ((message (parameters (now (job .entry))) (now (transcript .entry))) .h) ⌝ }
+{
+    let h = Digits {
+        at: offsets::of_transcript(p, 7),
+        cells: slices::triangle(p.multiplicity),
+        parts: p.t_1,
+    };
+    if common_instances::digits_within(transcript, h, p.b, p.bound_d) {
+        Verdict::Accepted
+    } else {
+        Verdict::Refused(Refusal::DigitsOfH)
+    }
+}
+
+// 14, 15 and 28, in order.
+pub fn check_first_commitment(
+    job: &[u32],
+    randomness: &[u32],
+    transcript: &[u32],
+    p: EnvironmentParameters,
+    q: Regions,
+    scratch: &mut [u32],
+) -> Verdict
+    requires { ⌜ Sent (now job) (now randomness) (now transcript) p × Ready (now job) p q (now scratch) ⌝ }
+    ensures { λ v. ⌜ ofVerdict v ≡ (t-norm (public (now (job .entry)) (now (randomness .entry))) ((message (parameters (now (job .entry))) (now (transcript .entry))) .t) then g-norm (public (now (job .entry)) (now (randomness .entry))) ((message (parameters (now (job .entry))) (now (transcript .entry))) .g)) then check-28 (public (now (job .entry)) (now (randomness .entry))) (message (parameters (now (job .entry))) (now (transcript .entry))) ⌝ }
+    ensures { λ v. ⌜ Kept (scratch-need (parameters (now (job .entry)))) (now (scratch .entry)) (now (scratch .exit)) ⌝ }
+{
+    match check_t_and_g(job, randomness, transcript, p) {
+        Verdict::Accepted => check_u1(job, randomness, transcript, p, q, scratch),
+        Verdict::Refused(refusal) => Verdict::Refused(refusal),
+        Verdict::Failed(check) => Verdict::Failed(check),
+    }
+}
+
+// 16 and 29, in order.
+pub fn check_second_commitment(
+    job: &[u32],
+    randomness: &[u32],
+    transcript: &[u32],
+    p: EnvironmentParameters,
+    q: Regions,
+    scratch: &mut [u32],
+) -> Verdict
+    requires { ⌜ Sent (now job) (now randomness) (now transcript) p × Ready (now job) p q (now scratch) ⌝ }
+    ensures { λ v. ⌜ ofVerdict v ≡ h-norm (public (now (job .entry)) (now (randomness .entry))) ((message (parameters (now (job .entry))) (now (transcript .entry))) .h) then check-29 (public (now (job .entry)) (now (randomness .entry))) (message (parameters (now (job .entry))) (now (transcript .entry))) ⌝ }
+    ensures { λ v. ⌜ Kept (scratch-need (parameters (now (job .entry)))) (now (scratch .entry)) (now (scratch .exit)) ⌝ }
+{
+    match check_h(job, randomness, transcript, p) {
+        Verdict::Accepted => check_u2(job, randomness, transcript, p, q, scratch),
+        Verdict::Refused(refusal) => Verdict::Refused(refusal),
+        Verdict::Failed(check) => Verdict::Failed(check),
+    }
+}
+
+// 14, 15, 28, 16 and 29, in order.
+pub fn check_commitments(
+    job: &[u32],
+    randomness: &[u32],
+    transcript: &[u32],
+    p: EnvironmentParameters,
+    q: Regions,
+    scratch: &mut [u32],
+) -> Verdict
+    requires { ⌜ Sent (now job) (now randomness) (now transcript) p × Ready (now job) p q (now scratch) ⌝ }
+    ensures { λ v. ⌜ ofVerdict v ≡ ((t-norm (public (now (job .entry)) (now (randomness .entry))) ((message (parameters (now (job .entry))) (now (transcript .entry))) .t) then g-norm (public (now (job .entry)) (now (randomness .entry))) ((message (parameters (now (job .entry))) (now (transcript .entry))) .g)) then check-28 (public (now (job .entry)) (now (randomness .entry))) (message (parameters (now (job .entry))) (now (transcript .entry)))) then (h-norm (public (now (job .entry)) (now (randomness .entry))) ((message (parameters (now (job .entry))) (now (transcript .entry))) .h) then check-29 (public (now (job .entry)) (now (randomness .entry))) (message (parameters (now (job .entry))) (now (transcript .entry)))) ⌝ }
+    ensures { λ v. ⌜ Kept (scratch-need (parameters (now (job .entry)))) (now (scratch .entry)) (now (scratch .exit)) ⌝ }
+{
+    match check_first_commitment(job, randomness, transcript, p, q, scratch) {
+        Verdict::Accepted => check_second_commitment(job, randomness, transcript, p, q, scratch),
+        Verdict::Refused(refusal) => Verdict::Refused(refusal),
+        Verdict::Failed(check) => Verdict::Failed(check),
+    }
+}
