@@ -27,12 +27,13 @@ use Rattle.inner_product.specs.Run.{run}
 use Rattle.rq_matrix.specs.Region.{vector}
 use Rattle.commitments.specs.Cells.{digits-at, Cells, CanonicalFrom}
 use Rattle.commitments.proofs.Added.{length-flat-table}
-use Rattle.commitments.proofs.Formula.{digits, u₁-is, u₂-is, t-norm-is, g-norm-is, h-norm-is}
+use Rattle.commitments.proofs.Formula.{digits, u₁-is, u₂-is, t-norm-of, g-norm-of, h-norm-of}
 use Rattle.workspace.specs.Ready.{Ready}
 use Rattle.workspace.specs.Holds.{Kept}
 use Rattle.workspace.proofs.Kept.{kept-refl, kept-stored}
 use Rattle.workspace.proofs.Ready.{regions-end, u-end, b″-end}
-use Rattle.verifier_common.specs.Work.{Sent, equal}
+use Rattle.verifier_common.specs.Work.{Received, Posed, equal}
+use Rattle.verifier_common.specs.Answers.{bare}
 use Rattle.verifier_common.proofs.Sent.{product-small, transcript-at, reckoned, transcript-room, job-room, t-within, g-within, h-within}
 use Rattle.verifier_commitments.proofs.Compared.{compared}
 
@@ -55,62 +56,60 @@ few-cells n h = omega arith
 from-zero : (a : ℕ) → 0 + a ≡ a
 from-zero a = omega arith
 
-module _ (J R X : List ℕ) (p : EnvironmentParameters) (s : Sent J R X p) where
+module _ (X : List ℕ) (p : EnvironmentParameters) (s : Received X p) where
   -- the base is not 0 or 1
   pub base-large : 1 < p .b
-  base-large = omega (arith, reckoned s .within .b .0)
+  base-large = omega (arith, s .sized .within .b .0)
 
   -- r·κ is small
   pub few-t : p .multiplicity * p .kappa ≤ 256
-  few-t = product-small (p .multiplicity) (p .kappa) (reckoned s .within .r .1) (reckoned s .within .κ .1)
+  few-t = product-small (p .multiplicity) (p .kappa) (s .sized .within .r .1) (s .sized .within .κ .1)
 
   -- the digits of t, g and h in the transcript
   module _ (at cells : ℕ) where
     pub t-cells : at ≡ transcript-at (parametersOf p) 5 → cells ≡ p .multiplicity * p .kappa → Cells X (digits at cells (p .«t_1»))
-    t-cells e f = cells-at X at cells (p .multiplicity * p .kappa) (p .«t_1») f (t-within J R X p s at e) (omega (arith, f, few-t)) (reckoned s .within .t₁ .1)
+    t-cells e f = cells-at X at cells (p .multiplicity * p .kappa) (p .«t_1») f (t-within X p s at e) (omega (arith, f, few-t)) (s .sized .within .t₁ .1)
 
     pub g-cells : at ≡ transcript-at (parametersOf p) 6 → (cells ≡ triangular (p .multiplicity)) × (cells ≤ 136) → Cells X (digits at cells (p .«t_2»))
-    g-cells e f = cells-at X at cells (triangular (p .multiplicity)) (p .«t_2») (f .0) (g-within J R X p s at e) (omega (arith, f .1)) (reckoned s .within .t₂ .1)
+    g-cells e f = cells-at X at cells (triangular (p .multiplicity)) (p .«t_2») (f .0) (g-within X p s at e) (omega (arith, f .1)) (s .sized .within .t₂ .1)
 
     pub h-cells : at ≡ transcript-at (parametersOf p) 7 → (cells ≡ triangular (p .multiplicity)) × (cells ≤ 136) → Cells X (digits at cells (p .«t_1»))
-    h-cells e f = cells-at X at cells (triangular (p .multiplicity)) (p .«t_1») (f .0) (h-within J R X p s at e) (omega (arith, f .1)) (reckoned s .within .t₁ .1)
+    h-cells e f = cells-at X at cells (triangular (p .multiplicity)) (p .«t_1») (f .0) (h-within X p s at e) (omega (arith, f .1)) (s .sized .within .t₁ .1)
 
     -- 14 by the boolean's value
     pub t-answer : (t : Bool) → at ≡ transcript-at (parametersOf p) 5 → cells ≡ p .multiplicity * p .kappa
         → t ≡ leb (norm-of (digits-at X (digits at cells (p .«t_1»)) (p .b))) (value128 (p .«bound_b»))
-        → cond t fine (refused 14 0) ≡ t-norm (public J R) (message (parameters J) X .t)
+        → cond t fine (refused 14 0) ≡ t-norm (bare (parametersOf p)) (message (parametersOf p) X .t)
     t-answer t e f h =
         ap (λ x. cond x fine (refused 14 0))
         (h
         ∙ ap (λ a. leb (norm-of (digits-at X (digits a cells (p .«t_1»)) (p .b))) (value128 (p .«bound_b»))) e
-        ∙ ap (λ n. leb (norm-of (digits-at X (digits (transcript-at (parametersOf p) 5) n (p .«t_1»)) (p .b))) (value128 (p .«bound_b»))) f
-        ∙ ap (λ (Q : Parameters). leb (norm-of (digits-at X (digits (transcript-at Q 5) (Q .r * Q .κ) (Q .t₁)) (Q .b))) (Q .bound-B)) (s .same))
-        ∙ sym (t-norm-is J R X (transcript-at (parameters J) 5) (message (parameters J) X .t) (λ i k l m. refl))
+        ∙ ap (λ n. leb (norm-of (digits-at X (digits (transcript-at (parametersOf p) 5) n (p .«t_1»)) (p .b))) (value128 (p .«bound_b»))) f)
+        ∙ sym (t-norm-of (bare (parametersOf p)) X (transcript-at (parametersOf p) 5) (message (parametersOf p) X .t) (λ i k l m. refl))
 
     -- 15 by the boolean's value
     pub g-answer : (t : Bool) → at ≡ transcript-at (parametersOf p) 6 → cells ≡ triangular (p .multiplicity)
         → t ≡ leb (norm-of (digits-at X (digits at cells (p .«t_2»)) (p .b))) (value128 (p .«bound_c»))
-        → cond t fine (refused 15 0) ≡ g-norm (public J R) (message (parameters J) X .g)
+        → cond t fine (refused 15 0) ≡ g-norm (bare (parametersOf p)) (message (parametersOf p) X .g)
     g-answer t e f h =
         ap (λ x. cond x fine (refused 15 0))
         (h
         ∙ ap (λ a. leb (norm-of (digits-at X (digits a cells (p .«t_2»)) (p .b))) (value128 (p .«bound_c»))) e
-        ∙ ap (λ n. leb (norm-of (digits-at X (digits (transcript-at (parametersOf p) 6) n (p .«t_2»)) (p .b))) (value128 (p .«bound_c»))) f
-        ∙ ap (λ (Q : Parameters). leb (norm-of (digits-at X (digits (transcript-at Q 6) (triangular (Q .r)) (Q .t₂)) (Q .b))) (Q .bound-C)) (s .same))
-        ∙ sym (g-norm-is J R X (transcript-at (parameters J) 6) (message (parameters J) X .g) (λ i j l m. refl))
+        ∙ ap (λ n. leb (norm-of (digits-at X (digits (transcript-at (parametersOf p) 6) n (p .«t_2»)) (p .b))) (value128 (p .«bound_c»))) f)
+        ∙ sym (g-norm-of (bare (parametersOf p)) X (transcript-at (parametersOf p) 6) (message (parametersOf p) X .g) (λ i j l m. refl))
 
     -- 16 by the boolean's value
     pub h-answer : (t : Bool) → at ≡ transcript-at (parametersOf p) 7 → cells ≡ triangular (p .multiplicity)
         → t ≡ leb (norm-of (digits-at X (digits at cells (p .«t_1»)) (p .b))) (value128 (p .«bound_d»))
-        → cond t fine (refused 16 0) ≡ h-norm (public J R) (message (parameters J) X .h)
+        → cond t fine (refused 16 0) ≡ h-norm (bare (parametersOf p)) (message (parametersOf p) X .h)
     h-answer t e f h =
         ap (λ x. cond x fine (refused 16 0))
         (h
         ∙ ap (λ a. leb (norm-of (digits-at X (digits a cells (p .«t_1»)) (p .b))) (value128 (p .«bound_d»))) e
-        ∙ ap (λ n. leb (norm-of (digits-at X (digits (transcript-at (parametersOf p) 7) n (p .«t_1»)) (p .b))) (value128 (p .«bound_d»))) f
-        ∙ ap (λ (Q : Parameters). leb (norm-of (digits-at X (digits (transcript-at Q 7) (triangular (Q .r)) (Q .t₁)) (Q .b))) (Q .bound-D)) (s .same))
-        ∙ sym (h-norm-is J R X (transcript-at (parameters J) 7) (message (parameters J) X .h) (λ i j l m. refl))
+        ∙ ap (λ n. leb (norm-of (digits-at X (digits (transcript-at (parametersOf p) 7) n (p .«t_1»)) (p .b))) (value128 (p .«bound_d»))) f)
+        ∙ sym (h-norm-of (bare (parametersOf p)) X (transcript-at (parametersOf p) 7) (message (parametersOf p) X .h) (λ i j l m. refl))
 
+module _ (J X : List ℕ) (p : EnvironmentParameters) (s : Posed J X p) where
   -- u2's words in the transcript lie within it and are canonical
   pub u₂-within : (at : ℕ) → at ≡ transcript-at (parametersOf p) 3 → at + 64 * p .«kappa_2» ≤ length X
   u₂-within at e = transcript-room s 3 at (omega arith) e
@@ -163,7 +162,7 @@ module _ (J R X : List ℕ) (p : EnvironmentParameters) (s : Sent J R X p) where
         → u-at ≡ transcript-at (parametersOf p) 3
         → S′ ≡ splice S (q .u) (flat (table (p .«kappa_2») (times (vector J d-at (cells * p .«t_1»)) (digits-at X (digits h-at cells (p .«t_1»)) (p .b)))))
         → t ≡ equal (part X u-at (64 * p .«kappa_2»)) (part S′ (q .u) (64 * p .«kappa_2»))
-        → cond t fine (failed 29 []) ≡ check-29 (public J R) (message (parameters J) X)
+        → cond t fine (failed 29 []) ≡ check-29 (public J []) (message (parameters J) X)
     unfolding check-29
     u₂-answer h-at cells d-at u-at S′ t e-h e-n e-d e-u stored v =
         compared X S S′ u-at (q .u) (p .«kappa_2») (worked p h-at cells d-at) 29 [] t (u₂-within u-at e-u) (u₂-canonical u-at e-u) (u-within (p .«kappa_2») (reckoned s .within .κ₂ .1)) stored v
@@ -172,7 +171,7 @@ module _ (J R X : List ℕ) (p : EnvironmentParameters) (s : Sent J R X p) where
         ∙ ap (λ a. checked (p .«kappa_2») u-at (worked p (transcript-at (parametersOf p) 7) (triangular (p .multiplicity)) a)) e-d
         ∙ ap (λ a. checked (p .«kappa_2») a (worked p (transcript-at (parametersOf p) 7) (triangular (p .multiplicity)) (job-at (parametersOf p) 9))) e-u
         ∙ ap (λ Q. checked (Q .κ₂) (transcript-at Q 3) (times (vector J (job-at Q 9) (triangular (Q .r) * Q .t₁)) (digits-at X (digits (transcript-at Q 7) (triangular (Q .r)) (Q .t₁)) (Q .b)))) (s .same)
-        ∙ ap (checked (parameters J .κ₂) (transcript-at (parameters J) 3)) (u₂-is J R X (transcript-at (parameters J) 7) (message (parameters J) X .h) (λ i j l m. refl))
+        ∙ ap (checked (parameters J .κ₂) (transcript-at (parameters J) 3)) (u₂-is J [] X (transcript-at (parameters J) 7) (message (parameters J) X .h) (λ i j l m. refl))
       where
         -- what is worked out, of the places and the number that the code holds
         worked : EnvironmentParameters → ℕ → ℕ → ℕ → ℕ → Element
@@ -192,7 +191,7 @@ module _ (J R X : List ℕ) (p : EnvironmentParameters) (s : Sent J R X p) where
         (λ k. times (vector J b-at (p .multiplicity * p .kappa * p .«t_1»)) (digits-at X (digits t-at (p .multiplicity * p .kappa) (p .«t_1»)) (p .b)) k
         ⊕ times (vector J c-at (cells * p .«t_2»)) (digits-at X (digits g-at cells (p .«t_2»)) (p .b)) k)))
         → t ≡ equal (part X u-at (64 * p .«kappa_1»)) (part S′ (q .u) (64 * p .«kappa_1»))
-        → cond t fine (failed 28 []) ≡ check-28 (public J R) (message (parameters J) X)
+        → cond t fine (failed 28 []) ≡ check-28 (public J []) (message (parameters J) X)
     unfolding check-28
     u₁-answer t-at g-at cells b-at c-at u-at S′ t e-t e-g e-n e-b e-c e-u stored v =
         compared X S S′ u-at (q .u) (p .«kappa_1») (worked (parametersOf p) t-at g-at cells b-at c-at) 28 [] t (u₁-within u-at e-u) (u₁-canonical u-at e-u) (u-within (p .«kappa_1») (reckoned s .within .κ₁ .1)) stored v
@@ -204,7 +203,7 @@ module _ (J R X : List ℕ) (p : EnvironmentParameters) (s : Sent J R X p) where
         ∙ ap (λ a. checked (p .«kappa_1») a (settled (parametersOf p))) e-u
         ∙ ap (λ Q. checked (Q .κ₁) (transcript-at Q 0) (settled Q)) (s .same)
         ∙ ap (checked (parameters J .κ₁) (transcript-at (parameters J) 0))
-        (u₁-is J R X (transcript-at (parameters J) 5) (transcript-at (parameters J) 6) (message (parameters J) X .t) (message (parameters J) X .g) (λ i k l m. refl) (λ i j l m. refl))
+        (u₁-is J [] X (transcript-at (parameters J) 5) (transcript-at (parameters J) 6) (message (parameters J) X .t) (message (parameters J) X .g) (λ i k l m. refl) (λ i j l m. refl))
       where
         -- what is worked out, of places and a number of cells
         worked : Parameters → ℕ → ℕ → ℕ → ℕ → ℕ → ℕ → Element

@@ -1,5 +1,4 @@
 // The outer commitments to what the prover sends: 14, 15 and 28; 16 and 29.
-use verifier_common::equal;
 use commitments::common_instances;
 use commitments::outer_commitments;
 use commitments::outer_commitments::Digits;
@@ -10,29 +9,27 @@ use regions::Regions;
 use relation::env_params::EnvironmentParameters;
 use sizes::offsets;
 use sizes::slices;
+use verifier_common::equal;
 ghost use mathlib.Core.Path.{_≡_};
 ghost use Rattle.definitions.specs.Answer.{ofVerdict};
 ghost use Rattle.protocol.specs.Parameters.{parameters};
-ghost use Rattle.protocol.specs.Views.{public, message};
-ghost use Rattle.definitions.specs.Answer.{_then_};
 ghost use Rattle.protocol.specs.Layout.{scratch-need};
-ghost use Rattle.protocol.specs.Prover.{t-norm, g-norm, h-norm};
-ghost use Rattle.protocol.specs.Verifier.{check-28, check-29};
 ghost use Rattle.workspace.specs.Ready.{Ready};
 ghost use Rattle.workspace.specs.Holds.{Kept};
-ghost use Rattle.verifier_common.specs.Work.{Sent};
+ghost use Rattle.relation.specs.Parameters.{parametersOf};
+ghost use Rattle.verifier_common.specs.Work.{Received, Posed};
+ghost use Rattle.verifier_common.specs.Answers.{t-and-g-bounds, h-bound, u1-differs, u2-differs, first-commitment, second-commitment, commitments};
 
 // "28 u1 differs"
 pub fn check_u1(
     job: &[u32],
-    randomness: &[u32],
     transcript: &[u32],
     p: EnvironmentParameters,
     q: Regions,
     scratch: &mut [u32],
 ) -> Verdict
-    requires { ⌜ Sent (now job) (now randomness) (now transcript) p × Ready (now job) p q (now scratch) ⌝ }
-    ensures { λ v. ⌜ ofVerdict v ≡ check-28 (public (now (job .entry)) (now (randomness .entry))) (message (parameters (now (job .entry))) (now (transcript .entry))) ⌝ }
+    requires { ⌜ Posed (now job) (now transcript) p × Ready (now job) p q (now scratch) ⌝ }
+    ensures { λ v. ⌜ ofVerdict v ≡ u1-differs (now (job .entry)) (now (transcript .entry)) ⌝ }
     ensures { λ v. ⌜ Kept (scratch-need (parameters (now (job .entry)))) (now (scratch .entry)) (now (scratch .exit)) ⌝ }
 {
     let t = Digits {
@@ -65,14 +62,13 @@ pub fn check_u1(
 // "29 u2 differs"
 pub fn check_u2(
     job: &[u32],
-    randomness: &[u32],
     transcript: &[u32],
     p: EnvironmentParameters,
     q: Regions,
     scratch: &mut [u32],
 ) -> Verdict
-    requires { ⌜ Sent (now job) (now randomness) (now transcript) p × Ready (now job) p q (now scratch) ⌝ }
-    ensures { λ v. ⌜ ofVerdict v ≡ check-29 (public (now (job .entry)) (now (randomness .entry))) (message (parameters (now (job .entry))) (now (transcript .entry))) ⌝ }
+    requires { ⌜ Posed (now job) (now transcript) p × Ready (now job) p q (now scratch) ⌝ }
+    ensures { λ v. ⌜ ofVerdict v ≡ u2-differs (now (job .entry)) (now (transcript .entry)) ⌝ }
     ensures { λ v. ⌜ Kept (scratch-need (parameters (now (job .entry)))) (now (scratch .entry)) (now (scratch .exit)) ⌝ }
 {
     let h = Digits {
@@ -97,14 +93,9 @@ pub fn check_u2(
 }
 
 // "14 digits of t above B's bound, 15 of g above C's"
-pub fn check_t_and_g(
-    job: &[u32],
-    randomness: &[u32],
-    transcript: &[u32],
-    p: EnvironmentParameters,
-) -> Verdict
-    requires { ⌜ Sent (now job) (now randomness) (now transcript) p ⌝ }
-    ensures { λ v. ⌜ ofVerdict v ≡ t-norm (public (now (job .entry)) (now (randomness .entry))) ((message (parameters (now (job .entry))) (now (transcript .entry))) .t) then g-norm (public (now (job .entry)) (now (randomness .entry))) ((message (parameters (now (job .entry))) (now (transcript .entry))) .g) ⌝ }
+pub fn check_t_and_g(transcript: &[u32], p: EnvironmentParameters) -> Verdict
+    requires { ⌜ Received (now transcript) p ⌝ }
+    ensures { λ v. ⌜ ofVerdict v ≡ t-and-g-bounds (parametersOf p) (now (transcript .entry)) ⌝ }
 {
     let t = Digits {
         at: offsets::of_transcript(p, 5),
@@ -126,14 +117,9 @@ pub fn check_t_and_g(
 }
 
 // "16 of h above D's"
-pub fn check_h(
-    job: &[u32],
-    randomness: &[u32],
-    transcript: &[u32],
-    p: EnvironmentParameters,
-) -> Verdict
-    requires { ⌜ Sent (now job) (now randomness) (now transcript) p ⌝ }
-    ensures { λ v. ⌜ ofVerdict v ≡ h-norm (public (now (job .entry)) (now (randomness .entry))) ((message (parameters (now (job .entry))) (now (transcript .entry))) .h) ⌝ }
+pub fn check_h(transcript: &[u32], p: EnvironmentParameters) -> Verdict
+    requires { ⌜ Received (now transcript) p ⌝ }
+    ensures { λ v. ⌜ ofVerdict v ≡ h-bound (parametersOf p) (now (transcript .entry)) ⌝ }
 {
     let h = Digits {
         at: offsets::of_transcript(p, 7),
@@ -150,59 +136,56 @@ pub fn check_h(
 // 14, 15 and 28, in order.
 pub fn check_first_commitment(
     job: &[u32],
-    randomness: &[u32],
     transcript: &[u32],
     p: EnvironmentParameters,
     q: Regions,
     scratch: &mut [u32],
 ) -> Verdict
-    requires { ⌜ Sent (now job) (now randomness) (now transcript) p × Ready (now job) p q (now scratch) ⌝ }
-    ensures { λ v. ⌜ ofVerdict v ≡ (t-norm (public (now (job .entry)) (now (randomness .entry))) ((message (parameters (now (job .entry))) (now (transcript .entry))) .t) then g-norm (public (now (job .entry)) (now (randomness .entry))) ((message (parameters (now (job .entry))) (now (transcript .entry))) .g)) then check-28 (public (now (job .entry)) (now (randomness .entry))) (message (parameters (now (job .entry))) (now (transcript .entry))) ⌝ }
+    requires { ⌜ Posed (now job) (now transcript) p × Ready (now job) p q (now scratch) ⌝ }
+    ensures { λ v. ⌜ ofVerdict v ≡ first-commitment (now (job .entry)) (now (transcript .entry)) ⌝ }
     ensures { λ v. ⌜ Kept (scratch-need (parameters (now (job .entry)))) (now (scratch .entry)) (now (scratch .exit)) ⌝ }
 {
-    match check_t_and_g(job, randomness, transcript, p) {
-        Verdict::Accepted => check_u1(job, randomness, transcript, p, q, scratch),
-        Verdict::Refused(refusal) => Verdict::Refused(refusal),
-        Verdict::Failed(check) => Verdict::Failed(check),
-    }
+    let bounds = check_t_and_g(transcript, p);
+    let Verdict::Accepted = bounds else {
+        return bounds;
+    };
+    check_u1(job, transcript, p, q, scratch)
 }
 
 // 16 and 29, in order.
 pub fn check_second_commitment(
     job: &[u32],
-    randomness: &[u32],
     transcript: &[u32],
     p: EnvironmentParameters,
     q: Regions,
     scratch: &mut [u32],
 ) -> Verdict
-    requires { ⌜ Sent (now job) (now randomness) (now transcript) p × Ready (now job) p q (now scratch) ⌝ }
-    ensures { λ v. ⌜ ofVerdict v ≡ h-norm (public (now (job .entry)) (now (randomness .entry))) ((message (parameters (now (job .entry))) (now (transcript .entry))) .h) then check-29 (public (now (job .entry)) (now (randomness .entry))) (message (parameters (now (job .entry))) (now (transcript .entry))) ⌝ }
+    requires { ⌜ Posed (now job) (now transcript) p × Ready (now job) p q (now scratch) ⌝ }
+    ensures { λ v. ⌜ ofVerdict v ≡ second-commitment (now (job .entry)) (now (transcript .entry)) ⌝ }
     ensures { λ v. ⌜ Kept (scratch-need (parameters (now (job .entry)))) (now (scratch .entry)) (now (scratch .exit)) ⌝ }
 {
-    match check_h(job, randomness, transcript, p) {
-        Verdict::Accepted => check_u2(job, randomness, transcript, p, q, scratch),
-        Verdict::Refused(refusal) => Verdict::Refused(refusal),
-        Verdict::Failed(check) => Verdict::Failed(check),
-    }
+    let bound = check_h(transcript, p);
+    let Verdict::Accepted = bound else {
+        return bound;
+    };
+    check_u2(job, transcript, p, q, scratch)
 }
 
 // 14, 15, 28, 16 and 29, in order.
 pub fn check_commitments(
     job: &[u32],
-    randomness: &[u32],
     transcript: &[u32],
     p: EnvironmentParameters,
     q: Regions,
     scratch: &mut [u32],
 ) -> Verdict
-    requires { ⌜ Sent (now job) (now randomness) (now transcript) p × Ready (now job) p q (now scratch) ⌝ }
-    ensures { λ v. ⌜ ofVerdict v ≡ ((t-norm (public (now (job .entry)) (now (randomness .entry))) ((message (parameters (now (job .entry))) (now (transcript .entry))) .t) then g-norm (public (now (job .entry)) (now (randomness .entry))) ((message (parameters (now (job .entry))) (now (transcript .entry))) .g)) then check-28 (public (now (job .entry)) (now (randomness .entry))) (message (parameters (now (job .entry))) (now (transcript .entry)))) then (h-norm (public (now (job .entry)) (now (randomness .entry))) ((message (parameters (now (job .entry))) (now (transcript .entry))) .h) then check-29 (public (now (job .entry)) (now (randomness .entry))) (message (parameters (now (job .entry))) (now (transcript .entry)))) ⌝ }
+    requires { ⌜ Posed (now job) (now transcript) p × Ready (now job) p q (now scratch) ⌝ }
+    ensures { λ v. ⌜ ofVerdict v ≡ commitments (now (job .entry)) (now (transcript .entry)) ⌝ }
     ensures { λ v. ⌜ Kept (scratch-need (parameters (now (job .entry)))) (now (scratch .entry)) (now (scratch .exit)) ⌝ }
 {
-    match check_first_commitment(job, randomness, transcript, p, q, scratch) {
-        Verdict::Accepted => check_second_commitment(job, randomness, transcript, p, q, scratch),
-        Verdict::Refused(refusal) => Verdict::Refused(refusal),
-        Verdict::Failed(check) => Verdict::Failed(check),
-    }
+    let first = check_first_commitment(job, transcript, p, q, scratch);
+    let Verdict::Accepted = first else {
+        return first;
+    };
+    check_second_commitment(job, transcript, p, q, scratch)
 }

@@ -1,10 +1,13 @@
 -- Checks one after the other, and the verdicts that a function matches on.
 use mathlib.Core.Path.{_≡_, refl, sym, ap, _∙_}
 use mathlib.Core.Logic.{_⊎_, inl, inr}
-use mathlib.Core.List.{List}
+use mathlib.Core.List.{List, [], _∷_}
 use Prim.Native.Nat.{ℕ, zero, suc, _<_}
 use native.Mathlib.Nat.{not-suc-le-zero, eq-or-lt-of-le}
 use native.Mathlib.Omega.{arith}
+use denote.Enum.Declared.{tagOf}
+use types.Run.{OneOf}
+use Rattle.definitions.proofs.answers.Verdict.{the-type}
 use Rattle.definitions.specs.Answer.{Answer, fine, refused, failed, _then_, ofRefusal, ofFailed, ofVerdict}
 use Rattle.definitions.specs.declared.answers.Refusal.{Refusal}
 use Rattle.definitions.specs.declared.answers.Refusal.the-variants as R
@@ -57,15 +60,14 @@ failed-then F.Relation b = refl
 failed-then F.OuterCommitU1 b = refl
 failed-then F.OuterCommitU2 b = refl
 
-module _ {v : Verdict} {a : Answer} (e : ofVerdict v ≡ a) where
+module _ {a : Answer} where
   -- a verdict that accepts leaves the answer to what comes after
-  pub accepted-then : v ≡ V′.Accepted → (b : Answer) → b ≡ a then b
-  accepted-then w b = ap (λ x. x then b) (sym (ap ofVerdict w) ∙ e)
+  pub goes-on : (v : Verdict) → ofVerdict v ≡ a → v ≡ V′.Accepted → (b : Answer) → b ≡ a then b
+  goes-on v e w b = ap (λ x. x then b) (sym (ap ofVerdict w) ∙ e)
 
-  -- a verdict that refuses is the answer
-  pub refused-stops : {r : Refusal} → v ≡ V′.Refused r → (b : Answer) → ofRefusal r ≡ a then b
-  refused-stops {r} w b = sym (refusal-then r b) ∙ ap (λ x. x then b) (sym (ap ofVerdict w) ∙ e)
-
-  -- a verdict that a check failed is the answer
-  pub failed-stops : {f : FailedCheck} → v ≡ V′.Failed f → (b : Answer) → ofFailed f ≡ a then b
-  failed-stops {f} w b = sym (failed-then f b) ∙ ap (λ x. x then b) (sym (ap ofVerdict w) ∙ e)
+  -- one that does not is the answer
+  pub stops : (v : Verdict) → ofVerdict v ≡ a → OneOf (1 ∷ 2 ∷ []) (tagOf the-type v) → (b : Answer) → ofVerdict v ≡ a then b
+  stops V′.Accepted e (inl k) b = absurd (let z : 0 ≡ 1 = k in omega arith)
+  stops V′.Accepted e (inr k) b = absurd (let z : 0 ≡ 2 = k in omega arith)
+  stops (V′.Refused r) e k b = sym (refusal-then r b) ∙ ap (λ x. x then b) e
+  stops (V′.Failed f) e k b = sym (failed-then f b) ∙ ap (λ x. x then b) e

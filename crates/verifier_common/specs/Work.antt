@@ -10,15 +10,25 @@ use Rattle.layout.specs.Laid.{Laid}
 use Rattle.relation.specs.declared.env_params.EnvironmentParameters.{EnvironmentParameters}
 use Rattle.relation.specs.Parameters.{parametersOf}
 use Rattle.relation.specs.SectionOne.{Sound}
+use Rattle.sizes.specs.Sizes.{Sized}
 use Rattle.workspace.specs.Ready.{Drawn}
 
--- a job, a randomness and a transcript that are refused nothing
-pub record Sent (J R T : List ℕ) (p : EnvironmentParameters) : Type 0 where
+-- parameters within their limits and a transcript of theirs
+pub record Received (T : List ℕ) (p : EnvironmentParameters) : Type 0 where
+  pub sized : Sized (parametersOf p)
+  pub transcript : Laid T 0 (transcript-sections (parametersOf p))
+
+-- a job and a transcript that are refused nothing
+pub record Posed (J T : List ℕ) (p : EnvironmentParameters) : Type 0 where
   pub same : parametersOf p ≡ parameters J
   pub sound : Sound J
   pub job : Laid J 30 (job-sections (parameters J))
-  pub drawn : Drawn 7 J R
   pub transcript : Laid T 0 (transcript-sections (parameters J))
+
+-- with a randomness
+pub record Sent (J R T : List ℕ) (p : EnvironmentParameters) : Type 0 where
+  pub posed : Posed J T p
+  pub drawn : Drawn 7 J R
 
 -- whether two lists of words are the same
 abbrev pub equal : List ℕ → List ℕ → Bool

@@ -24,6 +24,7 @@ use Rattle.protocol.specs.Verifier.{check-22}
 use Rattle.relation.specs.declared.env_params.EnvironmentParameters.{EnvironmentParameters}
 use Rattle.relation.specs.Parameters.{parametersOf}
 use Rattle.verifier_common.specs.Work.{Sent}
+use Rattle.verifier_norms.specs.Terms.{constant-term}
 
 -- the constant coefficient of b''_k as it is sent
 abbrev sent-word : (J T : List ℕ) → ℕ → ℕ
@@ -42,10 +43,6 @@ pub check-22-is : (J R T : List ℕ) → first (parameters J .κ) (test J R T) �
 unfolding check-22
 check-22-is J R T = refl
 
--- the constant term of a row, of the places where the words stand
-abbrev pub term : (J R T : List ℕ) (l b0 psi om projection : ℕ) → ℕ
-term J R T l b0 psi om projection = (Σ l (λ x. getD R (psi + x) 0 * getD J (b0 + x) 0) + Σ 256 (λ j. getD R (om + j) 0 * getD T (projection + j) 0)) % Q
-
 -- sizes and places at which the tests can be made, and what they find there
 pub record Terms (J R T : List ℕ) (κ l b0 psi om projection at : ℕ) : Type 0 where
   pub rows : κ ≡ parameters J .κ
@@ -57,7 +54,7 @@ pub record Terms (J R T : List ℕ) (κ l b0 psi om projection at : ℕ) : Type 
   pub projection-room : projection + 256 ≤ length T
   pub at-room : (k : ℕ) → k < κ → at + 64 * k < length T
   pub sent-is : (k : ℕ) → k < κ → sent-word J T k ≡ getD T (at + 64 * k) 0
-  pub computed-is : (k : ℕ) → computed-word J R T k ≡ term J R T l b0 (psi + k * l) (om + k * 256) projection
+  pub computed-is : (k : ℕ) → computed-word J R T k ≡ constant-term J b0 l R (psi + k * l) (om + k * 256) T projection
 
 -- row k of n rows of l words ends within them
 psi-within : (a k n l len : ℕ) → k < n → a + n * l ≤ len → a + k * l + l ≤ len
@@ -99,19 +96,19 @@ module _ {J R T : List ℕ} {p : EnvironmentParameters} (w : Sent J R T p) where
   -- the words of b'' are canonical
   canonical-word : (k : ℕ) → k < P .κ → getD T (at-b″ + 64 * k) 0 < Q
   canonical-word k h =
-      subst (λ i. getD T (i + 64 * k) 0 < Q) (zero-add at-b″) (w .transcript .ranges 2 (64 * k) (omega arith) (b-index k (P .κ) h))
+      subst (λ i. getD T (i + 64 * k) 0 < Q) (zero-add at-b″) (w .posed .transcript .ranges 2 (64 * k) (omega arith) (b-index k (P .κ) h))
 
   -- at the places of the sections
   at-sections : Terms J R T (P .κ) (P .l) (30 + start (job-sections P) 2) (start (randomness-sections P) 1) (start (randomness-sections P) 2) (start (transcript-sections P) 1) (start (transcript-sections P) 2)
   at-sections = record {
     rows = refl;
-    few = w .sound .within .κ .1;
-    short = w .sound .within .l .1;
-    b0-room = w .job .inside 2 (omega arith);
-    psi-room = λ k h. psi-within (start (randomness-sections P) 1) k (P .L) (P .l) (length R) (as-many k (P .κ) (P .L) (w .sound .kappa) h) (w .drawn 1 (omega arith));
-    om-room = λ k h. om-within (start (randomness-sections P) 2) k (P .L) (length R) (as-many k (P .κ) (P .L) (w .sound .kappa) h) (w .drawn 2 (omega arith));
-    projection-room = p-within (start (transcript-sections P) 1) (length T) (w .transcript .inside 1 (omega arith));
-    at-room = λ k h. b-within at-b″ k (P .κ) (length T) h (w .transcript .inside 2 (omega arith));
+    few = w .posed .sound .within .κ .1;
+    short = w .posed .sound .within .l .1;
+    b0-room = w .posed .job .inside 2 (omega arith);
+    psi-room = λ k h. psi-within (start (randomness-sections P) 1) k (P .L) (P .l) (length R) (as-many k (P .κ) (P .L) (w .posed .sound .kappa) h) (w .drawn 1 (omega arith));
+    om-room = λ k h. om-within (start (randomness-sections P) 2) k (P .L) (length R) (as-many k (P .κ) (P .L) (w .posed .sound .kappa) h) (w .drawn 2 (omega arith));
+    projection-room = p-within (start (transcript-sections P) 1) (length T) (w .posed .transcript .inside 1 (omega arith));
+    at-room = λ k h. b-within at-b″ k (P .κ) (length T) h (w .posed .transcript .inside 2 (omega arith));
     sent-is = λ k h. coeff-element (part T (at-b″ + 64 * k) 64) 0 (omega arith) ∙ first-word T (at-b″ + 64 * k) (canonical-word k h);
     computed-is = λ k.
         let psi = start (randomness-sections P) 1 in
@@ -135,10 +132,10 @@ module _ {J R T : List ℕ} {p : EnvironmentParameters} (w : Sent J R T p) where
       (subst (λ om. Terms J R T (p .kappa) (p .«constraint_l») (30 + start (job-sections (parametersOf p)) 2) (start (randomness-sections (parametersOf p)) 1) om projection at) (sym e₃)
       (subst (λ pr. Terms J R T (p .kappa) (p .«constraint_l») (30 + start (job-sections (parametersOf p)) 2) (start (randomness-sections (parametersOf p)) 1) (start (randomness-sections (parametersOf p)) 2) pr at) (sym e₄)
       (subst (λ at. Terms J R T (p .kappa) (p .«constraint_l») (30 + start (job-sections (parametersOf p)) 2) (start (randomness-sections (parametersOf p)) 1) (start (randomness-sections (parametersOf p)) 2) (start (transcript-sections (parametersOf p)) 1) at) (sym e₅)
-      (subst (λ (P : Parameters). Terms J R T (P .κ) (P .l) (30 + start (job-sections P) 2) (start (randomness-sections P) 1) (start (randomness-sections P) 2) (start (transcript-sections P) 1) (start (transcript-sections P) 2)) (sym (w .same)) at-sections)))))
+      (subst (λ (P : Parameters). Terms J R T (P .κ) (P .l) (30 + start (job-sections P) 2) (start (randomness-sections P) 1) (start (randomness-sections P) 2) (start (transcript-sections P) 1) (start (transcript-sections P) 2)) (sym (w .posed .same)) at-sections)))))
 
 module _ {J R T : List ℕ} {κ l b0 psi om projection at : ℕ} (m : Terms J R T κ l b0 psi om projection at) where
   -- the test of row k by the values that the code has
-  pub test-is : (k computed : ℕ) → k < κ → computed ≡ term J R T l b0 (psi + k * l) (om + k * 256) projection
+  pub test-is : (k computed : ℕ) → k < κ → computed ≡ constant-term J b0 l R (psi + k * l) (om + k * 256) T projection
       → test J R T k ≡ require (ℕ-discrete (getD T (at + 64 * k) 0) computed) (failed 22 (k ∷ getD T (at + 64 * k) 0 ∷ computed ∷ []))
   test-is k computed h e = ap₂ (λ x y. require (ℕ-discrete x y) (failed 22 (k ∷ x ∷ y ∷ []))) (m .sent-is k h) (m .computed-is k ∙ sym e)

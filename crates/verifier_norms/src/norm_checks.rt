@@ -3,31 +3,24 @@ use crate::numbers;
 use definitions::answers::FailedCheck;
 use definitions::answers::Verdict;
 use relation::env_params::EnvironmentParameters;
+use rq::product;
 use rq_vector::bound;
 use rq_vector::norm;
 use sizes::offsets;
 use sizes::slices;
 ghost use mathlib.Core.Path.{_≡_};
 ghost use Rattle.definitions.specs.Answer.{ofVerdict};
-ghost use Rattle.protocol.specs.Parameters.{parameters};
-ghost use Rattle.protocol.specs.Views.{public, message};
-ghost use Prim.Native.Nat.{_+_, _*_, _≤_, _%_};
-ghost use lib.ListN.{length, getD};
-ghost use Rattle.lists.specs.Sum.{Σ};
-ghost use Rattle.definitions.specs.Zq.{Q};
-ghost use Rattle.definitions.specs.Answer.{_then_};
-ghost use Rattle.protocol.specs.Verifier.{check-21, check-22, check-23};
-ghost use Rattle.verifier_common.specs.Work.{Sent};
+ghost use Prim.Native.Nat.{_+_, _≤_};
+ghost use lib.ListN.{length};
+ghost use Rattle.relation.specs.Parameters.{parametersOf};
+ghost use Rattle.verifier_common.specs.Work.{Received, Sent};
+ghost use Rattle.verifier_common.specs.Answers.{projection-norm, constant-terms, norm-sum, norms};
+ghost use Rattle.verifier_norms.specs.Terms.{constant-term};
 
 // "21 norm of p above 128·beta_sq (norm and limit given)." A beta_sq below the norm is so small that the limit fits.
-pub fn check_projection_norm(
-    job: &[u32],
-    randomness: &[u32],
-    transcript: &[u32],
-    p: EnvironmentParameters,
-) -> Verdict
-    requires { ⌜ Sent (now job) (now randomness) (now transcript) p ⌝ }
-    ensures { λ v. ⌜ ofVerdict v ≡ check-21 (public (now (job .entry)) (now (randomness .entry))) (message (parameters (now (job .entry))) (now (transcript .entry))) ⌝ }
+pub fn check_projection_norm(transcript: &[u32], p: EnvironmentParameters) -> Verdict
+    requires { ⌜ Received (now transcript) p ⌝ }
+    ensures { λ v. ⌜ ofVerdict v ≡ projection-norm (parametersOf p) (now (transcript .entry)) ⌝ }
 {
     let norm = norms::norm_of(transcript, offsets::of_transcript(p, 1), 256);
     if bound::at_most(norm, p.beta_sq) {
@@ -52,12 +45,13 @@ fn constant_term(
     transcript: &[u32],
     projection: usize,
 ) -> u32
-    requires { ⌜ (b0 + l ≤ length (now job)) × (psi + l ≤ length (now randomness)) × (omega + 256 ≤ length (now randomness)) × (projection + 256 ≤ length (now transcript)) × (l ≤ 64) ⌝ }
-    ensures { λ r. ⌜ r ≡ (Σ l (λ x. getD (now (randomness .entry)) (psi + x) 0 * getD (now (job .entry)) (b0 + x) 0) + Σ 256 (λ j. getD (now (randomness .entry)) (omega + j) 0 * getD (now (transcript .entry)) (projection + j) 0)) % Q ⌝ }
+    requires { ⌜ (b0 + l ≤ length (now job)) × (psi + l ≤ length (now randomness)) × (omega + 256 ≤ length (now randomness)) ⌝ }
+    requires { ⌜ (projection + 256 ≤ length (now transcript)) × (l ≤ 64) ⌝ }
+    ensures { λ r. ⌜ r ≡ constant-term (now (job .entry)) b0 l (now (randomness .entry)) psi omega (now (transcript .entry)) projection ⌝ }
 {
     let first = numbers::add_products(0, randomness, psi, job, b0, l);
     let total = numbers::add_products(first, randomness, omega, transcript, projection, 256);
-    (total % 4294967295) as u32
+    (total % product::MODULUS) as u32
 }
 
 // "22 for some k below κ, the constant coefficient of b''_k is not Σ psi[k][l]·b0[l] + Σ omega[k][j]·p[j] (lowest k, both values)."
@@ -68,7 +62,7 @@ pub fn check_constant_terms(
     p: EnvironmentParameters,
 ) -> Verdict
     requires { ⌜ Sent (now job) (now randomness) (now transcript) p ⌝ }
-    ensures { λ v. ⌜ ofVerdict v ≡ check-22 (public (now (job .entry)) (now (randomness .entry))) (message (parameters (now (job .entry))) (now (transcript .entry))) ⌝ }
+    ensures { λ v. ⌜ ofVerdict v ≡ constant-terms (now (job .entry)) (now (randomness .entry)) (now (transcript .entry)) ⌝ }
 {
     let b0 = offsets::of_job(p, 2);
     let l = p.constraint_l;
@@ -102,14 +96,9 @@ pub fn check_constant_terms(
 }
 
 // "23 digit norms of z with two digits, t and h with t1, g with t2 sum above beta_prime_sq (sum and limit)."
-pub fn check_norm_sum(
-    job: &[u32],
-    randomness: &[u32],
-    transcript: &[u32],
-    p: EnvironmentParameters,
-) -> Verdict
-    requires { ⌜ Sent (now job) (now randomness) (now transcript) p ⌝ }
-    ensures { λ v. ⌜ ofVerdict v ≡ check-23 (public (now (job .entry)) (now (randomness .entry))) (message (parameters (now (job .entry))) (now (transcript .entry))) ⌝ }
+pub fn check_norm_sum(transcript: &[u32], p: EnvironmentParameters) -> Verdict
+    requires { ⌜ Received (now transcript) p ⌝ }
+    ensures { λ v. ⌜ ofVerdict v ≡ norm-sum (parametersOf p) (now (transcript .entry)) ⌝ }
 {
     let cells = slices::triangle(p.multiplicity);
     let z = norm::digits_norm(transcript, offsets::of_transcript(p, 4), p.rank, p.b, 2);
@@ -139,15 +128,15 @@ pub fn check_norms(
     p: EnvironmentParameters,
 ) -> Verdict
     requires { ⌜ Sent (now job) (now randomness) (now transcript) p ⌝ }
-    ensures { λ v. ⌜ ofVerdict v ≡ check-21 (public (now (job .entry)) (now (randomness .entry))) (message (parameters (now (job .entry))) (now (transcript .entry))) then check-22 (public (now (job .entry)) (now (randomness .entry))) (message (parameters (now (job .entry))) (now (transcript .entry))) then check-23 (public (now (job .entry)) (now (randomness .entry))) (message (parameters (now (job .entry))) (now (transcript .entry))) ⌝ }
+    ensures { λ v. ⌜ ofVerdict v ≡ norms (now (job .entry)) (now (randomness .entry)) (now (transcript .entry)) ⌝ }
 {
-    match check_projection_norm(job, randomness, transcript, p) {
-        Verdict::Accepted => match check_constant_terms(job, randomness, transcript, p) {
-            Verdict::Accepted => check_norm_sum(job, randomness, transcript, p),
-            Verdict::Refused(refusal) => Verdict::Refused(refusal),
-            Verdict::Failed(check) => Verdict::Failed(check),
-        },
-        Verdict::Refused(refusal) => Verdict::Refused(refusal),
-        Verdict::Failed(check) => Verdict::Failed(check),
-    }
+    let first = check_projection_norm(transcript, p);
+    let Verdict::Accepted = first else {
+        return first;
+    };
+    let second = check_constant_terms(job, randomness, transcript, p);
+    let Verdict::Accepted = second else {
+        return second;
+    };
+    check_norm_sum(transcript, p)
 }

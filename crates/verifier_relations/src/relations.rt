@@ -1,5 +1,4 @@
 // The relations between what the prover sends and the statement: checks 24 to 27.
-use verifier_common::equal;
 use aggregate;
 use definitions::answers::FailedCheck;
 use definitions::answers::Verdict;
@@ -8,18 +7,17 @@ use regions::Regions;
 use relation::env_params::EnvironmentParameters;
 use rq_matrix;
 use sizes::offsets;
+use verifier_common::equal;
 use workspace;
 ghost use mathlib.Core.Path.{_≡_};
 ghost use Rattle.definitions.specs.Answer.{ofVerdict};
 ghost use Rattle.protocol.specs.Parameters.{parameters};
-ghost use Rattle.protocol.specs.Views.{public, message};
-ghost use Rattle.definitions.specs.Answer.{_then_};
 ghost use Rattle.protocol.specs.Layout.{scratch-need};
-ghost use Rattle.protocol.specs.Verifier.{check-24, check-25, check-26, check-27};
 ghost use Rattle.workspace.specs.Ready.{Ready};
-ghost use Rattle.workspace.specs.Holds.{Holds, Kept};
-ghost use Rattle.workspace.specs.Aggregated.{φ-words, a-words, c-words};
+ghost use Rattle.workspace.specs.Holds.{Kept};
 ghost use Rattle.verifier_common.specs.Work.{Sent};
+ghost use Rattle.verifier_common.specs.Answers.{az, z-inner, phi, relation, openings, aggregated, relations};
+ghost use Rattle.verifier_relations.specs.Held.{Challenged, Lined, Multiplied};
 
 // "24 A·z is not Σ t_i·c_i."
 pub fn check_az(
@@ -30,8 +28,8 @@ pub fn check_az(
     q: Regions,
     scratch: &[u32],
 ) -> Verdict
-    requires { ⌜ Sent (now job) (now randomness) (now transcript) p × Ready (now job) p q (now scratch) × Holds (now scratch) (q .challenges) (c-words (now job) (now randomness)) ⌝ }
-    ensures { λ v. ⌜ ofVerdict v ≡ check-24 (public (now (job .entry)) (now (randomness .entry))) (message (parameters (now (job .entry))) (now (transcript .entry))) ⌝ }
+    requires { ⌜ Sent (now job) (now randomness) (now transcript) p × Ready (now job) p q (now scratch) × Challenged (now job) (now randomness) q (now scratch) ⌝ }
+    ensures { λ v. ⌜ ofVerdict v ≡ az (now (job .entry)) (now (randomness .entry)) (now (transcript .entry)) ⌝ }
 {
     let a_at = offsets::of_job(p, 6);
     let z_at = offsets::of_transcript(p, 4);
@@ -68,8 +66,8 @@ pub fn check_z_inner(
     q: Regions,
     scratch: &[u32],
 ) -> Verdict
-    requires { ⌜ Sent (now job) (now randomness) (now transcript) p × Ready (now job) p q (now scratch) × Holds (now scratch) (q .challenges) (c-words (now job) (now randomness)) ⌝ }
-    ensures { λ v. ⌜ ofVerdict v ≡ check-25 (public (now (job .entry)) (now (randomness .entry))) (message (parameters (now (job .entry))) (now (transcript .entry))) ⌝ }
+    requires { ⌜ Sent (now job) (now randomness) (now transcript) p × Ready (now job) p q (now scratch) × Challenged (now job) (now randomness) q (now scratch) ⌝ }
+    ensures { λ v. ⌜ ofVerdict v ≡ z-inner (now (job .entry)) (now (randomness .entry)) (now (transcript .entry)) ⌝ }
 {
     let z_at = offsets::of_transcript(p, 4);
     let g_at = offsets::of_transcript(p, 6);
@@ -91,8 +89,8 @@ pub fn check_phi(
     q: Regions,
     scratch: &[u32],
 ) -> Verdict
-    requires { ⌜ Sent (now job) (now randomness) (now transcript) p × Ready (now job) p q (now scratch) × Holds (now scratch) (q .challenges) (c-words (now job) (now randomness)) × Holds (now scratch) (q .phi) (φ-words (now job) (now randomness)) ⌝ }
-    ensures { λ v. ⌜ ofVerdict v ≡ check-26 (public (now (job .entry)) (now (randomness .entry))) (message (parameters (now (job .entry))) (now (transcript .entry))) ⌝ }
+    requires { ⌜ Sent (now job) (now randomness) (now transcript) p × Ready (now job) p q (now scratch) × Lined (now job) (now randomness) q (now scratch) ⌝ }
+    ensures { λ v. ⌜ ofVerdict v ≡ phi (now (job .entry)) (now (randomness .entry)) (now (transcript .entry)) ⌝ }
 {
     let z_at = offsets::of_transcript(p, 4);
     let h_at = offsets::of_transcript(p, 7);
@@ -124,8 +122,8 @@ pub fn check_relation(
     q: Regions,
     scratch: &[u32],
 ) -> Verdict
-    requires { ⌜ Sent (now job) (now randomness) (now transcript) p × Ready (now job) p q (now scratch) × Holds (now scratch) (q .a) (a-words (now job) (now randomness)) ⌝ }
-    ensures { λ v. ⌜ ofVerdict v ≡ check-27 (public (now (job .entry)) (now (randomness .entry))) (message (parameters (now (job .entry))) (now (transcript .entry))) ⌝ }
+    requires { ⌜ Sent (now job) (now randomness) (now transcript) p × Ready (now job) p q (now scratch) × Multiplied (now job) (now randomness) q (now scratch) ⌝ }
+    ensures { λ v. ⌜ ofVerdict v ≡ relation (now (job .entry)) (now (randomness .entry)) (now (transcript .entry)) ⌝ }
 {
     let g_at = offsets::of_transcript(p, 6);
     let h_at = offsets::of_transcript(p, 7);
@@ -164,16 +162,16 @@ pub fn check_openings(
     scratch: &mut [u32],
 ) -> Verdict
     requires { ⌜ Sent (now job) (now randomness) (now transcript) p × Ready (now job) p q (now scratch) ⌝ }
-    ensures { λ v. ⌜ ofVerdict v ≡ check-24 (public (now (job .entry)) (now (randomness .entry))) (message (parameters (now (job .entry))) (now (transcript .entry))) then check-25 (public (now (job .entry)) (now (randomness .entry))) (message (parameters (now (job .entry))) (now (transcript .entry))) ⌝ }
+    ensures { λ v. ⌜ ofVerdict v ≡ openings (now (job .entry)) (now (randomness .entry)) (now (transcript .entry)) ⌝ }
     ensures { λ v. ⌜ Kept (scratch-need (parameters (now (job .entry)))) (now (scratch .entry)) (now (scratch .exit)) ⌝ }
-    ensures { λ v. ⌜ Holds (now (scratch .exit)) (q .challenges) (c-words (now (job .entry)) (now (randomness .entry))) ⌝ }
+    ensures { λ v. ⌜ Challenged (now (job .entry)) (now (randomness .entry)) q (now (scratch .exit)) ⌝ }
 {
     workspace::generate_challenges(job, randomness, p, q, scratch);
-    match check_az(job, randomness, transcript, p, q, scratch) {
-        Verdict::Accepted => check_z_inner(job, randomness, transcript, p, q, scratch),
-        Verdict::Refused(refusal) => Verdict::Refused(refusal),
-        Verdict::Failed(check) => Verdict::Failed(check),
-    }
+    let first = check_az(job, randomness, transcript, p, q, scratch);
+    let Verdict::Accepted = first else {
+        return first;
+    };
+    check_z_inner(job, randomness, transcript, p, q, scratch)
 }
 
 // 26 and 27, in order, of the aggregated constraints.
@@ -185,20 +183,18 @@ pub fn check_aggregated(
     q: Regions,
     scratch: &mut [u32],
 ) -> Verdict
-    requires { ⌜ Sent (now job) (now randomness) (now transcript) p × Ready (now job) p q (now scratch) × Holds (now scratch) (q .challenges) (c-words (now job) (now randomness)) ⌝ }
-    ensures { λ v. ⌜ ofVerdict v ≡ check-26 (public (now (job .entry)) (now (randomness .entry))) (message (parameters (now (job .entry))) (now (transcript .entry))) then check-27 (public (now (job .entry)) (now (randomness .entry))) (message (parameters (now (job .entry))) (now (transcript .entry))) ⌝ }
+    requires { ⌜ Sent (now job) (now randomness) (now transcript) p × Ready (now job) p q (now scratch) × Challenged (now job) (now randomness) q (now scratch) ⌝ }
+    ensures { λ v. ⌜ ofVerdict v ≡ aggregated (now (job .entry)) (now (randomness .entry)) (now (transcript .entry)) ⌝ }
     ensures { λ v. ⌜ Kept (scratch-need (parameters (now (job .entry)))) (now (scratch .entry)) (now (scratch .exit)) ⌝ }
 {
     workspace::double_prime(job, randomness, p, q, scratch);
     workspace::phi(job, randomness, p, q, scratch);
-    match check_phi(job, randomness, transcript, p, q, scratch) {
-        Verdict::Accepted => {
-            workspace::a(job, randomness, p, q, scratch);
-            check_relation(job, randomness, transcript, p, q, scratch)
-        }
-        Verdict::Refused(refusal) => Verdict::Refused(refusal),
-        Verdict::Failed(check) => Verdict::Failed(check),
-    }
+    let first = check_phi(job, randomness, transcript, p, q, scratch);
+    let Verdict::Accepted = first else {
+        return first;
+    };
+    workspace::a(job, randomness, p, q, scratch);
+    check_relation(job, randomness, transcript, p, q, scratch)
 }
 
 // 24 to 27, in order.
@@ -211,12 +207,12 @@ pub fn check_relations(
     scratch: &mut [u32],
 ) -> Verdict
     requires { ⌜ Sent (now job) (now randomness) (now transcript) p × Ready (now job) p q (now scratch) ⌝ }
-    ensures { λ v. ⌜ ofVerdict v ≡ (check-24 (public (now (job .entry)) (now (randomness .entry))) (message (parameters (now (job .entry))) (now (transcript .entry))) then check-25 (public (now (job .entry)) (now (randomness .entry))) (message (parameters (now (job .entry))) (now (transcript .entry)))) then (check-26 (public (now (job .entry)) (now (randomness .entry))) (message (parameters (now (job .entry))) (now (transcript .entry))) then check-27 (public (now (job .entry)) (now (randomness .entry))) (message (parameters (now (job .entry))) (now (transcript .entry)))) ⌝ }
+    ensures { λ v. ⌜ ofVerdict v ≡ relations (now (job .entry)) (now (randomness .entry)) (now (transcript .entry)) ⌝ }
     ensures { λ v. ⌜ Kept (scratch-need (parameters (now (job .entry)))) (now (scratch .entry)) (now (scratch .exit)) ⌝ }
 {
-    match check_openings(job, randomness, transcript, p, q, scratch) {
-        Verdict::Accepted => check_aggregated(job, randomness, transcript, p, q, scratch),
-        Verdict::Refused(refusal) => Verdict::Refused(refusal),
-        Verdict::Failed(check) => Verdict::Failed(check),
-    }
+    let first = check_openings(job, randomness, transcript, p, q, scratch);
+    let Verdict::Accepted = first else {
+        return first;
+    };
+    check_aggregated(job, randomness, transcript, p, q, scratch)
 }

@@ -55,7 +55,7 @@ om-room c = let l = c .before .before .loop in l .inv .2 .om-room (l .k) (c .if1
 constant-term-requires : tie.Need-constant-term-requires Inv-loop μ-loop
 constant-term-requires c κs =
     let m = c .before .before .before .loop .inv .2 in
-    (m .b0-room, psi-room (c .before), om-room (c .before), m .projection-room, m .short)
+    ((m .b0-room, psi-room (c .before), om-room (c .before)), (m .projection-room, m .short))
 
 returns : tie.Need-returns Inv-loop μ-loop
 returns c =
@@ -103,11 +103,11 @@ check-constant-terms-spec =
     (tie.spec
     Inv-loop
     μ-loop
-    (λ c κs. (reckoned (c .before .before .before .pre), omega arith))
-    (λ c κs. (reckoned (c .before .before .before .before .pre), omega arith))
-    (λ c κs. (reckoned (c .before .before .before .before .before .pre), omega arith))
-    (λ c κs. (reckoned (c .before .before .before .before .before .before .pre), omega arith))
-    (λ c κs. (reckoned (c .before .before .before .before .before .before .before .pre), omega arith))
+    (λ c κs. (reckoned (c .before .before .before .pre .posed), omega arith))
+    (λ c κs. (reckoned (c .before .before .before .before .pre .posed), omega arith))
+    (λ c κs. (reckoned (c .before .before .before .before .before .pre .posed), omega arith))
+    (λ c κs. (reckoned (c .before .before .before .before .before .before .pre .posed), omega arith))
+    (λ c κs. (reckoned (c .before .before .before .before .before .before .before .pre .posed), omega arith))
     loop-holds
     (λ c. omega (arith, at-room c))
     (λ c. omega (arith, at-room c))

@@ -6,10 +6,9 @@ use Prim.Native.Nat.{ℕ, _+_, _*_, _≤_, _<_, _^_}
 use native.Mathlib.Omega.{arith}
 use lib.ListN.{length}
 use Rattle.definitions.specs.Answer.{fine, failed, value128}
-use Rattle.protocol.specs.Parameters.{parameters}
-use Rattle.protocol.specs.Views.{public, message}
-use Rattle.protocol.specs.Verifier.{check-23}
-use Rattle.verifier_common.proofs.Sent.{reckoned, transcript-room, product-small}
+use Rattle.relation.specs.Parameters.{parametersOf}
+use Rattle.verifier_common.specs.Answers.{norm-sum}
+use Rattle.verifier_common.proofs.Sent.{received-room, product-small}
 use Rattle.verifier_norms.proofs.Norms.{check-23-is}
 use Rattle.verifier_norms.proofs.norm_checks.check_norm_sum.Statement.{statement}
 use Rattle.verifier_norms.proofs.norm_checks.check_norm_sum.Tie as tie
@@ -32,47 +31,47 @@ sum-hi r x y a b h h′ e = omega arith
 
 digits-norm-requires : tie.Need-digits-norm-requires
 digits-norm-requires c κs =
-    let w = c .before .before .before .before .before .pre in
-    (transcript-room w 4 (c .of-transcript .result) (omega arith) (c .of-transcript .ensures), reckoned w .within .b .0, omega arith, few _ 64 (reckoned w .within .n .1) (omega arith))
+    let w = c .before .before .before .pre in
+    (received-room w 4 (c .of-transcript .result) (omega arith) (c .of-transcript .ensures), w .sized .within .b .0, omega arith, few _ 64 (w .sized .within .n .1) (omega arith))
 
 mul-digits-norm : tie.Need-mul-digits-norm
 mul-digits-norm c =
-    let s = c .before .before .before .before .before .before .before .before .args in
-    let w = c .before .before .before .before .before .before .before .before .pre in
-    omega (arith, product-small (s .p .multiplicity) (s .p .kappa) (reckoned w .within .r .1) (reckoned w .within .κ .1))
+    let s = c .before .before .before .before .before .before .args in
+    let w = c .before .before .before .before .before .before .pre in
+    omega (arith, product-small (s .p .multiplicity) (s .p .kappa) (w .sized .within .r .1) (w .sized .within .κ .1))
 
 digits-norm-requires-2 : tie.Need-digits-norm-requires-2
 digits-norm-requires-2 c κs =
-    let s = c .before .before .before .before .before .before .before .before .args in
-    let w = c .before .before .before .before .before .before .before .before .pre in
+    let s = c .before .before .before .before .before .before .args in
+    let w = c .before .before .before .before .before .before .pre in
     let o = c .before .of-transcript2 in
-    (transcript-room w 5 (o .result) (omega arith) (o .ensures), reckoned w .within .b .0, reckoned w .within .t₁ .1, few _ 256 (product-small (s .p .multiplicity) (s .p .kappa) (reckoned w .within .r .1) (reckoned w .within .κ .1)) (omega arith))
+    (received-room w 5 (o .result) (omega arith) (o .ensures), w .sized .within .b .0, w .sized .within .t₁ .1, few _ 256 (product-small (s .p .multiplicity) (s .p .kappa) (w .sized .within .r .1) (w .sized .within .κ .1)) (omega arith))
 
 digits-norm-requires-3 : tie.Need-digits-norm-requires-3
 digits-norm-requires-3 c κs =
-    let s = c .before .before .before .before .before .before .before .before .before .before .args in
-    let w = c .before .before .before .before .before .before .before .before .before .before .pre in
+    let s = c .before .before .before .before .before .before .before .before .args in
+    let w = c .before .before .before .before .before .before .before .before .pre in
     let t = c .before .before .before .before .before .before .triangle in
     let o = c .of-transcript3 in
-    (subst (λ n. o .result + 64 * n ≤ length (s .transcript .now)) (sym (t .ensures .0)) (transcript-room w 6 (o .result) (omega arith) (o .ensures)), reckoned w .within .b .0, reckoned w .within .t₂ .1, few (t .result) 136 (t .ensures .1) (omega arith))
+    (subst (λ n. o .result + 64 * n ≤ length (s .transcript .now)) (sym (t .ensures .0)) (received-room w 6 (o .result) (omega arith) (o .ensures)), w .sized .within .b .0, w .sized .within .t₂ .1, few (t .result) 136 (t .ensures .1) (omega arith))
 
 digits-norm-requires-4 : tie.Need-digits-norm-requires-4
 digits-norm-requires-4 c κs =
-    let s = c .before .before .before .before .before .before .before .before .before .before .before .before .args in
-    let w = c .before .before .before .before .before .before .before .before .before .before .before .before .pre in
+    let s = c .before .before .before .before .before .before .before .before .before .before .args in
+    let w = c .before .before .before .before .before .before .before .before .before .before .pre in
     let t = c .before .before .before .before .before .before .before .before .triangle in
     let o = c .of-transcript4 in
-    (subst (λ n. o .result + 64 * n ≤ length (s .transcript .now)) (sym (t .ensures .0)) (transcript-room w 7 (o .result) (omega arith) (o .ensures)), reckoned w .within .b .0, reckoned w .within .t₁ .1, few (t .result) 136 (t .ensures .1) (omega arith))
+    (subst (λ n. o .result + 64 * n ≤ length (s .transcript .now)) (sym (t .ensures .0)) (received-room w 7 (o .result) (omega arith) (o .ensures)), w .sized .within .b .0, w .sized .within .t₁ .1, few (t .result) 136 (t .ensures .1) (omega arith))
 
 -- the upper halves of the four norms
 z-hi : (c : tie.After-digits-norm4) → c .before .before .before .before .before .before .before .digits-norm .result .hi ≤ 524288
-z-hi c = norm-hi _ _ 64 (c .before .before .before .before .before .before .before .digits-norm .ensures .1) (reckoned (c .before .before .before .before .before .before .before .before .before .before .before .before .before .pre) .within .n .1) (omega arith)
+z-hi c = norm-hi _ _ 64 (c .before .before .before .before .before .before .before .digits-norm .ensures .1) (c .before .before .before .before .before .before .before .before .before .before .before .pre .sized .within .n .1) (omega arith)
 
 t-hi : (c : tie.After-digits-norm4) → c .before .before .before .before .digits-norm2 .result .hi ≤ 524288
 t-hi c =
-    let s = c .before .before .before .before .before .before .before .before .before .before .before .before .before .args in
-    let w = c .before .before .before .before .before .before .before .before .before .before .before .before .before .pre in
-    norm-hi _ _ 256 (c .before .before .before .before .digits-norm2 .ensures .1) (product-small (s .p .multiplicity) (s .p .kappa) (reckoned w .within .r .1) (reckoned w .within .κ .1)) (omega arith)
+    let s = c .before .before .before .before .before .before .before .before .before .before .before .args in
+    let w = c .before .before .before .before .before .before .before .before .before .before .before .pre in
+    norm-hi _ _ 256 (c .before .before .before .before .digits-norm2 .ensures .1) (product-small (s .p .multiplicity) (s .p .kappa) (w .sized .within .r .1) (w .sized .within .κ .1)) (omega arith)
 
 g-hi : (c : tie.After-digits-norm4) → c .before .before .digits-norm3 .result .hi ≤ 524288
 g-hi c = norm-hi _ _ 136 (c .before .before .digits-norm3 .ensures .1) (c .before .before .before .before .before .before .before .before .before .triangle .ensures .1) (omega arith)
@@ -98,13 +97,12 @@ add-requires-3 c κs = small (c .add2 .result .hi) (c .before .before .digits-no
 
 -- 23, by what `at_most` answers
 found : (c : tie.After-at-most)
-    → let s = c .before .before .before .before .before .before .before .before .before .before .before .before .before .before .before .before .before .before .args in
-    check-23 (public (s .job .now) (s .randomness .now)) (message (parameters (s .job .now)) (s .transcript .now))
+    → let s = c .before .before .before .before .before .before .before .before .before .before .before .before .before .before .before .before .args in
+    norm-sum (parametersOf (s .p)) (s .transcript .now)
     ≡ cond (c .at-most .result) fine (failed 23 (value128 (c .before .before .add3 .result) ∷ value128 (s .p .«beta_prime_sq») ∷ []))
 found c =
-    let s = c .before .before .before .before .before .before .before .before .before .before .before .before .before .before .before .before .before .before .args in
-    let w = c .before .before .before .before .before .before .before .before .before .before .before .before .before .before .before .before .before .before .pre in
-    check-23-is w (c .before .before .before .before .before .before .before .before .before .before .before .before .before .before .triangle .result) (c .before .before .before .before .before .before .before .before .before .before .before .before .before .of-transcript .result) (c .before .before .before .before .before .before .before .before .before .before .before .of-transcript2 .result) (c .before .before .before .before .before .before .before .before .of-transcript3 .result) (c .before .before .before .before .before .before .of-transcript4 .result)
+    let s = c .before .before .before .before .before .before .before .before .before .before .before .before .before .before .before .before .args in
+    check-23-is (s .transcript .now) (s .p) (c .before .before .before .before .before .before .before .before .before .before .before .before .before .before .triangle .result) (c .before .before .before .before .before .before .before .before .before .before .before .before .before .of-transcript .result) (c .before .before .before .before .before .before .before .before .before .before .before .of-transcript2 .result) (c .before .before .before .before .before .before .before .before .of-transcript3 .result) (c .before .before .before .before .before .before .of-transcript4 .result)
     (value128 (c .before .before .before .before .before .before .before .before .before .before .before .before .digits-norm .result)) (value128 (c .before .before .before .before .before .before .before .before .before .digits-norm2 .result)) (value128 (c .before .before .before .before .before .before .before .digits-norm3 .result)) (value128 (c .before .before .before .before .before .digits-norm4 .result))
     (record {
       size = c .before .before .before .before .before .before .before .before .before .before .before .before .before .before .triangle .ensures .0;
@@ -127,28 +125,28 @@ found c =
 returns : tie.Need-returns
 returns c =
     let x = value128 (c .before .before .before .add3 .result) in
-    let y = value128 (c .before .before .before .before .before .before .before .before .before .before .before .before .before .before .before .before .before .before .before .args .p .«beta_prime_sq») in
+    let y = value128 (c .before .before .before .before .before .before .before .before .before .before .before .before .before .before .before .before .before .args .p .«beta_prime_sq») in
     sym (found (c .before) ∙ ap (λ t. cond t fine (failed 23 (x ∷ y ∷ []))) (c .if1 .taken))
 
 returns-2 : tie.Need-returns-2
 returns-2 c =
     let x = value128 (c .before .before .before .add3 .result) in
-    let y = value128 (c .before .before .before .before .before .before .before .before .before .before .before .before .before .before .before .before .before .before .before .args .p .«beta_prime_sq») in
+    let y = value128 (c .before .before .before .before .before .before .before .before .before .before .before .before .before .before .before .before .before .args .p .«beta_prime_sq») in
     sym (found (c .before) ∙ ap (λ t. cond t fine (failed 23 (x ∷ y ∷ []))) (c .if1 .left))
 
 pub check-norm-sum-spec : {M : Type 1} → statement M
 check-norm-sum-spec =
     tie.close
     (tie.spec
-    (λ c κs. reckoned (c .before .before .before .pre) .within .r .1)
-    (λ c κs. (reckoned (c .before .before .before .before .pre), omega arith))
+    (λ c κs. c .before .pre .sized .within .r .1)
+    (λ c κs. (c .before .before .pre .sized, omega arith))
     digits-norm-requires
-    (λ c κs. (reckoned (c .before .before .before .before .before .before .pre), omega arith))
+    (λ c κs. (c .before .before .before .before .pre .sized, omega arith))
     mul-digits-norm
     digits-norm-requires-2
-    (λ c κs. (reckoned (c .before .before .before .before .before .before .before .before .before .pre), omega arith))
+    (λ c κs. (c .before .before .before .before .before .before .before .pre .sized, omega arith))
     digits-norm-requires-3
-    (λ c κs. (reckoned (c .before .before .before .before .before .before .before .before .before .before .before .pre), omega arith))
+    (λ c κs. (c .before .before .before .before .before .before .before .before .before .pre .sized, omega arith))
     digits-norm-requires-4
     add-requires
     add-requires-2

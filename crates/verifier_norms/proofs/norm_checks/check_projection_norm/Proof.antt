@@ -5,25 +5,24 @@ use mathlib.Core.List.{[], _∷_}
 use native.Mathlib.Omega.{arith}
 use borrow.Author.Tests.{leb-true, leb-false}
 use Rattle.definitions.specs.Answer.{fine, failed, value128}
-use Rattle.protocol.specs.Parameters.{parameters}
-use Rattle.protocol.specs.Views.{public, message}
-use Rattle.protocol.specs.Verifier.{check-21}
-use Rattle.verifier_common.proofs.Sent.{reckoned, transcript-room}
+use Rattle.relation.specs.Parameters.{parametersOf}
+use Rattle.verifier_common.specs.Answers.{projection-norm}
+use Rattle.verifier_common.proofs.Sent.{received-room}
 use Rattle.verifier_norms.proofs.Norms.{upper, check-21-below, check-21-is}
 use Rattle.verifier_norms.proofs.norm_checks.check_projection_norm.Statement.{statement}
 use Rattle.verifier_norms.proofs.norm_checks.check_projection_norm.Tie as tie
 
 norm-of-requires : tie.Need-norm-of-requires
-norm-of-requires c κs = transcript-room (c .before .before .before .before .pre) 1 (c .of-transcript .result) (omega arith) (c .of-transcript .ensures)
+norm-of-requires c κs = received-room (c .before .before .pre) 1 (c .of-transcript .result) (omega arith) (c .of-transcript .ensures)
 
 -- 21 with a norm up to beta_sq
 returns : tie.Need-returns
 returns c =
-    let s = c .before .before .before .before .before .before .before in
+    let s = c .before .before .before .before .before in
     let o = c .before .before .before .of-transcript in
     let t = s .pre in
-    sym (check-21-below t (o .result) (value128 (c .before .before .norm-of .result)) (o .ensures)
-    (transcript-room t 1 (o .result) (omega arith) (o .ensures))
+    sym (check-21-below (s .args .transcript .now) (s .args .p) (o .result) (value128 (c .before .before .norm-of .result)) (o .ensures)
+    (received-room t 1 (o .result) (omega arith) (o .ensures))
     (c .before .before .norm-of .ensures .0)
     (leb-true _ _ (sym (c .before .at-most .ensures) ∙ c .if1 .taken)))
 
@@ -33,14 +32,14 @@ times-128-requires c κs =
 
 -- 21, by what the second `at_most` answers
 found : (c : tie.After-at-most2)
-    → let s = c .before .before .before .before .before .before .before .before .before .args in
-    check-21 (public (s .job .now) (s .randomness .now)) (message (parameters (s .job .now)) (s .transcript .now))
+    → let s = c .before .before .before .before .before .before .before .args in
+    projection-norm (parametersOf (s .p)) (s .transcript .now)
     ≡ cond (c .at-most2 .result) fine (failed 21 (value128 (c .before .before .before .before .norm-of .result) ∷ value128 (c .before .times-128 .result) ∷ []))
 found c =
-    let w = c .before .before .before .before .before .before .before .before .before .pre in
+    let w = c .before .before .before .before .before .before .before .pre in
     let o = c .before .before .before .before .before .of-transcript in
-    check-21-is w (o .result) (value128 (c .before .before .before .before .norm-of .result)) (value128 (c .before .times-128 .result)) (c .at-most2 .result) (o .ensures)
-    (transcript-room w 1 (o .result) (omega arith) (o .ensures))
+    check-21-is (c .before .before .before .before .before .before .before .args .transcript .now) (c .before .before .before .before .before .before .before .args .p) (o .result) (value128 (c .before .before .before .before .norm-of .result)) (value128 (c .before .times-128 .result)) (c .at-most2 .result) (o .ensures)
+    (received-room w 1 (o .result) (omega arith) (o .ensures))
     (c .before .before .before .before .norm-of .ensures .0)
     (c .before .times-128 .ensures)
     (c .at-most2 .ensures)
@@ -61,7 +60,7 @@ pub check-projection-norm-spec : {M : Type 1} → statement M
 check-projection-norm-spec =
     tie.close
     (tie.spec
-    (λ c κs. (reckoned (c .before .before .before .pre), omega arith))
+    (λ c κs. (c .before .pre .sized, omega arith))
     norm-of-requires
     (λ c κs. tt)
     returns

@@ -1,9 +1,8 @@
 -- `constant_term` meets its contract.
 use mathlib.Core.Path.{_≡_}
-use Prim.Native.Nat.{ℕ, _+_, _*_, _%_}
+use Prim.Native.Nat.{ℕ, _+_, _%_}
 use native.Mathlib.Omega.{arith}
-use lib.ListN.{getD}
-use Rattle.lists.specs.Sum.{Σ}
+use Rattle.verifier_norms.specs.Terms.{products}
 use Rattle.verifier_norms.proofs.norm_checks.constant_term.Statement.{statement}
 use Rattle.verifier_norms.proofs.norm_checks.constant_term.Tie as tie
 
@@ -15,8 +14,8 @@ returns : tie.Need-returns
 returns c =
     let s = c .before .before .before .before .before .args in
     both (c .add-products2 .result) (c .before .add-products .result)
-    (Σ (s .l) (λ x. getD (s .randomness .now) (s .psi + x) 0 * getD (s .job .now) (s .b0 + x) 0))
-    (Σ 256 (λ j. getD (s .randomness .now) (s .omega + j) 0 * getD (s .transcript .now) (s .projection + j) 0))
+    (products (s .randomness .now) (s .psi) (s .job .now) (s .b0) (s .l))
+    (products (s .randomness .now) (s .omega) (s .transcript .now) (s .projection) 256)
     (c .add-products2 .ensures .0)
     (c .before .add-products .ensures .0)
 

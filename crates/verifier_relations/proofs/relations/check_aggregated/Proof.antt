@@ -5,13 +5,12 @@ use native.Mathlib.Omega.{arith}
 use borrow.Author.Needs.{needs}
 use Rattle.protocol.specs.Parameters.{parameters}
 use Rattle.protocol.specs.Layout.{scratch-need}
-use Rattle.protocol.specs.Views.{public, message}
-use Rattle.protocol.specs.Verifier.{check-27}
 use Rattle.workspace.specs.Holds.{Kept}
 use Rattle.workspace.specs.Aggregated.{φ″-words, a″-words, φ-words, a-words}
 use Rattle.workspace.proofs.Kept.{kept-trans}
 use Rattle.workspace.proofs.Ready.{drawn-fewer}
-use Rattle.verifier_common.proofs.Verdicts.{accepted-then, refused-stops, failed-stops}
+use Rattle.verifier_common.specs.Answers.{relation}
+use Rattle.verifier_common.proofs.Verdicts.{goes-on, stops}
 use Rattle.verifier_relations.proofs.Scratch.{Made, double-made, φ″-made, a″-made, double-leaves-c, φ-made, φ-leaves-a″, φ-leaves-c, a-made}
 use Rattle.verifier_relations.proofs.relations.check_aggregated.Statement.{statement}
 use Rattle.verifier_relations.proofs.relations.check_aggregated.Tie as tie
@@ -56,8 +55,10 @@ check-phi-requires c κs =
     let left = double-leaves-c (s .args .job .now) (s .args .randomness .now) (s .args .p) (s .args .q) (s .args .scratch .now) (s .pre .1) _ (d .double-prime .ensures) (s .pre .2) in (
       s .pre .0,
       summed f .ready,
-      φ-leaves-c (s .args .job .now) (s .args .randomness .now) (s .args .p) (s .args .q) (d .double-prime .last .1 .1 .1 .1 .0) (doubled d .ready) _ (f .phi .ensures) left,
-      summed f .holds,
+      record {
+        challenges = φ-leaves-c (s .args .job .now) (s .args .randomness .now) (s .args .p) (s .args .q) (d .double-prime .last .1 .1 .1 .1 .0) (doubled d .ready) _ (f .phi .ensures) left;
+        lines = summed f .holds;
+      },
     )
 
 a-requires : tie.Need-a-requires
@@ -98,30 +99,21 @@ kept-φ c =
 
 returns : tie.Need-returns
 returns c =
+    let k = c .before in
+    let f = k .before .before .before .before in
+    let s = f .before .before .before .before .before .before .before .before .before .before .args in
+    (stops (k .check-phi .result) (k .check-phi .ensures) (c .match .keys2) (relation (s .job .now) (s .randomness .now) (s .transcript .now)), kept-φ f)
+
+returns-2 : tie.Need-returns-2
+returns-2 c =
     let g = c .before .before .before .before in
     let k = g .before .before .before .before in
     let f = k .before .before .before .before in
     let s = f .before .before .before .before .before .before .before .before .before .before .args in
-    let after = check-27 (public (s .job .now) (s .randomness .now)) (message (parameters (s .job .now)) (s .transcript .now)) in (
-      c .check-relation .ensures ∙ accepted-then (k .check-phi .ensures) (g .before .before .enum-told .given .1) after,
+    let after = relation (s .job .now) (s .randomness .now) (s .transcript .now) in (
+      c .check-relation .ensures ∙ goes-on (k .check-phi .result) (k .check-phi .ensures) (g .before .before .enum-told .given .1) after,
       kept-trans (scratch-need (parameters (s .job .now))) (s .scratch .now) (f .phi .last .1 .1 .1 .1 .0) (g .a .last .1 .1 .1 .1 .0) (kept-φ f) (whole g .kept),
     )
-
-returns-2 : tie.Need-returns-2
-returns-2 c =
-    let k = c .before .before .before in
-    let f = k .before .before .before .before in
-    let s = f .before .before .before .before .before .before .before .before .before .before .args in
-    let after = check-27 (public (s .job .now) (s .randomness .now)) (message (parameters (s .job .now)) (s .transcript .now)) in
-    (refused-stops (k .check-phi .ensures) (c .before .refusal .given .1) after, kept-φ f)
-
-returns-3 : tie.Need-returns-3
-returns-3 c =
-    let k = c .before .before .before in
-    let f = k .before .before .before .before in
-    let s = f .before .before .before .before .before .before .before .before .before .before .args in
-    let after = check-27 (public (s .job .now) (s .randomness .now)) (message (parameters (s .job .now)) (s .transcript .now)) in
-    (failed-stops (k .check-phi .ensures) (c .before .check .given .1) after, kept-φ f)
 
 pub check-aggregated-spec : {M : Type 1} → statement M
 check-aggregated-spec =
@@ -131,13 +123,9 @@ check-aggregated-spec =
     phi-requires
     check-phi-requires
     (λ c. search needs)
+    (λ c. search needs)
+    returns
     a-requires
     check-relation-requires
     (λ c. search needs)
-    (λ c. search needs)
-    (λ c. search needs)
-    returns
-    (λ c. search needs)
-    returns-2
-    (λ c. search needs)
-    returns-3)
+    returns-2)

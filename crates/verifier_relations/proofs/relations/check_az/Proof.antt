@@ -21,13 +21,13 @@ abbrev μ-loop : tie.MeasureT-loop
 μ-loop job randomness transcript p q scratch a-at z-at t-at n kappa k₀ k = kappa - k
 
 of-job-requires : tie.Need-of-job-requires Inv-loop μ-loop
-of-job-requires c κs = (reckoned (c .before .before .before .before .pre .0), omega arith)
+of-job-requires c κs = (reckoned (c .before .before .before .before .pre .0 .posed), omega arith)
 
 of-transcript-requires : tie.Need-of-transcript-requires Inv-loop μ-loop
-of-transcript-requires c κs = (reckoned (c .before .before .before .before .before .pre .0), omega arith)
+of-transcript-requires c κs = (reckoned (c .before .before .before .before .before .pre .0 .posed), omega arith)
 
 of-transcript-requires-2 : tie.Need-of-transcript-requires-2 Inv-loop μ-loop
-of-transcript-requires-2 c κs = (reckoned (c .before .before .before .before .before .before .pre .0), omega arith)
+of-transcript-requires-2 c κs = (reckoned (c .before .before .before .before .before .before .pre .0 .posed), omega arith)
 
 loop-holds : tie.Need-loop-holds Inv-loop μ-loop
 unfolding first
@@ -74,7 +74,7 @@ tested c =
 add-k : tie.Need-add-k Inv-loop μ-loop
 add-k c =
     let s = c .before .before .before .before .before .before .before .before .before .before .before .before .before in
-    omega (arith, reckoned (s .pre .0) .within .κ .1)
+    omega (arith, reckoned (s .pre .0 .posed) .within .κ .1)
 
 loop-again : tie.Need-loop-again Inv-loop μ-loop
 loop-again c =

@@ -1,11 +1,9 @@
 -- `check_openings` meets its contract.
 use mathlib.Core.Path.{_∙_}
 use borrow.Author.Needs.{needs}
-use Rattle.protocol.specs.Parameters.{parameters}
-use Rattle.protocol.specs.Views.{public, message}
-use Rattle.protocol.specs.Verifier.{check-25}
 use Rattle.workspace.specs.Aggregated.{c-words}
-use Rattle.verifier_common.proofs.Verdicts.{accepted-then, refused-stops, failed-stops}
+use Rattle.verifier_common.specs.Answers.{z-inner}
+use Rattle.verifier_common.proofs.Verdicts.{goes-on, stops}
 use Rattle.verifier_relations.proofs.Scratch.{Made, challenges-made}
 use Rattle.verifier_relations.proofs.relations.check_openings.Statement.{statement}
 use Rattle.verifier_relations.proofs.relations.check_openings.Tie as tie
@@ -33,27 +31,18 @@ check-z-inner-requires c κs =
 
 returns : tie.Need-returns
 returns c =
-    let a = c .before .before .before .before in
+    let a = c .before in
     let m = drawn (a .before .before .before .before) in
     let s = a .before .before .before .before .before .before .before .before .before .before .args in
-    let after = check-25 (public (s .job .now) (s .randomness .now)) (message (parameters (s .job .now)) (s .transcript .now)) in
-    (c .check-z-inner .ensures ∙ accepted-then (a .check-az .ensures) (c .before .before .enum-told .given .1) after, (m .kept, m .holds))
+    (stops (a .check-az .result) (a .check-az .ensures) (c .match .keys2) (z-inner (s .job .now) (s .randomness .now) (s .transcript .now)), (m .kept, m .holds))
 
 returns-2 : tie.Need-returns-2
 returns-2 c =
-    let a = c .before .before .before in
+    let a = c .before .before .before .before in
     let m = drawn (a .before .before .before .before) in
     let s = a .before .before .before .before .before .before .before .before .before .before .args in
-    let after = check-25 (public (s .job .now) (s .randomness .now)) (message (parameters (s .job .now)) (s .transcript .now)) in
-    (refused-stops (a .check-az .ensures) (c .before .refusal .given .1) after, (m .kept, m .holds))
-
-returns-3 : tie.Need-returns-3
-returns-3 c =
-    let a = c .before .before .before in
-    let m = drawn (a .before .before .before .before) in
-    let s = a .before .before .before .before .before .before .before .before .before .before .args in
-    let after = check-25 (public (s .job .now) (s .randomness .now)) (message (parameters (s .job .now)) (s .transcript .now)) in
-    (failed-stops (a .check-az .ensures) (c .before .check .given .1) after, (m .kept, m .holds))
+    let after = z-inner (s .job .now) (s .randomness .now) (s .transcript .now) in
+    (c .check-z-inner .ensures ∙ goes-on (a .check-az .result) (a .check-az .ensures) (c .before .before .enum-told .given .1) after, (m .kept, m .holds))
 
 pub check-openings-spec : {M : Type 1} → statement M
 check-openings-spec =
@@ -62,12 +51,8 @@ check-openings-spec =
     generate-challenges-requires
     check-az-requires
     (λ c. search needs)
-    check-z-inner-requires
-    (λ c. search needs)
-    (λ c. search needs)
     (λ c. search needs)
     returns
+    check-z-inner-requires
     (λ c. search needs)
-    returns-2
-    (λ c. search needs)
-    returns-3)
+    returns-2)

@@ -7,39 +7,39 @@ use Rattle.definitions.specs.Answer.{fine, failed}
 use Rattle.protocol.specs.Parameters.{parameters}
 use Rattle.protocol.specs.Views.{public, message}
 use Rattle.protocol.specs.Verifier.{check-27}
-use Rattle.verifier_common.proofs.Sent.{reckoned, g-within, h-within}
+use Rattle.verifier_common.proofs.Sent.{reckoned, received, g-within, h-within}
 use Rattle.verifier_relations.proofs.Sides.{products-requires, diagonal-requires, mix-requires, relation-answer}
 use borrow.Author.Needs.{needs}
 use Rattle.verifier_relations.proofs.relations.check_relation.Statement.{statement}
 use Rattle.verifier_relations.proofs.relations.check_relation.Tie as tie
 
 of-transcript-requires : tie.Need-of-transcript-requires
-of-transcript-requires c κs = (reckoned (c .before .before .before .before .pre .0), omega arith)
+of-transcript-requires c κs = (reckoned (c .before .before .before .before .pre .0 .posed), omega arith)
 
 of-transcript-requires-2 : tie.Need-of-transcript-requires-2
-of-transcript-requires-2 c κs = (reckoned (c .before .before .before .before .before .pre .0), omega arith)
+of-transcript-requires-2 c κs = (reckoned (c .before .before .before .before .before .pre .0 .posed), omega arith)
 
 sum-of-products-requires : tie.Need-sum-of-products-requires
 sum-of-products-requires c κs =
     let s = c .before .before .before .before .before .before in
-    products-requires _ _ _ _ _ _ (s .pre .0) (s .pre .1) _ (g-within _ _ _ _ (s .pre .0) _ (c .before .of-transcript .ensures))
+    products-requires _ _ _ _ _ _ (s .pre .0) (s .pre .1) _ (g-within _ _ (received (s .pre .0 .posed)) _ (c .before .of-transcript .ensures))
 
 diagonal-sum-requires : tie.Need-diagonal-sum-requires
 diagonal-sum-requires c κs =
     let s = c .before .before .before .before .before .before .before in
-    diagonal-requires _ _ _ _ _ _ (s .pre .0) (s .pre .1) _ (h-within _ _ _ _ (s .pre .0) _ (c .before .of-transcript2 .ensures))
+    diagonal-requires _ _ _ _ _ _ (s .pre .0) (s .pre .1) _ (h-within _ _ (received (s .pre .0 .posed)) _ (c .before .of-transcript2 .ensures))
 
 of-job-requires : tie.Need-of-job-requires
-of-job-requires c κs = (reckoned (c .before .before .before .before .before .before .before .before .pre .0), omega arith)
+of-job-requires c κs = (reckoned (c .before .before .before .before .before .before .before .before .pre .0 .posed), omega arith)
 
 of-randomness-requires : tie.Need-of-randomness-requires
-of-randomness-requires c κs = (reckoned (c .before .before .before .before .before .before .before .before .before .pre .0), omega arith)
+of-randomness-requires c κs = (reckoned (c .before .before .before .before .before .before .before .before .before .pre .0 .posed), omega arith)
 
 of-randomness-requires-2 : tie.Need-of-randomness-requires-2
-of-randomness-requires-2 c κs = (reckoned (c .before .before .before .before .before .before .before .before .before .before .pre .0), omega arith)
+of-randomness-requires-2 c κs = (reckoned (c .before .before .before .before .before .before .before .before .before .before .pre .0 .posed), omega arith)
 
 of-transcript-requires-3 : tie.Need-of-transcript-requires-3
-of-transcript-requires-3 c κs = (reckoned (c .before .before .before .before .before .before .before .before .before .before .before .pre .0), omega arith)
+of-transcript-requires-3 c κs = (reckoned (c .before .before .before .before .before .before .before .before .before .before .before .pre .0 .posed), omega arith)
 
 mix-needs : tie.Need-mix-requires
 mix-needs c κs =

@@ -7,28 +7,28 @@ use Rattle.definitions.specs.Answer.{fine, failed}
 use Rattle.protocol.specs.Parameters.{parameters}
 use Rattle.protocol.specs.Views.{public, message}
 use Rattle.protocol.specs.Verifier.{check-25}
-use Rattle.verifier_common.proofs.Sent.{reckoned, z-run, g-within}
+use Rattle.verifier_common.proofs.Sent.{reckoned, received, z-run, g-within}
 use Rattle.verifier_relations.proofs.Sides.{weighted-requires, z-inner-answer}
 use borrow.Author.Needs.{needs}
 use Rattle.verifier_relations.proofs.relations.check_z_inner.Statement.{statement}
 use Rattle.verifier_relations.proofs.relations.check_z_inner.Tie as tie
 
 of-transcript-requires : tie.Need-of-transcript-requires
-of-transcript-requires c κs = (reckoned (c .before .before .before .before .pre .0), omega arith)
+of-transcript-requires c κs = (reckoned (c .before .before .before .before .pre .0 .posed), omega arith)
 
 of-transcript-requires-2 : tie.Need-of-transcript-requires-2
-of-transcript-requires-2 c κs = (reckoned (c .before .before .before .before .before .pre .0), omega arith)
+of-transcript-requires-2 c κs = (reckoned (c .before .before .before .before .before .pre .0 .posed), omega arith)
 
 inner-product-requires : tie.Need-inner-product-requires
 inner-product-requires c κs =
     let s = c .before .before .before .before .before .before in
-    let z = z-run _ _ (s .args .transcript .now) (s .args .p) (s .pre .0) _ (c .before .of-transcript .ensures) (omega arith) in
+    let z = z-run (s .args .transcript .now) (s .args .p) (received (s .pre .0 .posed)) _ (c .before .of-transcript .ensures) (omega arith) in
     (z, z)
 
 sum-of-weighted-requires : tie.Need-sum-of-weighted-requires
 sum-of-weighted-requires c κs =
     let s = c .before .before .before .before .before .before .before in
-    weighted-requires _ _ _ _ _ _ (s .pre .0) (s .pre .1) _ (g-within _ _ _ _ (s .pre .0) _ (c .before .of-transcript2 .ensures))
+    weighted-requires _ _ _ _ _ _ (s .pre .0) (s .pre .1) _ (g-within _ _ (received (s .pre .0 .posed)) _ (c .before .of-transcript2 .ensures))
 
 -- the check by the boolean's value
 answer : (c : tie.After-same)
