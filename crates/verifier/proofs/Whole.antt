@@ -29,7 +29,10 @@ use Rattle.workspace.specs.Ready.{Ready, Drawn}
 use Rattle.workspace.specs.Holds.{Kept}
 use Rattle.workspace.proofs.Kept.{kept-clear}
 use Rattle.verifier_common.specs.Work.{Sent}
-use Rattle.verifier_common.specs.Answers.{norms, relations, commitments, rest, all-checks}
+use Rattle.verifier_norms.specs.Order.{norms}
+use Rattle.verifier_relations.specs.Order.{relations}
+use Rattle.verifier_commitments.specs.Order.{commitments}
+use Rattle.verifier.specs.Order.{rest, all-checks}
 use Rattle.verifier_common.proofs.Sent.{reckoned}
 use Rattle.verifier_common.proofs.Verdicts.{refusal-then}
 

@@ -19,7 +19,7 @@ ghost use Rattle.admission.specs.Admission.{Verifiable};
 ghost use Rattle.workspace.specs.Ready.{Ready};
 ghost use Rattle.workspace.specs.Holds.{Kept};
 ghost use Rattle.verifier_common.specs.Work.{Sent};
-ghost use Rattle.verifier_common.specs.Answers.{rest, all-checks};
+ghost use Rattle.verifier.specs.Order.{rest, all-checks};
 
 // The checks from 24 on, in order.
 fn check_rest(

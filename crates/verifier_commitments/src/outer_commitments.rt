@@ -18,7 +18,8 @@ ghost use Rattle.workspace.specs.Ready.{Ready};
 ghost use Rattle.workspace.specs.Holds.{Kept};
 ghost use Rattle.relation.specs.Parameters.{parametersOf};
 ghost use Rattle.verifier_common.specs.Work.{Received, Posed};
-ghost use Rattle.verifier_common.specs.Answers.{t-and-g-bounds, h-bound, u1-differs, u2-differs, first-commitment, second-commitment, commitments};
+ghost use Rattle.verifier_common.specs.Answers.{t-and-g-bounds, h-bound, u1-differs, u2-differs};
+ghost use Rattle.verifier_commitments.specs.Order.{first-commitment, second-commitment, commitments};
 
 // "28 u1 differs"
 pub fn check_u1(

@@ -5,7 +5,7 @@ use Rattle.definitions.specs.Answer.{Answer, _then_}
 use Rattle.protocol.specs.Parameters.{Parameters, parameters}
 use Rattle.protocol.specs.Views.{Public, public, message}
 use Rattle.protocol.specs.Prover.{t-norm, g-norm, h-norm}
-use Rattle.protocol.specs.Verifier.{check-21, check-22, check-23, check-24, check-25, check-26, check-27, check-28, check-29, checks}
+use Rattle.protocol.specs.Verifier.{check-21, check-22, check-23, check-24, check-25, check-26, check-27, check-28, check-29}
 
 -- public values of which the parameters alone are given: 21, 23 and 14 to 16 read no others
 abbrev pub bare : Parameters → Public
@@ -59,26 +59,11 @@ module _ (J T : List ℕ) where
   abbrev pub u2-differs : Answer
   u2-differs = check-29 (public J []) (message (parameters J) T)
 
-  -- "Then 14, 15, 28 u1 differs"
-  abbrev pub first-commitment : Answer
-  first-commitment = t-and-g-bounds (parameters J) T then u1-differs
-
-  -- "16, 29 u2 differs"
-  abbrev pub second-commitment : Answer
-  second-commitment = h-bound (parameters J) T then u2-differs
-
-  abbrev pub commitments : Answer
-  commitments = first-commitment then second-commitment
-
 -- of a job, a randomness and a transcript
 module _ (J R T : List ℕ) where
   -- "22 for some k below κ, the constant coefficient of b''_k is not Σ psi[k][l]·b0[l] + Σ omega[k][j]·p[j]"
   abbrev pub constant-terms : Answer
   constant-terms = check-22 (public J R) (message (parameters J) T)
-
-  -- 21 to 23
-  abbrev pub norms : Answer
-  norms = projection-norm (parameters J) T then constant-terms then norm-sum (parameters J) T
 
   -- "24 A·z is not Σ t_i·c_i."
   abbrev pub az : Answer
@@ -95,21 +80,3 @@ module _ (J R T : List ℕ) where
   -- "27 twice Σ a_ij·g_ij plus Σ h_ii is not twice the aggregated b."
   abbrev pub relation : Answer
   relation = check-27 (public J R) (message (parameters J) T)
-
-  -- 24 and 25, of the challenges; 26 and 27, of the aggregated constraints
-  abbrev pub openings : Answer
-  openings = az then z-inner
-
-  abbrev pub aggregated : Answer
-  aggregated = phi then relation
-
-  abbrev pub relations : Answer
-  relations = openings then aggregated
-
-  -- the checks from 24 on
-  abbrev pub rest : Answer
-  rest = relations then commitments J T
-
-  -- all checks, in order
-  abbrev pub all-checks : Answer
-  all-checks = checks (public J R) (message (parameters J) T)

@@ -14,7 +14,8 @@ ghost use Prim.Native.Nat.{_+_, _≤_};
 ghost use lib.ListN.{length};
 ghost use Rattle.relation.specs.Parameters.{parametersOf};
 ghost use Rattle.verifier_common.specs.Work.{Received, Sent};
-ghost use Rattle.verifier_common.specs.Answers.{projection-norm, constant-terms, norm-sum, norms};
+ghost use Rattle.verifier_common.specs.Answers.{projection-norm, constant-terms, norm-sum};
+ghost use Rattle.verifier_norms.specs.Order.{norms};
 ghost use Rattle.verifier_norms.specs.Terms.{constant-term};
 
 // "21 norm of p above 128·beta_sq (norm and limit given)." A beta_sq below the norm is so small that the limit fits.

@@ -16,7 +16,8 @@ ghost use Rattle.protocol.specs.Layout.{scratch-need};
 ghost use Rattle.workspace.specs.Ready.{Ready};
 ghost use Rattle.workspace.specs.Holds.{Kept};
 ghost use Rattle.verifier_common.specs.Work.{Sent};
-ghost use Rattle.verifier_common.specs.Answers.{az, z-inner, phi, relation, openings, aggregated, relations};
+ghost use Rattle.verifier_common.specs.Answers.{az, z-inner, phi, relation};
+ghost use Rattle.verifier_relations.specs.Order.{openings, aggregated, relations};
 ghost use Rattle.verifier_relations.specs.Held.{Challenged, Lined, Multiplied};
 
 // "24 A·z is not Σ t_i·c_i."

@@ -2,7 +2,7 @@
 use mathlib.Core.Path.{_∙_}
 use borrow.Author.Needs.{needs}
 use Rattle.workspace.proofs.Kept.{kept-refl}
-use Rattle.verifier_common.specs.Answers.{rest}
+use Rattle.verifier.specs.Order.{rest}
 use Rattle.verifier_common.proofs.Verdicts.{goes-on, stops}
 use Rattle.verifier.proofs.Whole.{groups-are}
 use Rattle.verifier.proofs.verify.check_all.Statement.{statement}

@@ -3,7 +3,7 @@ use mathlib.Core.Path.{_∙_}
 use borrow.Author.Needs.{needs}
 use Rattle.workspace.proofs.Kept.{kept-trans}
 use Rattle.workspace.proofs.Ready.{ready-changed}
-use Rattle.verifier_common.specs.Answers.{commitments}
+use Rattle.verifier_commitments.specs.Order.{commitments}
 use Rattle.verifier_common.proofs.Verdicts.{goes-on, stops}
 use Rattle.verifier.proofs.verify.check_rest.Statement.{statement}
 use Rattle.verifier.proofs.verify.check_rest.Tie as tie

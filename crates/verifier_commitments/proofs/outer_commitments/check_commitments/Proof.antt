@@ -3,7 +3,7 @@ use mathlib.Core.Path.{_∙_}
 use borrow.Author.Needs.{needs}
 use Rattle.workspace.proofs.Kept.{kept-trans}
 use Rattle.workspace.proofs.Ready.{ready-changed}
-use Rattle.verifier_common.specs.Answers.{second-commitment}
+use Rattle.verifier_commitments.specs.Order.{second-commitment}
 use Rattle.verifier_common.proofs.Verdicts.{goes-on, stops}
 use Rattle.verifier_commitments.proofs.outer_commitments.check_commitments.Statement.{statement}
 use Rattle.verifier_commitments.proofs.outer_commitments.check_commitments.Tie as tie

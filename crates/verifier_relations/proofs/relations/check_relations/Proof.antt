@@ -5,7 +5,7 @@ use Rattle.protocol.specs.Parameters.{parameters}
 use Rattle.protocol.specs.Layout.{scratch-need}
 use Rattle.workspace.proofs.Kept.{kept-trans}
 use Rattle.workspace.proofs.Ready.{ready-changed}
-use Rattle.verifier_common.specs.Answers.{aggregated}
+use Rattle.verifier_relations.specs.Order.{aggregated}
 use Rattle.verifier_common.proofs.Verdicts.{goes-on, stops}
 use Rattle.verifier_relations.proofs.relations.check_relations.Statement.{statement}
 use Rattle.verifier_relations.proofs.relations.check_relations.Tie as tie
