@@ -5,7 +5,6 @@ use mathlib.Core.List.{List}
 use mathlib.Core.Logic.{inl}
 use Prim.Native.Nat.{ℕ, _+_, _*_, _≤_, _<_, _^_}
 use native.Mathlib.Nat.{mul-le-mul}
-use native.Mathlib.Decide.{decLe}
 use native.Mathlib.Omega.{arith}
 use lib.Dec.{leb}
 use lib.ListN.{length}
@@ -16,8 +15,8 @@ use Rattle.lists.proofs.Splice.{length-splice}
 use Rattle.definitions.specs.declared.answers.Proved.{Proved}
 use Rattle.definitions.specs.declared.answers.Proved.the-variants as E
 use Rattle.definitions.specs.declared.answers.Refusal.{Refusal}
-use Rattle.definitions.specs.Answer.{Answer, fine, refused, ofProved, _then_}
-use Rattle.protocol.specs.Checks.{require, first}
+use Rattle.definitions.specs.Answer.{Answer, fine, refused, value128, ofProved, _then_}
+use Rattle.protocol.specs.Checks.{first}
 use Rattle.protocol.specs.Parameters.{Parameters, parameters, T, triangular}
 use Rattle.protocol.specs.Layout.{start, job-sections, witness-sections, scratch-need}
 use Rattle.protocol.specs.Formulas as F
@@ -26,7 +25,7 @@ use Rattle.protocol.specs.Prover.{witness-norm, t-norm, g-norm, h-norm}
 use Rattle.protocol.proofs.Then.{then-assoc}
 use Rattle.protocol.proofs.ReadBack.{g-symmetric, h-symmetric}
 use Rattle.rq_matrix.specs.Region.{vector, gram, Apart}
-use Rattle.commitments.specs.Cells.{digits-at, Cells}
+use Rattle.commitments.specs.Cells.{digits-at, vector-norm, Cells}
 use Rattle.commitments.proofs.Formula.{digits, t-is, witness-norm-is, t-norm-is, g-norm-is, h-norm-is}
 use Rattle.garbage_polynomials.specs.Garbage.{h-of}
 use Rattle.garbage_polynomials.proofs.Formula.{g-formula, h-formula}
@@ -104,17 +103,16 @@ module _ (m : ℕ) (J R W : List ℕ) (p : EnvironmentParameters) (q : Regions) 
   a-room = omega (arith, a-end J p q S (h .ready), g-room)
 
   -- 13: what `check_witness` needs, and what it answers
-  pub witness-checks : (30 ≤ length J) × (1 + 64 * (p .multiplicity * p .rank) ≤ length W) × (p .rank ≤ 2 ^ 20)
-  witness-checks =
-      subst (λ Q. (30 ≤ length J) × (1 + 64 * (Q .r * Q .n) ≤ length W) × (Q .n ≤ 2 ^ 20)) (sym (h .ready .same)) (h .ready .sound .room, witness-fits, omega (arith, h .ready .sound .within .n .1))
+  pub witness-checks : (1 + 64 * (p .multiplicity * p .rank) ≤ length W) × (p .rank ≤ 2 ^ 20)
+  witness-checks = subst (λ Q. (1 + 64 * (Q .r * Q .n) ≤ length W) × (Q .n ≤ 2 ^ 20)) (sym (h .ready .same)) (witness-fits, omega (arith, h .ready .sound .within .n .1))
 
   abbrev tested : Answer
-  tested = first (p .multiplicity) (λ i. require (decLe (norm-of (table (p .rank) (vector W 1 (p .rank) i))) (P .bound-A)) (refused 13 i))
+  tested = first (p .multiplicity) (vector-norm W 1 (p .rank) (value128 (p .«bound_a»)))
 
   witness-answer : tested ≡ witness-norm (X J R W) (s J R W)
   witness-answer =
-      ap (λ Q. first (Q .r) (λ i. require (decLe (norm-of (table (Q .n) (vector W 1 (Q .n) i))) (P .bound-A)) (refused 13 i))) (h .ready .same)
-      ∙ ap (λ k. first (P .r) (λ i. require (decLe (norm-of (table (P .n) (vector W k (P .n) i))) (P .bound-A)) (refused 13 i))) (sym (witness-start P))
+      ap (λ (Q : Parameters). first (Q .r) (vector-norm W 1 (Q .n) (Q .bound-A))) (h .ready .same)
+      ∙ ap (λ k. first (P .r) (vector-norm W k (P .n) (P .bound-A))) (sym (witness-start P))
       ∙ witness-norm-is J R W
 
   -- then nothing else is asked
@@ -257,30 +255,30 @@ module _ (m : ℕ) (J R W : List ℕ) (p : EnvironmentParameters) (q : Regions) 
         few-parts = subst (λ Q. Q .t₁ ≤ 32) (sym (h .ready .same)) (h .ready .sound .within .t₁ .1);
       }
 
-  pub t-answer : Holds S (q .t) (t-words J R W) → (b : Bool) → b ≡ leb (norm-of (digits-at S (digits (q .t) (p .multiplicity * p .kappa) (p .«t_1»)) (p .b))) (P .bound-B)
+  pub t-answer : Holds S (q .t) (t-words J R W) → (b : Bool) → b ≡ leb (norm-of (digits-at S (digits (q .t) (p .multiplicity * p .kappa) (p .«t_1»)) (p .b))) (value128 (p .«bound_b»))
       → (v : Bool) → b ≡ v → cond v fine (refused 14 0) ≡ t-norm (X J R W) (F.t (X J R W) (s J R W))
   t-answer t b e v w =
-      ap (λ x. cond x fine (refused 14 0)) (sym w ∙ e ∙ ap (λ Q. leb (norm-of (digits-at S (digits (q .t) (Q .r * Q .κ) (Q .t₁)) (Q .b))) (P .bound-B)) (h .ready .same))
+      ap (λ x. cond x fine (refused 14 0)) (sym w ∙ e ∙ ap (λ Q. leb (norm-of (digits-at S (digits (q .t) (Q .r * Q .κ) (Q .t₁)) (Q .b))) (Q .bound-B)) (h .ready .same))
       ∙ sym (t-norm-is J R S (q .t) (F.t (X J R W) (s J R W)) (vectors-held S (q .t) (P .r) (P .κ) (F.t (X J R W) (s J R W)) t))
 
-  pub g-answer : Holds S (q .g) (g-words J R W) → (cells : ℕ) → cells ≡ triangular (p .multiplicity) → (b : Bool) → b ≡ leb (norm-of (digits-at S (digits (q .g) cells (p .«t_2»)) (p .b))) (P .bound-C)
+  pub g-answer : Holds S (q .g) (g-words J R W) → (cells : ℕ) → cells ≡ triangular (p .multiplicity) → (b : Bool) → b ≡ leb (norm-of (digits-at S (digits (q .g) cells (p .«t_2»)) (p .b))) (value128 (p .«bound_c»))
       → (v : Bool) → b ≡ v → cond v fine (refused 15 0) ≡ g-norm (X J R W) (F.g (X J R W) (s J R W))
   g-answer g cells c b e v w =
       ap (λ x. cond x fine (refused 15 0))
       (sym w
       ∙ e
-      ∙ ap (λ k. leb (norm-of (digits-at S (digits (q .g) k (p .«t_2»)) (p .b))) (P .bound-C)) c
-      ∙ ap (λ Q. leb (norm-of (digits-at S (digits (q .g) (T Q) (Q .t₂)) (Q .b))) (P .bound-C)) (h .ready .same))
+      ∙ ap (λ k. leb (norm-of (digits-at S (digits (q .g) k (p .«t_2»)) (p .b))) (value128 (p .«bound_c»))) c
+      ∙ ap (λ Q. leb (norm-of (digits-at S (digits (q .g) (T Q) (Q .t₂)) (Q .b))) (Q .bound-C)) (h .ready .same))
       ∙ sym (g-norm-is J R S (q .g) (F.g (X J R W) (s J R W)) (triangle-held S (q .g) (P .r) (F.g (X J R W) (s J R W)) (g-symmetric (X J R W) (s J R W)) g))
 
-  pub h-answer : Holds S (q .a) (h-words J R W) → (cells : ℕ) → cells ≡ triangular (p .multiplicity) → (b : Bool) → b ≡ leb (norm-of (digits-at S (digits (q .a) cells (p .«t_1»)) (p .b))) (P .bound-D)
+  pub h-answer : Holds S (q .a) (h-words J R W) → (cells : ℕ) → cells ≡ triangular (p .multiplicity) → (b : Bool) → b ≡ leb (norm-of (digits-at S (digits (q .a) cells (p .«t_1»)) (p .b))) (value128 (p .«bound_d»))
       → (v : Bool) → b ≡ v → cond v fine (refused 16 0) ≡ h-norm (X J R W) (F.h (X J R W) (s J R W))
   h-answer d cells c b e v w =
       ap (λ x. cond x fine (refused 16 0))
       (sym w
       ∙ e
-      ∙ ap (λ k. leb (norm-of (digits-at S (digits (q .a) k (p .«t_1»)) (p .b))) (P .bound-D)) c
-      ∙ ap (λ Q. leb (norm-of (digits-at S (digits (q .a) (T Q) (Q .t₁)) (Q .b))) (P .bound-D)) (h .ready .same))
+      ∙ ap (λ k. leb (norm-of (digits-at S (digits (q .a) k (p .«t_1»)) (p .b))) (value128 (p .«bound_d»))) c
+      ∙ ap (λ Q. leb (norm-of (digits-at S (digits (q .a) (T Q) (Q .t₁)) (Q .b))) (Q .bound-D)) (h .ready .same))
       ∙ sym (h-norm-is J R S (q .a) (F.h (X J R W) (s J R W)) (triangle-held S (q .a) (P .r) (F.h (X J R W) (s J R W)) (h-symmetric (X J R W) (s J R W)) d))
 
   -- a scratch into which t was stored

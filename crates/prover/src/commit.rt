@@ -67,7 +67,7 @@ pub fn check_t(
         cells,
         parts: p.t_1,
     };
-    if common_instances::t_within(job, scratch, digits, p.b) {
+    if common_instances::digits_within(scratch, digits, p.b, p.bound_b) {
         Proved::Made
     } else {
         Proved::Refused(Refusal::DigitsOfT)
@@ -106,7 +106,7 @@ pub fn check_g(
         cells: slices::triangle(p.multiplicity),
         parts: p.t_2,
     };
-    if common_instances::g_within(job, scratch, digits, p.b) {
+    if common_instances::digits_within(scratch, digits, p.b, p.bound_c) {
         Proved::Made
     } else {
         Proved::Refused(Refusal::DigitsOfG)
@@ -151,7 +151,7 @@ pub fn commit(
     ensures { λ result. ⌜ Kept (scratch-need (parameters (now (job .entry)))) (now (scratch .entry)) (now (scratch .exit)) ⌝ }
     ensures { λ result. ⌜ Where-made result (Committed (now (job .entry)) (now (randomness .entry)) (now (witness .entry)) q (now (scratch .exit))) ⌝ }
 {
-    match common_instances::check_witness(job, witness, 1, p.rank, p.multiplicity) {
+    match common_instances::check_witness(witness, 1, p.rank, p.multiplicity, p.bound_a) {
         Proved::Refused(refusal) => Proved::Refused(refusal),
         Proved::Made => commit_t_and_g(job, randomness, witness, p, q, scratch),
     }
@@ -215,7 +215,7 @@ pub fn check_h(
         cells: slices::triangle(p.multiplicity),
         parts: p.t_1,
     };
-    if common_instances::h_within(job, scratch, digits, p.b) {
+    if common_instances::digits_within(scratch, digits, p.b, p.bound_d) {
         Proved::Made
     } else {
         Proved::Refused(Refusal::DigitsOfH)
