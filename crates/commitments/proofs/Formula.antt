@@ -7,7 +7,7 @@ use native.Mathlib.Omega.{arith}
 use lib.Dec.{leb}
 use Rattle.lists.specs.Table.{table}
 use Rattle.lists.proofs.Table.{table-ext}
-use Rattle.lists.proofs.Sum.{Σ-const, Σ-triangle}
+use Rattle.lists.proofs.Sum.{Σ-const}
 use Rattle.lists.proofs.Cat.{cat-ext, cat-runs}
 use Rattle.definitions.specs.Answer.{fine, refused}
 use Rattle.definitions.specs.Rq.{Element}
@@ -19,8 +19,7 @@ use Rattle.protocol.specs.Views.{Public, public, witness, cell}
 use Rattle.protocol.specs.Formulas as F
 use Rattle.protocol.specs.Formulas.{_⊕_, dot, norm-of, rows, triangle, digits-of, times, t-digits, g-digits, h-digits}
 use Rattle.protocol.specs.Prover.{witness-norm, t-norm, g-norm, h-norm}
-use Rattle.protocol.proofs.Flat.{cell-lower}
-use Rattle.protocol.proofs.Region.{Vectors, Triangle, rows-ext}
+use Rattle.protocol.proofs.Region.{Vectors, Triangle, rows-ext, triangle-table}
 use Rattle.rq_matrix.specs.Region.{vector}
 use Rattle.commitments.specs.declared.outer_commitments.Digits.{Digits}
 use Rattle.commitments.specs.Cells.{digits-at, vector-norm}
@@ -33,15 +32,6 @@ rows-table r m f =
     cat-ext r (λ i. table m (λ k. f (i * m + k))) (λ i. table m (λ k. f (_ + k))) (λ i h. ap (λ n. table m (λ k. f (n + k))) (sym (Σ-const i m)))
     ∙ cat-runs r (λ i. m) f
     ∙ ap (λ n. table n f) (Σ-const r m)
-
--- a triangle of r rows of the elements f 0, f 1, … is all of them
-pub triangle-table : (r : ℕ) (f : ℕ → Element) → triangle r (λ i j. f (cell i j)) ≡ table (triangular r) f
-unfolding triangle
-triangle-table r f =
-    cat-ext r (λ i. table (i + 1) (λ j. f (cell i j))) (λ i. table (i + 1) (λ k. f (_ + k)))
-    (λ i h. table-ext (i + 1) (λ j. f (cell i j)) (λ k. f (_ + k)) (λ j l. ap f (cell-lower i j (omega arith) ∙ ap (λ n. n + j) (sym (Σ-triangle i)))))
-    ∙ cat-runs r (λ i. i + 1) f
-    ∙ ap (λ n. table n f) (Σ-triangle r)
 
 -- the cells of vectors in a slice, one after the other
 pub vectors-cells : (ws : List ℕ) (at r m : ℕ) (f : ℕ → ℕ → Element) → Vectors ws at r m f → table (r * m) (run ws at 64) ≡ rows r m f
