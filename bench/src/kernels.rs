@@ -317,6 +317,7 @@ fn judged(random: &mut Random) -> Kernel {
 pub type Entry = (&'static str, fn(&mut Random) -> Kernel);
 
 /// Every kernel.
+#[rustfmt::skip]
 pub const KERNELS: [Entry; 42] = [
     ("element product", product),
     ("product with a number, added to an accumulator", multiply_add),

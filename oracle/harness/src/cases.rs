@@ -120,12 +120,8 @@ impl Context {
             output: case.output,
         };
         let answer = fit(case.call, handed).err().unwrap_or_default();
-        self.tally.compare(
-            PLANTED,
-            &answer,
-            &Answer::refused(aim.0, aim.1),
-            || case.describe(),
-        );
+        self.tally
+            .compare(PLANTED, &answer, &Answer::refused(aim.0, aim.1), || case.describe());
         let expected = Expected { answer, worked: None };
         self.take(Case { expected, ..case });
     }
@@ -149,16 +145,10 @@ impl Context {
         let drawn = Randomness::read(p, &randomness);
         let s = read_witness(p, &witness);
         let (made, modelled) = formulas::transcript(&values, &drawn, &s);
-        self.tally
-            .compare(PROVER, &modelled, &answer, described);
+        self.tally.compare(PROVER, &modelled, &answer, described);
         if !sections.is_empty() {
             let ours = made.sections();
-            self.tally.compare(
-                TRANSCRIPT,
-                &ours,
-                &sections,
-                described,
-            );
+            self.tally.compare(TRANSCRIPT, &ours, &sections, described);
         }
 
         for call in Call::ALL {
@@ -197,8 +187,7 @@ impl Context {
         let transcript = join(&sections);
         let verdict = self.verifier(purpose, instance, &transcript, spare);
         let breach = conditions::first_breach(&values, &drawn, &s);
-        self.tally
-            .compare(FOUR, &breach, &verdict, described);
+        self.tally.compare(FOUR, &breach, &verdict, described);
         let ours = prove_then_verify(&job, &randomness, &witness, p.scratch_need(), transcript.len());
         self.tally.compare(FOUR_OURS, &ours, &breach, described);
         self.tally.occurred(CONDITIONS, format!("{:>2}", breach.number));
@@ -217,9 +206,7 @@ impl Context {
             &Transcript::read(p, transcript),
         );
         self.tally
-            .compare(VERIFIER, &modelled, &answer, || {
-                format!("verify ({purpose}) {p:?}")
-            });
+            .compare(VERIFIER, &modelled, &answer, || format!("verify ({purpose}) {p:?}"));
         self.take(Case {
             purpose,
             call: Call::Verify,
@@ -244,13 +231,26 @@ impl Tally {
             answer: case.expected.answer,
             ..Seen::default()
         };
-        let kind = if case.expected.worked.is_some() { WORKED } else { REFUSED };
+        let kind = if case.expected.worked.is_some() {
+            WORKED
+        } else {
+            REFUSED
+        };
         self.compare(kind, &ours(case), &expected, || case.describe());
         if case.call == Call::Prove {
             let slices = [&case.job[..], &case.randomness, &case.third];
             let ours = library::slices::judged(slices, case.scratch, case.output);
-            let refused = if kind == REFUSED { case.expected.answer } else { Answer::FINE };
-            self.compare(JUDGED, &(ours.number, ours.place), &(refused.number, refused.place), || case.describe());
+            let refused = if kind == REFUSED {
+                case.expected.answer
+            } else {
+                Answer::FINE
+            };
+            self.compare(
+                JUDGED,
+                &(ours.number, ours.place),
+                &(refused.number, refused.place),
+                || case.describe(),
+            );
         }
     }
 }

@@ -58,7 +58,9 @@ fn compare(seed: u64, count: u64, largest: bool) -> bool {
     context.tally.stage("calls of the slice layer");
     let base = whole::base(&mut random, whole::pair_parameters());
     families(&mut context, &mut random, &base, 10);
-    context.tally.stage("one instance, with every fault and every check broken");
+    context
+        .tally
+        .stage("one instance, with every fault and every check broken");
     whole::limits(&mut context, &mut random);
     context.tally.stage("sizes at their limits");
     for i in 0..count as usize {

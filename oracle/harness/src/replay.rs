@@ -111,8 +111,6 @@ fn call(tally: &mut Tally, slices: &[(Vec<u32>, usize); 4], body: &[u32]) {
     };
     let (answer, worked) = model::whole(call, handed);
     let modelled = Expected { answer, worked };
-    tally.compare(MODELLED_CALL, &modelled, &case.expected, || {
-        case.describe()
-    });
+    tally.compare(MODELLED_CALL, &modelled, &case.expected, || case.describe());
     tally.library(&case);
 }

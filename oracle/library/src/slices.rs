@@ -117,13 +117,7 @@ pub fn judged([job, randomness, witness]: [&[u32]; 3], scratch: usize, output: u
 }
 
 /// A call; the base is that of the digits, where there are any.
-pub fn slice_call(
-    call: SliceCall,
-    [first, second]: [&[u32]; 2],
-    sizes: &[usize],
-    base: u32,
-    out: &mut [u32],
-) -> bool {
+pub fn slice_call(call: SliceCall, [first, second]: [&[u32]; 2], sizes: &[usize], base: u32, out: &mut [u32]) -> bool {
     use exported::*;
     let (a, a_length) = (first.as_ptr(), first.len());
     let (b, b_length) = (second.as_ptr(), second.len());
