@@ -22,7 +22,8 @@ pub extern "C" fn slice_judged(
     scratch: usize,
     output: usize,
 ) -> Judged
-    ensures { λ r. ⌜ (r .number ≡ number (prove-refusal whole (now (job .entry)) (now (randomness .entry)) (now (witness .entry)) scratch output)) × (r .place ≡ place (prove-refusal whole (now (job .entry)) (now (randomness .entry)) (now (witness .entry)) scratch output)) ⌝ }
+    ensures { λ r. ⌜ r .number ≡ number (prove-refusal whole (now (job .entry)) (now (randomness .entry)) (now (witness .entry)) scratch output) ⌝ }
+    ensures { λ r. ⌜ r .place ≡ place (prove-refusal whole (now (job .entry)) (now (randomness .entry)) (now (witness .entry)) scratch output) ⌝ }
 {
     match prover::admit(Call::Whole, job, randomness, witness, scratch, output) {
         Admitted::Refused(refusal) => {
