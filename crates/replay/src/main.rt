@@ -1,12 +1,13 @@
 // Replays the published Rust's recorded answers on the leaf calls and on the calls on whole slices.
 // It prints how many of each kind are the same, and a `differs` line for each that is not.
-mod calls;
-mod counts;
-mod leaves;
-mod marks;
-mod report;
-mod slices;
-mod words;
+use replay_calls::calls;
+use replay_calls::slices;
+use replay_leaves::leaves;
+use replay_records::reading;
+use replay_records::reading::Next;
+use replay_records::words;
+use replay_report::counts;
+use replay_report::report;
 
 // The kind of a file's last record, whose body counts the others.
 const END: u32 = 63;
@@ -28,19 +29,11 @@ fn take_leaf(kind: u32, body: &[u8], record: u64, tally: &mut [u64]) {
     }
 }
 
-// Makes a call on whole slices, with two buffers, and counts it.
-fn take_call(
-    body: &[u8],
-    record: u64,
-    run: &[u32],
-    lengths: &[usize],
-    scratch: &mut [u32],
-    output: &mut [u32],
-    tally: &mut [u64],
-) {
+// Makes a call on whole slices, and counts it.
+fn take_call(body: &[u8], record: u64, run: &[u32], tally: &mut [u64]) {
     let row = counts::row_of(calls::number(body), calls::verifies(body));
     counts::bump(tally, counts::all_calls_of(row));
-    if calls::same(body, run, lengths, scratch, output) {
+    if calls::same(body, run) {
         counts::bump(tally, counts::same_calls_of(row));
     } else {
         report::differs(CALL, record);
@@ -57,15 +50,7 @@ fn end(body: &[u8], tally: &mut [u64]) {
 }
 
 // Replays a record and counts it. Answers whether more records can follow.
-fn take(
-    kind: u32,
-    body: &[u8],
-    run: &mut [u32],
-    lengths: &mut [usize],
-    scratch: &mut [u32],
-    output: &mut [u32],
-    tally: &mut [u64],
-) -> bool {
+fn take(kind: u32, body: &[u8], run: &mut [u32], tally: &mut [u64]) -> bool {
     let record = counts::read(tally, counts::RECORDS);
     if kind == END {
         end(body, tally);
@@ -74,84 +59,34 @@ fn take(
     counts::bump(tally, counts::RECORDS);
     match kind {
         PUT => slices::put(body, run),
-        LENGTH => slices::resize(body, lengths),
-        CALL => take_call(body, record, run, lengths, scratch, output, tally),
+        LENGTH => slices::resize(body, run),
+        CALL => take_call(body, record, run, tally),
         _ => take_leaf(kind, body, record, tally),
     }
     true
 }
 
-// Fills the first bytes of a buffer; false where the input or the buffer has too few.
-fn read_part(fd: i32, length: usize, bytes: &mut [u8]) -> bool {
-    if length > bytes.len() {
-        return false;
-    }
-    io::read_full(fd, &mut bytes[..length]) == length
-}
-
 // Replays a record whose body is the first bytes of a buffer.
-fn take_part(
-    kind: u32,
-    length: usize,
-    bytes: &[u8],
-    run: &mut [u32],
-    lengths: &mut [usize],
-    scratch: &mut [u32],
-    output: &mut [u32],
-    tally: &mut [u64],
-) -> bool {
+fn take_part(kind: u32, length: usize, bytes: &[u8], run: &mut [u32], tally: &mut [u64]) -> bool {
     if length > bytes.len() {
         return false;
     }
-    take(kind, &bytes[..length], run, lengths, scratch, output, tally)
+    take(kind, &bytes[..length], run, tally)
 }
 
 // Reads one record and replays it. Answers whether more records can follow.
-fn read_record(
-    fd: i32,
-    run: &mut [u32],
-    lengths: &mut [usize],
-    scratch: &mut [u32],
-    output: &mut [u32],
-    tally: &mut [u64],
-) -> bool {
-    let mut head = [0u8; 8];
-    let got = io::read_full(fd, &mut head);
-    if got < 8 {
-        return false;
-    }
-    let kind = words::at(&head, 0);
-    let length = words::at(&head, 1) as usize;
-    if length > words::MOST {
-        return false;
-    }
+fn read_record(fd: i32, run: &mut [u32], tally: &mut [u64]) -> bool {
     let mut bytes = [0u8; 16384];
-    if !read_part(fd, 4 * length, &mut bytes) {
-        return false;
+    match reading::read(fd, &mut bytes) {
+        Next::Record(kind, length) => take_part(kind, length, &bytes, run, tally),
+        Next::Nothing => false,
     }
-    take_part(
-        kind,
-        4 * length,
-        &bytes,
-        run,
-        lengths,
-        scratch,
-        output,
-        tally,
-    )
 }
 
 // Reads records until a file's last one. A proved loop has to end, so it counts down from a number that no file uses up.
-fn read_all(
-    fd: i32,
-    run: &mut [u32],
-    lengths: &mut [usize],
-    scratch: &mut [u32],
-    output: &mut [u32],
-    tally: &mut [u64],
-) {
+fn read_all(fd: i32, run: &mut [u32], tally: &mut [u64]) {
     let mut turns = u64::MAX;
-    while turns > 0 && read_record(fd, run, lengths, scratch, output, tally) {
+    while turns > 0 && read_record(fd, run, tally) {
         turns -= 1;
     }
 }
@@ -164,18 +99,15 @@ fn read_file(path: &[u8], tally: &mut [u64]) {
         return;
     }
     let mut run = [0u32; slices::WORDS];
-    let mut lengths = [0usize; 4];
-    let mut scratch = [0u32; 16384];
-    let mut output = [0u32; 8192];
-    read_all(fd, &mut run, &mut lengths, &mut scratch, &mut output, tally);
+    read_all(fd, &mut run, tally);
     libc::close(fd);
 }
 
 fn main() {
-    let mut tally = [0u64; 96];
+    let mut tally = [0u64; counts::COUNTS];
     read_file(b"leaves", &mut tally);
     read_file(b"calls", &mut tally);
-    report::all(&tally);
+    report::leaves(&tally);
     report::calls(&tally);
     report::whole(&tally);
 }

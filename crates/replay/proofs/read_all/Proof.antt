@@ -7,15 +7,10 @@ use Rattle.replay.proofs.read_all.Statement.{statement}
 use Rattle.replay.proofs.read_all.Tie as tie
 
 abbrev Inv-loop : tie.InvT-loop
-Inv-loop fd run₀ lengths₀ scratch₀ output₀ tally₀ turns₀ run lengths scratch output tally turns =
-    (length run ≡ length run₀)
-    × (length lengths ≡ length lengths₀)
-    × (length scratch ≡ length scratch₀)
-    × (length output ≡ length output₀)
-    × (length tally ≡ length tally₀)
+Inv-loop fd run₀ tally₀ turns₀ run tally turns = (length run ≡ length run₀) × (length tally ≡ length tally₀)
 
 abbrev μ-loop : tie.MeasureT-loop
-μ-loop fd run₀ lengths₀ scratch₀ output₀ tally₀ turns₀ run lengths scratch output tally turns = turns
+μ-loop fd run₀ tally₀ turns₀ run tally turns = turns
 
 pub read-all-spec : {M : Type 1} → statement M
 read-all-spec =
@@ -27,12 +22,6 @@ read-all-spec =
     (λ c κs. search needs)
     (λ c. omega arith)
     (λ c. omega arith)
-    (λ c. search needs)
-    (λ c. search needs)
-    (λ c. search needs)
-    (λ c. search needs)
-    (λ c. search needs)
-    (λ c. search needs)
     (λ c. search needs)
     (λ c. search needs)
     (λ c. search needs)

@@ -1,0 +1,3 @@
+// The records of the published Rust's answers: read from a file, and their words.
+pub mod reading;
+pub mod words;

@@ -1,0 +1,4 @@
+// What a replay counts, and what it prints.
+pub mod counts;
+mod names;
+pub mod report;
