@@ -12,8 +12,9 @@ use Rattle.lists.specs.Sum.{Σ}
 use Rattle.lists.proofs.Sum.{Σ-ext, Σ-add, Σ-split, Σ-mul-left}
 use Rattle.lists.proofs.Table.{length-table, getD-table}
 use Rattle.definitions.specs.Zq.{Q, zsub}
-use Rattle.definitions.specs.Rq.{coeff, low, high}
-use Rattle.rq.specs.Product.{AllWords, extended, extendedCoeff, reversed}
+use Rattle.definitions.specs.Rq.{coeff, low, high, rmul}
+use Rattle.rq.specs.Product.{AllWords, extended, extendedCoeff, reversed, Forms, folded}
+use Rattle.rq.proofs.Halves.{folded-mod}
 
 -- the kernel's forms are of words
 pub length-extended : (a : List ℕ) → length (extended a) ≡ 128
@@ -86,6 +87,12 @@ module _ (a b : List ℕ) (words : (i : ℕ) → i < 64 → coeff a i ≤ Q) (k 
       ∙ Σ-ext (63 - k) (λ i. kernel i + coeff a (k + 1 + i) * coeff b (63 - i)) (λ i. 4294967295 * coeff b (63 - i))
       (λ i l. ap (λ t. t + coeff a (k + 1 + i) * coeff b (63 - i)) (wrapped i l) ∙ term (coeff a (k + 1 + i)) (coeff b (63 - i)) (words (k + 1 + i) (omega arith)))
       ∙ Σ-mul-left (63 - k) 4294967295 (λ i. coeff b (63 - i)))
+
+-- what the kernel gives of both forms for coefficient k, reduced, is the product's
+pub product-at : (x y a b : List ℕ) → Forms x y a b → (k : ℕ) → k < 64 → folded x y (k + 1) % Q ≡ coeff (rmul a b) k
+unfolding rmul
+product-at x y a b f k h =
+    folded-mod x y (k + 1) ∙ rw (f .0, f .1) (coefficient a b (f .2) k h) ∙ sym (getD-table 64 (λ k. zsub (low a b k) (high a b k)) k 0 h)
 
 -- both forms hold words
 pub extended-words : (a : List ℕ) → ((i : ℕ) → i < 64 → coeff a i ≤ Q) → AllWords (extended a)

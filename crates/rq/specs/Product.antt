@@ -1,13 +1,18 @@
--- The two forms in which the product's kernel takes its factors.
+-- How far the product is finished, and the two forms in which its kernel takes the factors.
+use mathlib.Core.Path.{_≡_}
 use mathlib.Core.Bool.{cond}
 use mathlib.Core.List.{List}
-use Prim.Native.Nat.{ℕ, _+_, _-_, _*_, _/_, _%_, _<_, _^_}
+use Prim.Native.Nat.{ℕ, _+_, _-_, _*_, _/_, _%_, _≤_, _<_, _^_}
 use lib.Dec.{ltb}
 use lib.ListN.{length, getD}
-use Rattle.lists.specs.Table.{table}
+use Rattle.lists.specs.Table.{table, padded}
 use Rattle.lists.specs.Sum.{Σ}
 use Rattle.definitions.specs.Zq.{Q}
-use Rattle.definitions.specs.Rq.{coeff}
+use Rattle.definitions.specs.Rq.{coeff, rmul}
+
+-- "those done are shown to be the product's and the later ones still zero" (document 02, Item 3): the first k coefficients of `out` are those of a·b
+abbrev pub Finished : ℕ → List ℕ → List ℕ → List ℕ → Type 0
+Finished k out a b = out ≡ padded 64 k 0 (coeff (rmul a b))
 
 -- each entry of a list is below 2^32
 abbrev pub AllWords : List ℕ → Type 0
@@ -24,6 +29,10 @@ extended a = table 128 (extendedCoeff a)
 -- the coefficients from the last to the first
 unfoldable pub reversed : List ℕ → List ℕ
 reversed b = table 64 (λ i. coeff b (63 - i))
+
+-- x and y are the forms of the factors a and b
+abbrev pub Forms : List ℕ → List ℕ → List ℕ → List ℕ → Type 0
+Forms x y a b = (x ≡ reversed b) × (y ≡ extended a) × ((i : ℕ) → i < 64 → coeff a i ≤ Q)
 
 -- the upper and the lower halves of 64 products, summed
 unfoldable pub folded : List ℕ → List ℕ → ℕ → ℕ

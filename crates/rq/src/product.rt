@@ -56,7 +56,8 @@ pub fn dot(x: &[u64], y: &[u64], at: usize) -> u64
     lower + upper
 }
 
-// The product's coefficients, finished one after the other.
+// The product's coefficients, finished one after the other. At the head of the loop `Finished k out a b` of `specs/Product.antt` holds: the first
+// k are the product's, and the later ones zero.
 pub fn multiply(a: [u32; 64], b: [u32; 64]) -> [u32; 64]
     ensures { λ r. ⌜ r ≡ rmul a b ⌝ }
 {
