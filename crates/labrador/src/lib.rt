@@ -5,4 +5,5 @@ pub mod digits;
 pub mod elements;
 pub mod needs;
 pub mod numbers;
+pub mod recomposed;
 pub mod verdicts;
