@@ -2,22 +2,22 @@
 use mathlib.Core.Path.{_≡_, refl, sym, ap, ap₂, _∙_}
 use mathlib.Core.Bool.{Bool, true, false}
 use mathlib.Core.Logic.{_↔_}
-use Prim.Native.Nat.{ℕ, zero, suc, _+_, _-_, _*_, _/_, _%_, _^_, _≤_, _<_}
+use Prim.Native.Nat.{ℕ, zero, suc, _+_, _*_, _/_, _%_, _^_, _≤_, _<_}
 use native.Mathlib.Nat.{pow-suc, pow-zero, one-le-pow, pow-le-pow-left, mul-le-mul, mul-le-mul-left, lt-of-not-le}
 use native.Mathlib.Decide.{decLt}
 use native.Mathlib.Numerals.{add-one}
 use native.Mathlib.Omega.{arith}
-use lib.ListN.{length, getD}
+use lib.ListN.{getD}
 use Rattle.lists.specs.Sum.{Σ}
 use Rattle.lists.proofs.Sum.{Σ-ext, Σ-le, Σ-mono}
-use Rattle.definitions.specs.Zq.{Q, Canonical, zneg, isLargerThanHalf, size}
+use Rattle.definitions.specs.Zq.{Q, Canonical, isLargerThanHalf, size}
 use Rattle.definitions.specs.Digits.{signed, digit, digits, sizeAfter, leftover}
 use Rattle.definitions.specs.Answer.{fine, _then_}
 use Rattle.definitions.specs.Leaf.{limitedBy}
 use Rattle.definitions.specs.Recompose.{recompose, Enough, PartsNeeded, recomposeOperands}
 use Rattle.definitions.proofs.Leaf.{below-fine, within-fine}
 use Rattle.definitions.proofs.Centre.{size-le}
-use Rattle.definitions.proofs.Digits.{digits-sum, digits-whole, zneg-times, sizeAfter-le, sizeAfter-self, leftover-zero, enough-parts, digit-canonical, length-digits, getD-digits}
+use Rattle.definitions.proofs.Digits.{digits-sum, digits-whole, zneg-times, sizeAfter-le, leftover-zero, enough-parts, digit-canonical, length-digits, getD-digits}
 
 -- the greatest size of which n parts in base b leave nothing: Σ_{k<n} (b/2)·b^k
 unfoldable pub reach : ℕ → ℕ → ℕ

@@ -1,5 +1,4 @@
 -- `digits_found` meets its contract.
-use mathlib.Core.Path.{_∙_}
 use borrow.Author.Needs.{needs}
 use borrow.Author.Tests.{lt-ltb, le-ltb}
 use Rattle.recompose.proofs.found.digits_found.Statement.{statement}
