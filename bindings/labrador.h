@@ -78,6 +78,15 @@ labrador_centre_answer labrador_zq_centre(uint32_t a);
    outside 1 to 32 with 4 at place 1; a is place 2. */
 labrador_digits_answer labrador_zq_digits(uint32_t base, uint32_t parts, uint32_t a);
 
+/* The value of digits, lowest first: the sum of digits[i] * base^i. Of the digits of a value it is that value exactly when nothing was
+   left after them. A base outside 2 to 4294967294 is refused with 31 at place 0, a length outside 1 to 32 with 31 at place 1, and the digits
+   are not read then; digits[i] is place 2 + i. digits is not null. */
+labrador_word_answer labrador_recompose(uint32_t base, const uint32_t *digits, size_t length);
+
+/* The smallest number of parts that leaves nothing of any value: 31 for base 2, 21 for base 3, 1 for base 4294967294. A base outside 2 to
+   4294967294 is refused with 31 at place 0. */
+labrador_word_answer labrador_parts_needed(uint32_t base);
+
 /* The projection's entry that a word stands for: Q - 1 for -1, 1 or 0. */
 labrador_word_answer labrador_projection_entry(uint32_t word);
 

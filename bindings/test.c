@@ -1,4 +1,4 @@
-/* Calls every exported call on the values and refusals of document 01, and on random operands against plain C. */
+/* Calls every exported call on the values and refusals of documents 01 and 02, and on random operands against plain C. */
 #include <stdio.h>
 #include <stdlib.h>
 #include <string.h>
@@ -133,6 +133,48 @@ static void test_digits(void) {
             power = power * base % Q;
         }
         CHECK(r.number == 0 && r.place == 0 && sum == a);
+    }
+}
+
+/* What the digit rule leaves of a size after so many parts. */
+static uint64_t left_of(uint64_t size, uint32_t base, uint32_t parts) {
+    for (uint32_t k = 0; k < parts; k++) size = size / base + (size % base > base / 2);
+    return size;
+}
+
+static void test_recompose(void) {
+    static uint32_t words[1000000];
+    const uint32_t seven[2] = {NEG(1), 2}, minus_seven[2] = {1, NEG(2)}, bad[3] = {1, Q, Q};
+    CHECK(is_word(labrador_recompose(4, seven, 2), 0, 0, 7));
+    CHECK(is_word(labrador_recompose(4, seven, 1), 0, 0, NEG(1)));
+    CHECK(is_word(labrador_recompose(4, minus_seven, 2), 0, 0, 4294967288u));
+    CHECK(is_word(labrador_recompose(4294967294u, seven, 2), 0, 0, NEG(3)));
+    CHECK(is_word(labrador_recompose(1, bad, 3), 31, 0, 0));
+    CHECK(is_word(labrador_recompose(0, words, 0), 31, 0, 0));
+    CHECK(is_word(labrador_recompose(Q, words, 33), 31, 0, 0));
+    CHECK(is_word(labrador_recompose(2, words, 0), 31, 1, 0));
+    words[0] = Q;
+    CHECK(is_word(labrador_recompose(2, words, 33), 31, 1, 0));
+    CHECK(is_word(labrador_recompose(2, words, 1000000), 31, 1, 0));
+    CHECK(is_word(labrador_recompose(2, words, 32), 6, 2, 0));
+    CHECK(is_word(labrador_recompose(2, bad, 3), 6, 3, 0));
+    CHECK(is_word(labrador_recompose(2, bad, 1), 0, 0, 1));
+    CHECK(is_word(labrador_parts_needed(2), 0, 0, 31));
+    CHECK(is_word(labrador_parts_needed(3), 0, 0, 21));
+    CHECK(is_word(labrador_parts_needed(4294967293u), 0, 0, 2));
+    CHECK(is_word(labrador_parts_needed(4294967294u), 0, 0, 1));
+    CHECK(is_word(labrador_parts_needed(0), 31, 0, 0));
+    CHECK(is_word(labrador_parts_needed(1), 31, 0, 0));
+    CHECK(is_word(labrador_parts_needed(Q), 31, 0, 0));
+    for (int n = 0; n < 10000; n++) {
+        /* a value comes back exactly when nothing is left of it */
+        uint32_t a = draw() % Q, base = 2 + draw() % (n % 2 ? 4294967293u : 300u), parts = 1 + draw() % 32;
+        labrador_digits_answer d = labrador_zq_digits(base, parts, a);
+        labrador_word_answer r = labrador_recompose(base, d.digits, parts);
+        CHECK(r.number == 0 && r.place == 0);
+        CHECK((r.value == a) == (left_of(a > 2147483647u ? Q - a : a, base, parts) == 0));
+        uint32_t needed = labrador_parts_needed(base).value;
+        CHECK(left_of(2147483647u, base, needed) == 0 && left_of(2147483647u, base, needed - 1) > 0);
     }
 }
 
@@ -390,6 +432,7 @@ static void test_calls(void) {
 int main(void) {
     test_numbers();
     test_digits();
+    test_recompose();
     test_elements();
     test_random_elements();
     test_rows();

@@ -37,7 +37,7 @@ zneg-sum : (n : ℕ) → zneg n + n ≡ (zneg n + n) / Q * Q
 zneg-sum n = omega arith
 
 -- the same, times b
-zneg-times : (n b : ℕ) → zneg n * b + n * b ≡ (zneg n + n) / Q * b * Q
+pub zneg-times : (n b : ℕ) → zneg n * b + n * b ≡ (zneg n + n) / Q * b * Q
 zneg-times n b = omega (arith, ap (λ x. x * b) (zneg-sum n))
 
 -- one digit and the size that goes on, with the value's sign, make up the size before it modulo Q

@@ -3,6 +3,8 @@ pub mod Cases
 pub mod Modulo
 pub mod Centre
 pub mod Digits
+pub mod Leaf
+pub mod Recompose
 pub mod Challenge
 pub mod ZqRing
 pub mod RqRing

@@ -1,4 +1,4 @@
--- The answers of the calls (document 01, "Who can cause which refusal" and "The verifier's checks, in order"), and what each case of the enums stands for.
+-- The answers of the calls (document 01, "Who can cause which refusal" and "The verifier's checks, in order"; document 02), and what each case of the enums stands for.
 use mathlib.Core.Bool.{cond}
 use mathlib.Core.List.{List, [], _∷_}
 use Prim.Native.Nat.{ℕ, _+_, _*_, _^_}
@@ -103,3 +103,4 @@ ofOperands O.Fit = fine
 ofOperands (O.ParameterOutOfLimits p) = refused 4 p
 ofOperands (O.Word p) = refused 6 p
 ofOperands (O.SignWord p) = refused 8 p
+ofOperands (O.BaseOrParts p) = refused 31 p

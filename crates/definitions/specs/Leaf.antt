@@ -10,9 +10,13 @@ use Rattle.definitions.specs.Answer.{Answer, fine, refused, below, _then
 abbrev pub canonicalWords : List ℕ → Answer
 canonicalWords ws = below Q 6 0 ws
 
+-- a number from its least to its greatest value, else a refusal at its place
+abbrev pub limitedBy : (number least greatest place : ℕ) → ℕ → Answer
+limitedBy number least greatest place x = cond (ltb x least) (refused number place) (cond (ltb greatest x) (refused number place) fine)
+
 -- a parameter from its least to its greatest value, else 4 at its place
 abbrev pub limited : (least greatest place : ℕ) → ℕ → Answer
-limited least greatest place x = cond (ltb x least) (refused 4 place) (cond (ltb greatest x) (refused 4 place) fine)
+limited least greatest place x = limitedBy 4 least greatest place x
 
 -- "digits refuse first a base (place 0) or number of parts (place 1) outside limits with 4; the value starts at place 2"
 abbrev pub digitOperands : ℕ → ℕ → List ℕ → Answer

@@ -6,4 +6,5 @@ pub mod Projection
 pub mod Challenge
 pub mod Answer
 pub mod Leaf
+pub mod Recompose
 pub mod Ring

@@ -68,4 +68,5 @@ pub enum Operands {
     ParameterOutOfLimits(u32),
     Word(u32),
     SignWord(u32),
+    BaseOrParts(u32),
 }

@@ -12,7 +12,7 @@ use lib.ListN.{length, getD, take, drop, length-take, length-drop}
 use lib.Seq.{drop-cons, getD-take, getD-drop}
 use Rattle.definitions.specs.Answer.{Answer, fine, refused, below, _then_}
 use Rattle.protocol.specs.Layout.{Section, part, span, in-range, ranged}
-use Rattle.protocol.proofs.Fine.{below-fine}
+use Rattle.definitions.proofs.Leaf.{below-fine}
 use Rattle.layout.specs.declared.sections.Sections.{Sections}
 use Rattle.layout.specs.Sections.{at-most, section-at, listed, Passed}
 use Rattle.layout.proofs.Walk.{listed-from, listed-past}

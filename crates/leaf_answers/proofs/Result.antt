@@ -17,6 +17,7 @@ is-fine o s e z = by o (sym (ap (λ t. t .number) e) ∙ z)
     by (O.ParameterOutOfLimits p) h = absurd (omega arith)
     by (O.Word p) h = absurd (omega arith)
     by (O.SignWord p) h = absurd (omega arith)
+    by (O.BaseOrParts p) h = absurd (omega arith)
 
 -- with the number 0 the result is the value
 pub kept {ℓ} : {A : Type ℓ} (o : Operands) (s : Status) (value none : A) → s ≡ statusOf (ofOperands o) → s .number ≡ 0 → value ≡ result (ofOperands o) value none
@@ -31,6 +32,7 @@ dropped o s value none e z = by o (λ h. z (ap (λ t. t .number) e ∙ h))
     by (O.ParameterOutOfLimits p) h = refl
     by (O.Word p) h = refl
     by (O.SignWord p) h = refl
+    by (O.BaseOrParts p) h = refl
 
 -- with another number the answer comes before any later one
 pub refused-first : (o : Operands) (s : Status) (later : Answer) → s ≡ statusOf (ofOperands o) → (s .number ≡ 0 → ⊥) → ofOperands o ≡ ofOperands o then later
@@ -41,6 +43,7 @@ refused-first o s later e z = by o (λ h. z (ap (λ t. t .number) e ∙ h))
     by (O.ParameterOutOfLimits p) h = refl
     by (O.Word p) h = refl
     by (O.SignWord p) h = refl
+    by (O.BaseOrParts p) h = refl
 
 -- an answer comes before a fine one
 pub then-fine : (a : Answer) → a ≡ a then fine

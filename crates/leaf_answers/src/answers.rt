@@ -61,6 +61,7 @@ pub fn status_of(o: Operands) -> Status
         Operands::ParameterOutOfLimits(place) => Status { number: 4, place },
         Operands::Word(place) => Status { number: 6, place },
         Operands::SignWord(place) => Status { number: 8, place },
+        Operands::BaseOrParts(place) => Status { number: 31, place },
     }
 }
 

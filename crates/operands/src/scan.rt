@@ -58,5 +58,6 @@ pub fn first(a: Operands, b: Operands) -> Operands
         Operands::ParameterOutOfLimits(p) => Operands::ParameterOutOfLimits(p),
         Operands::Word(p) => Operands::Word(p),
         Operands::SignWord(p) => Operands::SignWord(p),
+        Operands::BaseOrParts(p) => Operands::BaseOrParts(p),
     }
 }

@@ -1,11 +1,9 @@
 -- When an answer is fine.
 use mathlib.Core.Path.{_≡_, refl, ap, _∙_}
-use mathlib.Core.List.{List, [], _∷_}
-use Prim.Native.Nat.{ℕ, suc, _+_, _<_}
+use mathlib.Core.List.{List}
+use Prim.Native.Nat.{ℕ}
 use native.Mathlib.Omega.{arith}
-use borrow.Author.Tests.{lt-ltb}
-use lib.ListN.{length, getD}
-use Rattle.definitions.specs.Answer.{Answer, fine, refused, failed, below, _then_}
+use Rattle.definitions.specs.Answer.{Answer, fine, refused, failed, _then_}
 use Rattle.protocol.specs.Checks.{require}
 
 -- a fact that holds is not complained of
@@ -58,9 +56,3 @@ then-fine-each a b c d e h =
     let three : a then b then c ≡ fine = then-fine-left (a then b then c) d four in
     let two : a then b ≡ fine = then-fine-left (a then b) c three in
     (then-fine-left a b two, then-fine-right a b two, then-fine-right (a then b) c three, then-fine-right (a then b then c) d four, then-fine-right (a then b then c then d) e h)
-
--- words below a limit are in range
-pub below-fine : (limit number place : ℕ) (ws : List ℕ) → ((k : ℕ) → k < length ws → getD ws k 0 < limit) → below limit number place ws ≡ fine
-unfolding below
-below-fine limit number place [] h = refl
-below-fine limit number place (w ∷ ws) h = rw (lt-ltb w limit (h 0 (omega arith))) (below-fine limit number (place + 1) ws (λ k l. h (suc k) (omega arith)))

@@ -11,7 +11,8 @@ use lib.ListN.{length, getD, take, drop, length-append, length-drop}
 use lib.Seq.{take-at, take-append-seam, drop-append-add, drop-at, drop-drop, getD-drop, getD-take}
 use Rattle.definitions.specs.Answer.{fine, refused}
 use Rattle.protocol.specs.Layout.{Range, free, under, Section, part, span, start, sections, counted, layout, in-range, ranged}
-use Rattle.protocol.proofs.Fine.{require-holds, then-both-fine, below-fine}
+use Rattle.definitions.proofs.Leaf.{below-fine}
+use Rattle.protocol.proofs.Fine.{require-holds, then-both-fine}
 
 -- each word is in the range
 abbrev pub InRange : Range → List ℕ → Type 0

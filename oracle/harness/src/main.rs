@@ -9,7 +9,7 @@ use harness::cases::Context;
 use harness::instances::{small, Instance};
 use harness::random::Random;
 use harness::record::Recorder;
-use harness::{replay, rust, slices, unfit, whole};
+use harness::{recompose, replay, rust, slices, unfit, whole};
 use model::Call;
 use std::path::Path;
 use std::process::ExitCode;
@@ -54,6 +54,8 @@ fn compare(seed: u64, count: u64, largest: bool) -> bool {
     let leaf_cases = 500.max(count as usize);
     context.leaves().all(&mut random, leaf_cases, 1);
     context.tally.stage("leaf calls");
+    recompose::all(&mut context.tally, &mut Random::new(seed), leaf_cases);
+    context.tally.stage("digits put together");
     slices::all(&mut context.tally, &mut Random::new(seed), count as usize / 4);
     context.tally.stage("calls of the slice layer");
     let base = whole::base(&mut random, whole::pair_parameters());

@@ -18,6 +18,9 @@ returns-3 c = ap (λ o. statusOf (ofOperands o)) (sym (c .before .o2 .given .1))
 returns-4 : tie.Need-returns-4
 returns-4 c = ap (λ o. statusOf (ofOperands o)) (sym (c .before .o3 .given .1))
 
+returns-5 : tie.Need-returns-5
+returns-5 c = ap (λ o. statusOf (ofOperands o)) (sym (c .before .o4 .given .1))
+
 pub status-of-spec : {M : Type 1} → statement M
 status-of-spec =
     tie.close
@@ -26,7 +29,9 @@ status-of-spec =
     (λ c. search needs)
     (λ c. search needs)
     (λ c. search needs)
+    (λ c. search needs)
     returns
     returns-2
     returns-3
-    returns-4)
+    returns-4
+    returns-5)

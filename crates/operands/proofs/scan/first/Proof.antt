@@ -14,6 +14,9 @@ returns-3 c = ap (λ o. ofOperands o then ofOperands (c .before .before .before 
 returns-4 : tie.Need-returns-4
 returns-4 c = ap (λ o. ofOperands o then ofOperands (c .before .before .before .args .b)) (sym (c .before .a3 .given .1))
 
+returns-5 : tie.Need-returns-5
+returns-5 c = ap (λ o. ofOperands o then ofOperands (c .before .before .before .args .b)) (sym (c .before .a4 .given .1))
+
 pub first-spec : {M : Type 1} → statement M
 first-spec =
     tie.close
@@ -23,6 +26,8 @@ first-spec =
     (λ c. search needs)
     (λ c. search needs)
     (λ c. search needs)
+    (λ c. search needs)
     returns-2
     returns-3
-    returns-4)
+    returns-4
+    returns-5)
