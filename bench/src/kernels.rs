@@ -149,14 +149,14 @@ fn challenge(random: &mut Random) -> Kernel {
 /// A call of the slice layer, with base 256 where there are digits.
 fn slice(random: &mut Random, call: SliceCall, sizes: Vec<usize>) -> Kernel {
     let [first, second] = inputs(random, call, &sizes);
-    let operands = Operands::new(call, [&first, &second, &[]], &sizes, 256);
+    let operands = Operands::new(call, [&first, &second], &sizes, 256);
     let mut out = vec![0; lengths(call, &sizes).1];
     Kernel {
         calls: 1,
         rounds: 200,
         ours: Box::new(move || {
             let fits = slice_call(call, [black_box(&first), &second], &sizes, 256, &mut out);
-            assert_eq!(fits, Some(true));
+            assert!(fits);
             black_box(&out);
         }),
         prepare: Box::new(|| {}),
@@ -216,7 +216,7 @@ fn on_slices(
                 scratch: &mut scratch,
                 output: &mut output,
             };
-            assert!(library::whole(call, handed).is_some_and(|answer| answer.number == number));
+            assert_eq!(library::whole(call, handed).number, number);
         }),
         prepare: Box::new(move || rust::load(&loaded)),
         theirs,
@@ -301,7 +301,7 @@ fn judged(random: &mut Random) -> Kernel {
         rounds: 100,
         ours: Box::new(move || {
             let answer = library::slices::judged([&slices[0], &slices[1], black_box(&slices[2])], 0, 0);
-            assert!(answer.is_some_and(|answer| answer.number == 1 && answer.place == need));
+            assert_eq!((answer.number, answer.place), (1, need));
         }),
         prepare: Box::new(|| {}),
         theirs: Box::new(move || {
@@ -316,71 +316,49 @@ fn judged(random: &mut Random) -> Kernel {
 /// A kernel's name and how its inputs are made.
 pub type Entry = (&'static str, fn(&mut Random) -> Kernel);
 
-/// Every kernel; the calls on whole slices where the library has them.
-pub fn kernels() -> Vec<Entry> {
-    let mut all: Vec<Entry> = vec![
-        ("element product", product),
-        ("product with a number, added to an accumulator", multiply_add),
-        ("digits of an element, base 16, 8 parts", |random| digits(random, 16, 8)),
-        ("digits of an element, base 65536, 2 parts", |random| {
-            digits(random, 65536, 2)
-        }),
-        ("challenge", challenge),
-    ];
-    if library::HAS_SLICE_CALLS {
-        all.extend([
-            (
-                "inner product, n 16",
-                (|random| slice(random, SliceCall::InnerProduct, vec![16])) as fn(&mut Random) -> Kernel,
-            ),
-            ("p, n 16, r 4", |random| {
-                slice(random, SliceCall::Projection, vec![16, 4])
-            }),
-            ("phi'', n 16, r 4, 5 constraints, 4 rows of psi", |random| {
-                slice(random, SliceCall::Phi, vec![4, 16, 5, 4])
-            }),
-            ("u1, r 4, κ and κ1 4, base 256, 4 parts", |random| {
-                slice(random, SliceCall::U1, u1_sizes(4, 4, 4, 4, 4))
-            }),
-            ("tests before the work, 1.7 million words, against a plain scan", judged),
-        ]);
-    }
-    if library::HAS_WHOLE_CALLS {
-        let rows: [Entry; 32] = [
-            ("prove, n 4, r 3", |random| whole(random, Call::Prove, 4, 3)),
-            ("verify, n 4, r 3", |random| whole(random, Call::Verify, 4, 3)),
-            ("prove, n 16, r 4", |random| whole(random, Call::Prove, 16, 4)),
-            ("verify, n 16, r 4", |random| whole(random, Call::Verify, 16, 4)),
-            ("prove, n 64, r 16", |random| whole(random, Call::Prove, 64, 16)),
-            ("verify, n 64, r 16", |random| whole(random, Call::Verify, 64, 16)),
-            ("round 1 (u1), n 16, r 4, against the whole prover", |random| whole(random, Call::Round(1), 16, 4)),
-            ("round 2 (p), n 16, r 4, against the whole prover", |random| whole(random, Call::Round(2), 16, 4)),
-            ("round 3 (b''), n 16, r 4, against the whole prover", |random| whole(random, Call::Round(3), 16, 4)),
-            ("round 4 (u2), n 16, r 4, against the whole prover", |random| whole(random, Call::Round(4), 16, 4)),
-            ("round 5 (z, t, g, h), n 16, r 4, against the whole prover", |random| whole(random, Call::Round(5), 16, 4)),
-            ("verify that fails 21, n 16, r 4", |random| failing(random, 21)),
-            ("verify that fails 22, n 16, r 4", |random| failing(random, 22)),
-            ("verify that fails 23, n 16, r 4", |random| failing(random, 23)),
-            ("verify that fails 24, n 16, r 4", |random| failing(random, 24)),
-            ("verify that fails 25, n 16, r 4", |random| failing(random, 25)),
-            ("verify that fails 26, n 16, r 4", |random| failing(random, 26)),
-            ("verify that fails 27, n 16, r 4", |random| failing(random, 27)),
-            ("verify that fails 28, n 16, r 4", |random| failing(random, 28)),
-            ("verify that fails 29, n 16, r 4", |random| failing(random, 29)),
-            ("prove, n 8, r 4 (growth)", |random| whole(random, Call::Prove, 8, 4)),
-            ("verify, n 8, r 4 (growth)", |random| whole(random, Call::Verify, 8, 4)),
-            ("prove, n 32, r 4 (growth)", |random| whole(random, Call::Prove, 32, 4)),
-            ("verify, n 32, r 4 (growth)", |random| whole(random, Call::Verify, 32, 4)),
-            ("prove, n 64, r 4 (growth)", |random| whole(random, Call::Prove, 64, 4)),
-            ("verify, n 64, r 4 (growth)", |random| whole(random, Call::Verify, 64, 4)),
-            ("prove, n 16, r 2 (growth)", |random| whole(random, Call::Prove, 16, 2)),
-            ("verify, n 16, r 2 (growth)", |random| whole(random, Call::Verify, 16, 2)),
-            ("prove, n 16, r 8 (growth)", |random| whole(random, Call::Prove, 16, 8)),
-            ("verify, n 16, r 8 (growth)", |random| whole(random, Call::Verify, 16, 8)),
-            ("prove, n 16, r 16 (growth)", |random| whole(random, Call::Prove, 16, 16)),
-            ("verify, n 16, r 16 (growth)", |random| whole(random, Call::Verify, 16, 16)),
-        ];
-        all.extend(rows);
-    }
-    all
-}
+/// Every kernel.
+#[rustfmt::skip]
+pub const KERNELS: [Entry; 42] = [
+    ("element product", product),
+    ("product with a number, added to an accumulator", multiply_add),
+    ("digits of an element, base 16, 8 parts", |random| digits(random, 16, 8)),
+    ("digits of an element, base 65536, 2 parts", |random| digits(random, 65536, 2)),
+    ("challenge", challenge),
+    ("inner product, n 16", |random| slice(random, SliceCall::InnerProduct, vec![16])),
+    ("p, n 16, r 4", |random| slice(random, SliceCall::Projection, vec![16, 4])),
+    ("phi'', n 16, r 4, 5 constraints, 4 rows of psi", |random| slice(random, SliceCall::Phi, vec![4, 16, 5, 4])),
+    ("u1, r 4, κ and κ1 4, base 256, 4 parts", |random| slice(random, SliceCall::U1, u1_sizes(4, 4, 4, 4, 4))),
+    ("tests before the work, 1.7 million words, against a plain scan", judged),
+    ("prove, n 4, r 3", |random| whole(random, Call::Prove, 4, 3)),
+    ("verify, n 4, r 3", |random| whole(random, Call::Verify, 4, 3)),
+    ("prove, n 16, r 4", |random| whole(random, Call::Prove, 16, 4)),
+    ("verify, n 16, r 4", |random| whole(random, Call::Verify, 16, 4)),
+    ("prove, n 64, r 16", |random| whole(random, Call::Prove, 64, 16)),
+    ("verify, n 64, r 16", |random| whole(random, Call::Verify, 64, 16)),
+    ("round 1 (u1), n 16, r 4, against the whole prover", |random| whole(random, Call::Round(1), 16, 4)),
+    ("round 2 (p), n 16, r 4, against the whole prover", |random| whole(random, Call::Round(2), 16, 4)),
+    ("round 3 (b''), n 16, r 4, against the whole prover", |random| whole(random, Call::Round(3), 16, 4)),
+    ("round 4 (u2), n 16, r 4, against the whole prover", |random| whole(random, Call::Round(4), 16, 4)),
+    ("round 5 (z, t, g, h), n 16, r 4, against the whole prover", |random| whole(random, Call::Round(5), 16, 4)),
+    ("verify that fails 21, n 16, r 4", |random| failing(random, 21)),
+    ("verify that fails 22, n 16, r 4", |random| failing(random, 22)),
+    ("verify that fails 23, n 16, r 4", |random| failing(random, 23)),
+    ("verify that fails 24, n 16, r 4", |random| failing(random, 24)),
+    ("verify that fails 25, n 16, r 4", |random| failing(random, 25)),
+    ("verify that fails 26, n 16, r 4", |random| failing(random, 26)),
+    ("verify that fails 27, n 16, r 4", |random| failing(random, 27)),
+    ("verify that fails 28, n 16, r 4", |random| failing(random, 28)),
+    ("verify that fails 29, n 16, r 4", |random| failing(random, 29)),
+    ("prove, n 8, r 4 (growth)", |random| whole(random, Call::Prove, 8, 4)),
+    ("verify, n 8, r 4 (growth)", |random| whole(random, Call::Verify, 8, 4)),
+    ("prove, n 32, r 4 (growth)", |random| whole(random, Call::Prove, 32, 4)),
+    ("verify, n 32, r 4 (growth)", |random| whole(random, Call::Verify, 32, 4)),
+    ("prove, n 64, r 4 (growth)", |random| whole(random, Call::Prove, 64, 4)),
+    ("verify, n 64, r 4 (growth)", |random| whole(random, Call::Verify, 64, 4)),
+    ("prove, n 16, r 2 (growth)", |random| whole(random, Call::Prove, 16, 2)),
+    ("verify, n 16, r 2 (growth)", |random| whole(random, Call::Verify, 16, 2)),
+    ("prove, n 16, r 8 (growth)", |random| whole(random, Call::Prove, 16, 8)),
+    ("verify, n 16, r 8 (growth)", |random| whole(random, Call::Verify, 16, 8)),
+    ("prove, n 16, r 16 (growth)", |random| whole(random, Call::Prove, 16, 16)),
+    ("verify, n 16, r 16 (growth)", |random| whole(random, Call::Verify, 16, 16)),
+];

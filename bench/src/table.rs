@@ -1,6 +1,6 @@
 //! The measurements and their table.
 
-use crate::kernels::{kernels, Kernel};
+use crate::kernels::{Entry, Kernel, KERNELS};
 use harness::random::Random;
 use std::process::Command;
 use std::time::Instant;
@@ -21,54 +21,76 @@ fn time(kernel: &mut Kernel) -> (f64, f64) {
     least
 }
 
-/// Runs batches of one side.
-pub fn run_batches(name: &str, side: &str, batches: usize) {
-    let all = kernels();
-    let (_, make) = all.iter().find(|entry| entry.0 == name).expect("a kernel");
+/// What callgrind counts: it is told this name.
+#[no_mangle]
+#[inline(never)]
+fn bench_counted(work: &mut dyn FnMut()) {
+    work();
+}
+
+/// Runs one batch of a side, for callgrind.
+pub fn run_batch(name: &str, side: &str) {
+    let (_, make) = KERNELS.iter().find(|entry| entry.0 == name).expect("a kernel");
     let mut kernel = make(&mut Random::new(1));
-    for _ in 0..batches {
-        if side == "ours" {
-            (kernel.ours)();
-        } else {
-            (kernel.prepare)();
-            (kernel.theirs)();
-        }
+    if side == "ours" {
+        bench_counted(&mut kernel.ours);
+    } else {
+        (kernel.prepare)();
+        bench_counted(&mut kernel.theirs);
     }
 }
 
-/// The instructions that callgrind counts in a number of batches.
-fn collected(name: &str, side: &str, batches: usize) -> Option<u64> {
-    let me = std::env::current_exe().ok()?;
+/// The instructions of a batch of a side.
+fn instructions(name: &str, side: &str) -> f64 {
+    let me = std::env::current_exe().expect("a path");
     let run = Command::new("valgrind")
-        .args(["--tool=callgrind", "--callgrind-out-file=/dev/null"])
+        .args([
+            "--tool=callgrind",
+            "--callgrind-out-file=/dev/null",
+            "--toggle-collect=bench_counted",
+        ])
         .arg(me)
-        .args(["count", name, side, &batches.to_string()])
+        .args(["count", name, side])
         .output()
-        .ok()?;
+        .expect("valgrind is at hand");
     let text = String::from_utf8_lossy(&run.stderr).into_owned();
-    let line = text.lines().find(|line| line.contains("Collected"))?;
-    line.split_whitespace().last()?.parse().ok()
+    let line = text.lines().find(|line| line.contains("Collected"));
+    let count = line
+        .and_then(|line| line.split_whitespace().last())
+        .and_then(|word| word.parse().ok());
+    match count {
+        Some(count) if count > 0.0 => count,
+        _ => panic!("callgrind counted nothing of {name}: {text}"),
+    }
 }
 
-/// The instructions of a call: what further batches add.
-fn instructions(name: &str, calls: usize, side: &str) -> Option<f64> {
-    let (few, many) = if calls == 1 { (1, 2) } else { (4, 12) };
-    let more = collected(name, side, many)?.checked_sub(collected(name, side, few)?)?;
-    Some(more as f64 / ((many - few) * calls) as f64)
+/// The instructions of a call, ours and the Rust's, counted beside each other.
+fn counted(name: &str, calls: f64) -> (f64, f64) {
+    std::thread::scope(|scope| {
+        let ours = scope.spawn(|| instructions(name, "ours"));
+        let theirs = instructions(name, "theirs");
+        (ours.join().expect("a count") / calls, theirs / calls)
+    })
 }
 
+/// Times every kernel whose name starts so, counts then, and prints the table; how far it is goes to the standard error.
 pub fn print(start: &str) {
+    let rows: Vec<&Entry> = KERNELS.iter().filter(|entry| entry.0.starts_with(start)).collect();
+    let mut timed = vec![];
+    for (k, (name, make)) in rows.iter().enumerate() {
+        eprintln!("[{}/{}] times: {name}", k + 1, rows.len());
+        let mut kernel = make(&mut Random::new(1));
+        timed.push((time(&mut kernel), kernel.calls, kernel.rounds));
+    }
     println!("| call | ours, ns | Rust, ns | ratio | ours, instructions | Rust, instructions | ratio |");
     println!("|---|---:|---:|---:|---:|---:|---:|");
-    for (name, make) in kernels().into_iter().filter(|entry| entry.0.starts_with(start)) {
-        let mut kernel = make(&mut Random::new(1));
-        let (ours, theirs) = time(&mut kernel);
+    for (k, ((name, _), ((ours, theirs), calls, rounds))) in rows.iter().zip(&timed).enumerate() {
+        eprintln!("[{}/{}] instructions: {name}", k + 1, rows.len());
         print!("| {name} | {ours:.0} | {theirs:.0} | {:.2} |", ours / theirs);
-        // a call that is timed a few times only is too long for callgrind
-        let count = |side: &str| (kernel.rounds > 20).then(|| instructions(name, kernel.calls, side)).flatten();
-        match (count("ours"), count("theirs")) {
-            (Some(ours), Some(theirs)) => println!(" {ours:.0} | {theirs:.0} | {:.2} |", ours / theirs),
-            _ => println!(" not counted | not counted | |"),
+        // a call that is timed a few times only takes too long under callgrind
+        match (*rounds > 20).then(|| counted(name, *calls as f64)) {
+            Some((ours, theirs)) => println!(" {ours:.0} | {theirs:.0} | {:.2} |", ours / theirs),
+            None => println!(" not counted | not counted | |"),
         }
     }
 }

@@ -7,10 +7,9 @@ use native.Mathlib.Omega.{arith}
 use Rattle.definitions.specs.Answer.{Answer, fine, refused, _then_}
 use Rattle.protocol.specs.Checks.{require}
 use Rattle.protocol.specs.Layout.{Section, layout, ranged}
-use Rattle.protocol.proofs.Fine.{require-holds}
+use Rattle.protocol.proofs.Fine.{require-holds, require-fails}
 use Rattle.layout.specs.declared.slices.Examined.{Examined}
 use Rattle.layout.specs.Sections.{ofExamined}
-use Rattle.layout.proofs.Then.{require-fails}
 use Rattle.protocol.specs.Parameters.{Parameters}
 use Rattle.relation.specs.declared.env_params.EnvironmentParameters.{EnvironmentParameters}
 use Rattle.relation.specs.Parameters.{parametersOf}

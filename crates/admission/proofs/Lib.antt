@@ -1,5 +1,4 @@
 pub mod Stages
-mod Found
-mod Refusals
+pub mod Found
 pub mod Ready
 pub mod Fit

@@ -1,8 +1,7 @@
--- Places of constraints' elements and of rows in a slice, and what stores leave of them.
+-- Places of elements in a slice, and what stores leave of them.
 use mathlib.Core.Path.{_≡_, refl, ap, _∙_}
 use mathlib.Core.List.{List}
 use Prim.Native.Nat.{ℕ, _+_, _*_, _≤_, _<_, _^_}
-use native.Mathlib.Nat.{mul-le-mul-left, mul-le-mul-right}
 use native.Mathlib.Omega.{arith}
 use lib.ListN.{length}
 use Rattle.lists.specs.Part.{splice}
@@ -11,28 +10,12 @@ use Rattle.algebra.specs.Ops.{dot}
 use Rattle.algebra.proofs.Dot.{dot-ext}
 use Rattle.definitions.specs.Ring.{RqOps, element}
 use Rattle.inner_product.specs.Run.{Run, run}
-use Rattle.aggregate.specs.Weighed.{Grid, mixed}
-
--- of a slice shorter than 2^61 words
-pub grid-run : (words : List ℕ) (at width count c : ℕ) → Grid words at width count → length words < 2 ^ 61 → c < width → Run words (at + 64 * c) (64 * width) count
-grid-run words at width count c g short h = record {
-  within = λ m l. omega (arith, g .within, mul-le-mul-left width l);
-  few = omega (arith, g .few);
-  near = omega (arith, g .narrow);
-  first = omega (arith, g .within);
-}
+use Rattle.aggregate_psi.specs.Grid.{Grid}
+use Rattle.aggregate.specs.Weighed.{mixed}
 
 -- n elements one after the other are a run
 pub row-run : (words : List ℕ) (at n : ℕ) → at + 64 * n ≤ length words → n ≤ 2 ^ 20 → length words < 2 ^ 61 → Run words at 64 n
 row-run words at n h few short = record { within = λ m l. omega arith; few = few; near = omega arith; first = omega arith }
-
--- row k of rows of so many elements ends where the rows do, or before
-pub row-within : (at k number width end : ℕ) → k < number → at + 64 * (number * width) ≤ end → at + 64 * (k * width) + 64 * width ≤ end
-row-within at k number width end l h = omega (arith, mul-le-mul-right width l)
-
--- where the next row starts
-pub row-next : (at k width place : ℕ) → place ≡ at + 64 * (k * width) → place + 64 * width ≡ at + 64 * ((k + 1) * width)
-row-next at k width place e = omega arith
 
 -- within any slice of the same length
 pub grid-same : (words others : List ℕ) (at width count : ℕ) → length others ≡ length words → Grid words at width count → Grid others at width count

@@ -14,15 +14,16 @@ use Rattle.definitions.specs.Rq.{Element}
 use Rattle.definitions.specs.Ring.{RqOps, element, scale}
 use Rattle.definitions.proofs.RqRing.{rq-ring}
 use Rattle.inner_product.specs.Run.{run}
-use Rattle.jl.specs.Omega.{omega-element}
-use Rattle.jl.proofs.Formula.{φ″-parts}
+use Rattle.jl_omega.specs.Omega.{omega-element}
+use Rattle.jl_omega.proofs.Formula.{φ″-parts}
 use Rattle.protocol.specs.Parameters.{Parameters, parameters, T}
 use Rattle.protocol.specs.Layout.{start, job-sections, randomness-sections}
 use Rattle.protocol.specs.Views.{Public, public, element-at, cell}
 use Rattle.protocol.specs.Formulas.{flat, rows, sum, _⊕_, _⊗_, a″, φ″, a-sum, φ-sum, b-sum}
 use Rattle.protocol.proofs.Flat.{length-rows, row-cell}
 use Rattle.protocol.proofs.Region.{elements-list, Triangle, Vectors, elements-stored, elements-row, triangle-of, vectors-of}
-use Rattle.aggregate.specs.Weighed.{weighed, both, mixed}
+use Rattle.aggregate_psi.specs.Grid.{weighed}
+use Rattle.aggregate.specs.Weighed.{both, mixed}
 
 -- the place of element c of constraint x, constraints having so many elements
 constraint-place : (at c width x : ℕ) → at + 64 * c + 64 * width * x ≡ at + 64 * (x * width + c)

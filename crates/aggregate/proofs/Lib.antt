@@ -2,4 +2,3 @@ pub mod Grid
 pub mod Sums
 pub mod Laws
 pub mod Formed
-pub mod Fours

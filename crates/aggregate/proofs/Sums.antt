@@ -1,29 +1,18 @@
 -- Elements added to elements that are stored.
-use mathlib.Core.Path.{_≡_, refl, sym, ap, ap₂, _∙_}
-use mathlib.Core.List.{List, _++_, append-nil, append-assoc}
-use Prim.Native.Nat.{ℕ, zero, suc, _+_, _*_, _≤_, _<_}
-use native.Mathlib.Nat.{add-zero, add-suc}
+use mathlib.Core.Path.{_≡_, refl, sym, ap, _∙_}
+use mathlib.Core.List.{List}
+use Prim.Native.Nat.{ℕ, _+_, _*_, _≤_, _<_}
 use native.Mathlib.Omega.{arith}
 use lib.ListN.{length, getD}
 use Rattle.lists.specs.Table.{table, cat}
-use Rattle.lists.specs.Part.{part, splice}
+use Rattle.lists.specs.Part.{splice}
 use Rattle.lists.proofs.Cat.{table-rows, cat-ext}
-use Rattle.lists.proofs.Splice.{splice-again, splice-append, part-splice-after}
-use Rattle.definitions.specs.Rq.{Element, radd}
-use Rattle.definitions.specs.Ring.{RqOps, words, element}
-use Rattle.definitions.proofs.Bridge.{element-words, element-radd, words-element, radd-element}
+use Rattle.lists.proofs.Splice.{splice-again}
+use Rattle.definitions.specs.Rq.{Element}
 use Rattle.protocol.specs.Views.{element-at}
 use Rattle.protocol.specs.Formulas.{flat, rows, _⊕_}
-use Rattle.jl.specs.Omega.{omega-element}
 use Rattle.protocol.proofs.Flat.{length-flat, length-rows, row-cell}
-use Rattle.protocol.proofs.Stored.{flat-append}
 use Rattle.protocol.proofs.Region.{Vectors, elements-list, length-lists, rows-ext, vectors-of}
-use Rattle.aggregate.specs.Weighed.{omega-rows}
-
--- whatever words are stored, the sum is that of their element
-pub words-add-element : (a : List ℕ) (e : Element) → words (RqOps .add (element a) e) ≡ radd a (words e)
-words-add-element a e =
-    ap words (ap (RqOps .add (element a)) (sym (element-words e)) ∙ sym (element-radd a (words e))) ∙ words-element (radd a (words e)) (radd-element a (words e))
 
 -- the number of elements of so many rows of n elements, for each of so many k
 module _ (number r n : ℕ) where
@@ -63,29 +52,3 @@ module _ (number r n : ℕ) where
         where
           whole : rows number (r * n) one ≡ cat number (λ k. table (r * n) (one k))
           whole = unfold rows in refl
-
--- so many lists and so many more
-cat-split : (m n : ℕ) (f : ℕ → List Element) → cat (m + n) f ≡ cat m f ++ cat n (λ q. f (m + q))
-unfolding cat
-cat-split m zero f = ap (λ k. cat k f) (add-zero m) ∙ sym (append-nil (cat m f))
-cat-split m (suc n) f = ap (λ k. cat k f) (add-suc m n) ∙ ap (λ x. x ++ f (m + n)) (cat-split m n f) ∙ append-assoc (cat m f) (cat n (λ q. f (m + q))) (f (m + n))
-
--- so many more lists of w elements stored after the first m
-pub lists-more : (l before : List ℕ) (at m n w : ℕ) (f g : ℕ → List Element) → before ≡ splice l at (flat (cat m f)) → ((k : ℕ) → length (f k) ≡ w) → ((q : ℕ) → g q ≡ f (m + q))
-    → splice before (at + 64 * (m * w)) (flat (cat n g)) ≡ splice l at (flat (cat (m + n) f))
-lists-more l before at m n w f g b h e =
-    ap₂ (λ x y. splice x (at + 64 * (m * w)) (flat y)) b (cat-ext n g (λ q. f (m + q)) (λ q i. e q))
-    ∙ ap (λ j. splice (splice l at (flat (cat m f))) (at + j) (flat (cat n (λ q. f (m + q))))) (sym (length-flat (cat m f) ∙ ap (λ j. 64 * j) (length-lists m w f h)))
-    ∙ splice-append l at (flat (cat m f)) (flat (cat n (λ q. f (m + q))))
-    ∙ ap (splice l at) (sym (flat-append (cat m f) (cat n (λ q. f (m + q)))) ∙ ap flat (sym (cat-split m n f)))
-
--- the omega part for k = m + q is that for q from the omega of m on
-pub omega-rows-from : (R : List ℕ) (pi om from r n m q : ℕ) → from ≡ om + m * 256 → omega-rows R pi from r n q ≡ omega-rows R pi om r n (m + q)
-omega-rows-from R pi om from r n m q e =
-    let place : from + q * 256 ≡ om + (m + q) * 256 = omega arith in
-    ap (λ w. rows r n (λ i. omega-element R (pi + i * 256 * (64 * n)) w n)) place
-
--- what stands after k rows is as it was
-pub rows-rest : (l after : List ℕ) (to k width : ℕ) (f : ℕ → ℕ → Element) (from n : ℕ) → after ≡ splice l to (flat (rows k width f)) → to + 64 * (k * width) ≤ from → part after from n ≡ part l from n
-rows-rest l after to k width f from n e h =
-    ap (λ x. part x from n) e ∙ part-splice-after 0 l to (flat (rows k width f)) from n (omega (arith, length-flat (rows k width f), length-rows k f width))

@@ -1,32 +1,19 @@
--- Elements of constraints that stand one constraint after the other, weighed by numbers or by elements.
+-- The two aggregations over the words of slices: psi and omega, alpha and beta.
 use mathlib.Core.List.{List}
-use Prim.Native.Nat.{ℕ, _+_, _*_, _≤_, _^_}
-use lib.ListN.{length, getD}
+use Prim.Native.Nat.{ℕ, _+_, _*_, _≤_}
+use lib.ListN.{length}
+use Rattle.lists.specs.Table.{table, cat}
 use Rattle.definitions.specs.Rq.{Element}
-use Rattle.definitions.specs.Ring.{scale}
-use Rattle.inner_product.specs.Run.{run}
-use Rattle.jl.specs.Omega.{omega-element}
+use Rattle.inner_product.specs.Run.{Run, run}
+use Rattle.jl_omega.specs.Omega.{omega-element}
 use Rattle.protocol.specs.Parameters.{triangular}
 use Rattle.protocol.specs.Views.{element-at, cell}
-use Rattle.protocol.specs.Formulas.{rows, _⊕_, _⊗_, sum, dot, pairs}
+use Rattle.protocol.specs.Formulas.{flat, rows, _⊕_, _⊗_, dot, pairs}
+use Rattle.aggregate_psi.specs.Grid.{Grid, weighed}
 
--- so many constraints of so many elements each lie within the slice
-pub record Grid (words : List ℕ) (at width count : ℕ) : Type 0 where
-  pub within : at + 64 * (width * count) ≤ length words
-  pub narrow : width ≤ 2 ^ 20
-  pub few : count ≤ 2 ^ 10
-
--- element c of the constraints: x ↦ that of constraint x
-abbrev pub column : List ℕ → (at width c : ℕ) → ℕ → Element
-column words at width c = run words (at + 64 * c) (64 * width)
-
--- element c weighed by the numbers of a row
-unfoldable pub weighed : List ℕ → (at width count : ℕ) → List ℕ → ℕ → ℕ → Element
-weighed words at width count numbers row c = sum count (λ x. scale (column words at width c x) (getD numbers (row + x) 0))
-
--- the omega part of the r vectors for k: their matrices start at the place `pi` of the randomness and the omega of k = 0 at the place `om`
-abbrev pub omega-rows : List ℕ → (pi om r n : ℕ) → ℕ → List Element
-omega-rows randomness pi om r n k = rows r n (λ i. omega-element randomness (pi + i * 256 * (64 * n)) (om + k * 256) n)
+-- the words of the elements weighed by each of so many rows of the numbers
+abbrev pub weighed-words : List ℕ → (at width count : ℕ) → List ℕ → (row number : ℕ) → List ℕ
+weighed-words words at width count numbers row number = flat (rows number width (λ k. weighed words at width count numbers (row + k * count)))
 
 -- element m of vector i of the omega part and the psi part together, for one row of psi and of omega
 unfoldable pub both : List ℕ → (at r n count : ℕ) → List ℕ → (pi psi om : ℕ) → ℕ → ℕ → Element
@@ -50,3 +37,54 @@ pub record Formed (words : List ℕ) (a g φ r n : ℕ) (witness : List ℕ) (s 
   pub vectors : s + 64 * (r * n) ≤ length witness
   pub few : r ≤ 64
   pub narrow : n ≤ 64
+
+-- the words of φ'' of the r vectors for so many k
+abbrev pub φ″-words : List ℕ → (at r n count : ℕ) → List ℕ → (pi psi om number : ℕ) → List ℕ
+φ″-words job at r n count randomness pi psi om number =
+    flat (cat number (λ k. rows r n (both job at r n count randomness pi (psi + k * count) (om + k * 256))))
+
+-- the vectors of so many constraints, the matrices, psi and omega of so many k lie within the slices, and φ'' has room
+abbrev pub Parts : List ℕ → (at r n count : ℕ) → List ℕ → (pi psi om number : ℕ) → List ℕ → ℕ → Type 0
+Parts job at r n count randomness pi psi om number out to =
+    Grid job at (r * n) count
+    × (pi + r * 256 * (64 * n) ≤ length randomness)
+    × (psi + number * count ≤ length randomness)
+    × (om + number * 256 ≤ length randomness)
+    × (to + 64 * (number * (r * n)) ≤ length out)
+    × (r ≤ 64)
+    × (n ≤ 64)
+
+-- the words of b'' of so many k: a'' and φ'' stand one k after the other
+abbrev pub b″-words : List ℕ → (a g φ r n : ℕ) → List ℕ → (s number : ℕ) → List ℕ
+b″-words words a g φ r n witness s number = flat (table number (λ k. formed words (a + 64 * (k * triangular r)) g (φ + 64 * (k * (r * n))) r n witness s))
+
+-- the triangles a'' of so many k, the triangle g and the vectors φ'' of so many k end before a place, after which b'' has room
+abbrev pub FormedRows : List ℕ → (a g φ r n : ℕ) → List ℕ → (s number to : ℕ) → Type 0
+FormedRows words a g φ r n witness s number to =
+    (a + 64 * (number * triangular r) ≤ to)
+    × (g + 64 * triangular r ≤ to)
+    × (φ + 64 * (number * (r * n)) ≤ to)
+    × (to + 64 * number ≤ length words)
+    × (s + 64 * (r * n) ≤ length witness)
+    × (r ≤ 64)
+    × (n ≤ 64)
+
+-- so many constraints' elements and aggregated ones, with their weights, lie within the slices
+abbrev pub Mixable : List ℕ → (at step count : ℕ) → List ℕ → (alpha beta : ℕ) → List ℕ → (from pace number : ℕ) → Type 0
+Mixable constraints at step count weights alpha beta aggregated from pace number =
+    Run constraints at step count × Run weights alpha 64 count × Run weights beta 64 number × Run aggregated from pace number
+
+-- the words of `width` elements mixed
+abbrev pub mixed-words : List ℕ → (at width count : ℕ) → List ℕ → (alpha beta : ℕ) → List ℕ → (from number : ℕ) → List ℕ
+mixed-words job at width count weights alpha beta aggregated from number =
+    flat (table width (λ c. mixed job (at + 64 * c) (64 * width) count weights alpha beta aggregated (from + 64 * c) (64 * width) number))
+
+-- so many constraints and their weights lie within the slices; so do the aggregated ones in the scratch, and after them the result has room
+abbrev pub Aggregates : List ℕ → (at width count : ℕ) → List ℕ → (alpha beta : ℕ) → List ℕ → (from number to : ℕ) → Type 0
+Aggregates job at width count weights alpha beta scratch from number to =
+    Grid job at width count
+    × Run weights alpha 64 count
+    × Run weights beta 64 number
+    × Grid scratch from width number
+    × (from + 64 * (width * number) ≤ to)
+    × (to + 64 * width ≤ length scratch)

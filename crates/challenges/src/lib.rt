@@ -5,13 +5,10 @@ use transcript::challenge;
 ghost use mathlib.Core.Path.{_≡_};
 ghost use Prim.Native.Nat.{_+_, _*_, _≤_};
 ghost use lib.ListN.{length};
-ghost use Rattle.lists.specs.Table.{table};
 ghost use Rattle.lists.specs.Part.{part, splice};
-ghost use Rattle.definitions.specs.Ring.{element};
 ghost use Rattle.definitions.specs.Challenge.{challenge as challenge-of};
-ghost use Rattle.inner_product.specs.Run.{run};
-ghost use Rattle.protocol.specs.Formulas.{_⊗_, sum, flat};
-ghost use Rattle.rq_matrix.specs.Region.{vector};
+ghost use Rattle.protocol.specs.Formulas.{flat};
+ghost use Rattle.challenges.specs.Challenges.{challenges, z-of};
 
 // The challenge of the 41 sign words and the 63 shuffle words from two places on.
 pub fn challenge_at(words: &[u32], signs: usize, shuffle: usize) -> Rq
@@ -31,7 +28,7 @@ pub fn generate_challenges(
     out_at: usize,
 )
     requires { ⌜ («signs_at» + 41 * r ≤ length (now words)) × («shuffle_at» + 63 * r ≤ length (now words)) × («out_at» + 64 * r ≤ length (now out)) ⌝ }
-    ensures { λ _. ⌜ now (out .exit) ≡ splice (now (out .entry)) «out_at» (flat (table r (λ i. element (challenge-of (part (now (words .entry)) («signs_at» + 41 * i) 41) (part (now (words .entry)) («shuffle_at» + 63 * i) 63))))) ⌝ }
+    ensures { λ _. ⌜ now (out .exit) ≡ splice (now (out .entry)) «out_at» (flat (challenges (now (words .entry)) «signs_at» «shuffle_at» r)) ⌝ }
 {
     let mut signs = signs_at;
     let mut shuffle = shuffle_at;
@@ -58,7 +55,7 @@ pub fn compute_z(
     out_at: usize,
 )
     requires { ⌜ («s_at» + 64 * (r * n) ≤ length (now s)) × («c_at» + 64 * r ≤ length (now c)) × («out_at» + 64 * n ≤ length (now out)) × (r ≤ 64) × (n ≤ 64) ⌝ }
-    ensures { λ _. ⌜ now (out .exit) ≡ splice (now (out .entry)) «out_at» (flat (table n (λ m. sum r (λ i. vector (now (s .entry)) «s_at» n i m ⊗ run (now (c .entry)) «c_at» 64 i)))) ⌝ }
+    ensures { λ _. ⌜ now (out .exit) ≡ splice (now (out .entry)) «out_at» (flat (z-of (now (s .entry)) «s_at» (now (c .entry)) «c_at» r n)) ⌝ }
 {
     let mut place = out_at;
     let mut m = 0;

@@ -1,34 +1,14 @@
--- Tests one after the other as a loop makes them, and tests as booleans.
+-- Tests of an order as booleans.
 use mathlib.Core.Path.{_≡_, refl, sym, _∙_, ap}
 use mathlib.Core.Bool.{Bool, true, false, cond}
-use mathlib.Core.Logic.{_⊎_, inl, inr}
-use Prim.Native.Nat.{ℕ, zero, suc, _+_, _≤_, _<_}
-use native.Mathlib.Nat.{not-suc-le-zero, eq-or-lt-of-le}
+use Prim.Native.Nat.{ℕ, _≤_, _<_}
 use native.Mathlib.Decide.{decLe}
-use native.Mathlib.Numerals.{add-one}
 use native.Mathlib.Omega.{arith}
 use borrow.Author.Tests.{leb-true, leb-false}
 use lib.Dec.{leb}
-use Rattle.definitions.specs.Answer.{Answer, fine, refused, _then_}
-use Rattle.protocol.specs.Checks.{require, first}
-use Rattle.protocol.proofs.Fine.{require-holds, then-both-fine}
-
--- one more test that is fine
-pub first-next : (i : ℕ) (f : ℕ → Answer) → first i f ≡ fine → f i ≡ fine → first (i + 1) f ≡ fine
-unfolding first
-first-next i f e g = rw add-one (then-both-fine e g)
-
--- the first test that refuses gives the answer
-pub first-stops : (n i : ℕ) (f : ℕ → Answer) (number place : ℕ) → i < n → first i f ≡ fine → f i ≡ refused number place → first n f ≡ refused number place
-unfolding first
-first-stops zero i f number place h e g = absurd (not-suc-le-zero h)
-first-stops (suc n) i f number place h e g = go (eq-or-lt-of-le h) (first-stops n i f number place)
-  where
-    go : (suc i ≡ suc n) ⊎ (suc i < suc n) → (i < n → first i f ≡ fine → f i ≡ refused number place → first n f ≡ refused number place) → first n f then f n ≡ refused number place
-    go (inl same) ih =
-        let k : i ≡ n = omega arith in
-        ap (λ a. a then f n) (ap (λ j. first j f) (sym k) ∙ e) ∙ ap f (sym k) ∙ g
-    go (inr less) ih = ap (λ a. a then f n) (ih (omega arith) e g)
+use Rattle.definitions.specs.Answer.{Answer, fine}
+use Rattle.protocol.specs.Checks.{require}
+use Rattle.protocol.proofs.Fine.{require-holds}
 
 -- a test of an order as a boolean
 pub require-leb : (a b : ℕ) (answer : Answer) → require (decLe a b) answer ≡ cond (leb a b) fine answer

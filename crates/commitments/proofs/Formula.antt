@@ -1,31 +1,28 @@
 -- What the commitments store and what the norm tests answer is what the protocol's formulas say.
 use mathlib.Core.Path.{_≡_, refl, sym, _∙_, ap, ap₂}
 use mathlib.Core.Bool.{cond}
-use mathlib.Core.List.{List, flatMap}
+use mathlib.Core.List.{List}
 use Prim.Native.Nat.{ℕ, _+_, _*_}
-use native.Mathlib.Decide.{decLe}
 use native.Mathlib.Omega.{arith}
 use lib.Dec.{leb}
 use Rattle.lists.specs.Table.{table}
 use Rattle.lists.proofs.Table.{table-ext}
-use Rattle.lists.proofs.Sum.{Σ-const, Σ-triangle}
+use Rattle.lists.proofs.Sum.{Σ-const}
 use Rattle.lists.proofs.Cat.{cat-ext, cat-runs}
 use Rattle.definitions.specs.Answer.{fine, refused}
 use Rattle.definitions.specs.Rq.{Element}
 use Rattle.inner_product.specs.Run.{run}
-use Rattle.protocol.specs.Checks.{require, first}
+use Rattle.protocol.specs.Checks.{first}
 use Rattle.protocol.specs.Parameters.{Parameters, parameters, triangular}
-use Rattle.protocol.specs.Layout.{start, job-sections, witness-sections, transcript-sections}
-use Rattle.protocol.specs.Views.{public, witness, cell, message}
+use Rattle.protocol.specs.Layout.{start, job-sections, witness-sections}
+use Rattle.protocol.specs.Views.{Public, public, witness, cell}
 use Rattle.protocol.specs.Formulas as F
 use Rattle.protocol.specs.Formulas.{_⊕_, dot, norm-of, rows, triangle, digits-of, times, t-digits, g-digits, h-digits}
 use Rattle.protocol.specs.Prover.{witness-norm, t-norm, g-norm, h-norm}
-use Rattle.protocol.specs.Verifier.{z-parts}
-use Rattle.protocol.proofs.Flat.{cell-lower}
-use Rattle.protocol.proofs.Region.{Vectors, Triangle, rows-ext}
+use Rattle.protocol.proofs.Region.{Vectors, Triangle, rows-ext, triangle-table}
 use Rattle.rq_matrix.specs.Region.{vector}
 use Rattle.commitments.specs.declared.outer_commitments.Digits.{Digits}
-use Rattle.commitments.specs.Cells.{digits-at}
+use Rattle.commitments.specs.Cells.{digits-at, vector-norm}
 use Rattle.commitments.proofs.Answers.{require-leb}
 
 -- r rows of m of the elements f 0, f 1, … are all of them
@@ -35,15 +32,6 @@ rows-table r m f =
     cat-ext r (λ i. table m (λ k. f (i * m + k))) (λ i. table m (λ k. f (_ + k))) (λ i h. ap (λ n. table m (λ k. f (n + k))) (sym (Σ-const i m)))
     ∙ cat-runs r (λ i. m) f
     ∙ ap (λ n. table n f) (Σ-const r m)
-
--- a triangle of r rows of the elements f 0, f 1, … is all of them
-pub triangle-table : (r : ℕ) (f : ℕ → Element) → triangle r (λ i j. f (cell i j)) ≡ table (triangular r) f
-unfolding triangle
-triangle-table r f =
-    cat-ext r (λ i. table (i + 1) (λ j. f (cell i j))) (λ i. table (i + 1) (λ k. f (_ + k)))
-    (λ i h. table-ext (i + 1) (λ j. f (cell i j)) (λ k. f (_ + k)) (λ j l. ap f (cell-lower i j (omega arith) ∙ ap (λ n. n + j) (sym (Σ-triangle i)))))
-    ∙ cat-runs r (λ i. i + 1) f
-    ∙ ap (λ n. table n f) (Σ-triangle r)
 
 -- the cells of vectors in a slice, one after the other
 pub vectors-cells : (ws : List ℕ) (at r m : ℕ) (f : ℕ → ℕ → Element) → Vectors ws at r m f → table (r * m) (run ws at 64) ≡ rows r m f
@@ -62,7 +50,7 @@ abbrev pub digits : ℕ → ℕ → ℕ → Digits
 digits at cells parts = record { at = at; cells = cells; parts = parts }
 
 module _ (J R : List ℕ) where
-  open Parameters (parameters J) using (n, r, κ, b, t₁, t₂, bound-A, bound-B, bound-C, bound-D)
+  open Parameters (parameters J) using (n, r, κ, b, t₁, t₂, bound-A)
 
   -- the places of the job's sections
   abbrev at : ℕ → ℕ
@@ -75,7 +63,7 @@ module _ (J R : List ℕ) where
     t-is = refl
 
     -- 13, as `check_witness` answers it
-    pub witness-norm-is : first r (λ i. require (decLe (norm-of (table n (vector W (start (witness-sections (parameters J)) 0) n i))) bound-A) (refused 13 i)) ≡ witness-norm (public J R) (witness (parameters J) W)
+    pub witness-norm-is : first r (vector-norm W (start (witness-sections (parameters J)) 0) n bound-A) ≡ witness-norm (public J R) (witness (parameters J) W)
     unfolding witness-norm
     witness-norm-is = refl
 
@@ -94,27 +82,40 @@ module _ (J R : List ℕ) where
     unfolding F.u₂-of
     u₂-is h-at h e = ap (λ x k. times (vector J (at 9) (triangular r * t₁)) (digits-of b t₁ x) k) (triangle-cells S h-at r h e)
 
-    -- 14, as `t_within` answers it
-    pub t-norm-is : (t-at : ℕ) (t : ℕ → ℕ → Element) → Vectors S t-at r κ t
-        → t-norm (public J R) t ≡ cond (leb (norm-of (digits-at S (digits t-at (r * κ) t₁) b)) bound-B) fine (refused 14 0)
-    unfolding t-norm
-    t-norm-is t-at t e = require-leb (norm-of (t-digits (public J R) t)) bound-B (refused 14 0) ∙ ap (λ x. cond (leb (norm-of (digits-of b t₁ x)) bound-B) fine (refused 14 0)) (sym (vectors-cells S t-at r κ t e))
+-- the norm tests as `digits_within` answers them; of the public values the parameters alone are read
+module _ (X : Public) (S : List ℕ) where
+  open Parameters (X .P) using (r, κ, b, t₁, t₂, bound-B, bound-C, bound-D)
 
-    -- 15, as `g_within` answers it
-    pub g-norm-is : (g-at : ℕ) (g : ℕ → ℕ → Element) → Triangle S g-at r g
-        → g-norm (public J R) g ≡ cond (leb (norm-of (digits-at S (digits g-at (triangular r) t₂) b)) bound-C) fine (refused 15 0)
-    unfolding g-norm
-    g-norm-is g-at g e = require-leb (norm-of (g-digits (public J R) g)) bound-C (refused 15 0) ∙ ap (λ x. cond (leb (norm-of (digits-of b t₂ x)) bound-C) fine (refused 15 0)) (sym (triangle-cells S g-at r g e))
+  -- 14
+  pub t-norm-of : (t-at : ℕ) (t : ℕ → ℕ → Element) → Vectors S t-at r κ t
+      → t-norm X t ≡ cond (leb (norm-of (digits-at S (digits t-at (r * κ) t₁) b)) bound-B) fine (refused 14 0)
+  unfolding t-norm
+  t-norm-of t-at t e = require-leb (norm-of (t-digits X t)) bound-B (refused 14 0) ∙ ap (λ x. cond (leb (norm-of (digits-of b t₁ x)) bound-B) fine (refused 14 0)) (sym (vectors-cells S t-at r κ t e))
 
-    -- 16, as `h_within` answers it
-    pub h-norm-is : (h-at : ℕ) (h : ℕ → ℕ → Element) → Triangle S h-at r h
-        → h-norm (public J R) h ≡ cond (leb (norm-of (digits-at S (digits h-at (triangular r) t₁) b)) bound-D) fine (refused 16 0)
-    unfolding h-norm
-    h-norm-is h-at h e = require-leb (norm-of (h-digits (public J R) h)) bound-D (refused 16 0) ∙ ap (λ x. cond (leb (norm-of (digits-of b t₁ x)) bound-D) fine (refused 16 0)) (sym (triangle-cells S h-at r h e))
+  -- 15
+  pub g-norm-of : (g-at : ℕ) (g : ℕ → ℕ → Element) → Triangle S g-at r g
+      → g-norm X g ≡ cond (leb (norm-of (digits-at S (digits g-at (triangular r) t₂) b)) bound-C) fine (refused 15 0)
+  unfolding g-norm
+  g-norm-of g-at g e = require-leb (norm-of (g-digits X g)) bound-C (refused 15 0) ∙ ap (λ x. cond (leb (norm-of (digits-of b t₂ x)) bound-C) fine (refused 15 0)) (sym (triangle-cells S g-at r g e))
 
-  -- the two digits of each element of a transcript's z, as check 23 takes them
-  pub z-digits : (X : List ℕ)
-      → digits-at X (digits (start (transcript-sections (parameters J)) 4) n 2) b
-      ≡ flatMap (z-parts (public J R) (message (parameters J) X)) (table n (message (parameters J) X .z))
-  unfolding digits-of table
-  z-digits X = refl
+  -- 16
+  pub h-norm-of : (h-at : ℕ) (h : ℕ → ℕ → Element) → Triangle S h-at r h
+      → h-norm X h ≡ cond (leb (norm-of (digits-at S (digits h-at (triangular r) t₁) b)) bound-D) fine (refused 16 0)
+  unfolding h-norm
+  h-norm-of h-at h e = require-leb (norm-of (h-digits X h)) bound-D (refused 16 0) ∙ ap (λ x. cond (leb (norm-of (digits-of b t₁ x)) bound-D) fine (refused 16 0)) (sym (triangle-cells S h-at r h e))
+
+-- the same of the public values of a job and a randomness
+module _ (J R S : List ℕ) where
+  open Parameters (parameters J) using (r, κ, b, t₁, t₂, bound-B, bound-C, bound-D)
+
+  pub t-norm-is : (t-at : ℕ) (t : ℕ → ℕ → Element) → Vectors S t-at r κ t
+      → t-norm (public J R) t ≡ cond (leb (norm-of (digits-at S (digits t-at (r * κ) t₁) b)) bound-B) fine (refused 14 0)
+  t-norm-is = t-norm-of (public J R) S
+
+  pub g-norm-is : (g-at : ℕ) (g : ℕ → ℕ → Element) → Triangle S g-at r g
+      → g-norm (public J R) g ≡ cond (leb (norm-of (digits-at S (digits g-at (triangular r) t₂) b)) bound-C) fine (refused 15 0)
+  g-norm-is = g-norm-of (public J R) S
+
+  pub h-norm-is : (h-at : ℕ) (h : ℕ → ℕ → Element) → Triangle S h-at r h
+      → h-norm (public J R) h ≡ cond (leb (norm-of (digits-at S (digits h-at (triangular r) t₁) b)) bound-D) fine (refused 16 0)
+  h-norm-is = h-norm-of (public J R) S

@@ -1,12 +1,18 @@
 -- The digits of cells in slices, and where cells and matrices lie.
 use mathlib.Core.List.{List}
 use Prim.Native.Nat.{ℕ, _+_, _*_, _≤_, _<_, _^_}
+use native.Mathlib.Decide.{decLe}
 use lib.ListN.{length, getD}
 use Rattle.lists.specs.Table.{table}
+use Rattle.lists.specs.Part.{part, splice}
+use Rattle.definitions.specs.Answer.{Answer, refused}
 use Rattle.definitions.specs.Zq.{Canonical}
 use Rattle.definitions.specs.Rq.{Element}
+use Rattle.definitions.specs.Ring.{element}
 use Rattle.inner_product.specs.Run.{run}
-use Rattle.protocol.specs.Formulas.{digits-of}
+use Rattle.protocol.specs.Checks.{require}
+use Rattle.protocol.specs.Formulas.{_⊕_, dot, flat, rows, norm-of, digit-element, digits-of, times}
+use Rattle.rq_matrix.specs.Region.{vector}
 use Rattle.commitments.specs.declared.outer_commitments.Digits.{Digits}
 
 -- the digits of a slice's cells in base b, cell after cell
@@ -16,6 +22,42 @@ digits-at words d b = digits-of b (d .parts) (table (d .cells) (run words (d .at
 -- the number of the digits
 abbrev pub width : Digits → ℕ
 width d = d .cells * d .parts
+
+-- "13 norm of s_i above A's bound (i)": the test of vector i of n elements each in a slice
+abbrev pub vector-norm : List ℕ → ℕ → ℕ → ℕ → ℕ → Answer
+vector-norm words at n bound i = require (decLe (norm-of (table n (vector words at n i))) bound) (refused 13 i)
+
+-- as many elements from a place on lie within the slice
+abbrev pub Room : List ℕ → ℕ → ℕ → Type 0
+Room words at count = at + 64 * count ≤ length words
+
+-- a slice with another element added to each of its n elements from a place on
+abbrev pub added : List ℕ → ℕ → ℕ → (ℕ → Element) → List ℕ
+added words at n f = splice words at (flat (table n (λ k. run words at 64 k ⊕ f k)))
+
+-- the digits of the element at a place
+abbrev pub digits-of-element : ℕ → List ℕ → ℕ → ℕ → Element
+digits-of-element b words at = digit-element b (element (part words at 64))
+
+-- the inner product of n elements with those of row k, rows at equal steps
+abbrev pub row-product : List ℕ → ℕ → ℕ → ℕ → (ℕ → Element) → ℕ → Element
+row-product matrix at step n f k = dot n (run matrix (at + step * k) 64) f
+
+-- a matrix times the digits of cells, at row k
+abbrev pub digits-product : List ℕ → ℕ → List ℕ → Digits → ℕ → ℕ → Element
+digits-product matrix at words d b k = times (vector matrix at (width d)) (digits-at words d b) k
+
+-- "t_i = A·s_i": r vectors of n elements at a place, with the rows of a matrix
+abbrev pub commitments-of : List ℕ → ℕ → ℕ → ℕ → List ℕ → ℕ → ℕ → List ℕ
+commitments-of matrix m-at count n vectors at r = flat (rows r count (λ i k. dot n (vector matrix m-at n k) (vector vectors at n i)))
+
+-- "u1 = B·digits(t) + C·digits(g)"
+abbrev pub u1-of : List ℕ → ℕ → ℕ → ℕ → List ℕ → Digits → Digits → ℕ → List ℕ
+u1-of J b-at c-at n words t g b = flat (table n (λ k. digits-product J b-at words t b k ⊕ digits-product J c-at words g b k))
+
+-- "u2 = D·digits(h)"
+abbrev pub u2-of : List ℕ → ℕ → ℕ → List ℕ → Digits → ℕ → List ℕ
+u2-of J d-at n words h b = flat (table n (digits-product J d-at words h b))
 
 -- the cells lie within the slice, and they and their parts are few
 pub record Cells (words : List ℕ) (d : Digits) : Type 0 where

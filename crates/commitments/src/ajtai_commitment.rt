@@ -1,10 +1,8 @@
 // Commitments to vectors (`AjtaiScheme::commit`): a matrix times each of them.
 ghost use mathlib.Core.Path.{_≡_};
-ghost use Prim.Native.Nat.{_+_, _*_, _≤_};
-ghost use lib.ListN.{length};
+ghost use Prim.Native.Nat.{_*_, _≤_};
 ghost use Rattle.lists.specs.Part.{splice};
-ghost use Rattle.protocol.specs.Formulas.{dot, flat, rows};
-ghost use Rattle.rq_matrix.specs.Region.{vector};
+ghost use Rattle.commitments.specs.Cells.{Room, commitments-of};
 
 // The commitments to r vectors of n elements, one after the other: t of the vectors s.
 pub fn commit_all(
@@ -18,8 +16,8 @@ pub fn commit_all(
     out: &mut [u32],
     out_at: usize,
 )
-    requires { ⌜ («m_at» + 64 * (count * n) ≤ length (now matrix)) × (at + 64 * (r * n) ≤ length (now vectors)) × («out_at» + 64 * (r * count) ≤ length (now out)) × (n ≤ 64) × (count ≤ 64) ⌝ }
-    ensures { λ _. ⌜ now (out .exit) ≡ splice (now (out .entry)) «out_at» (flat (rows r count (λ i k. dot n (vector (now (matrix .entry)) «m_at» n k) (vector (now (vectors .entry)) at n i)))) ⌝ }
+    requires { ⌜ Room (now matrix) «m_at» (count * n) × Room (now vectors) at (r * n) × Room (now out) «out_at» (r * count) × (n ≤ 64) × (count ≤ 64) ⌝ }
+    ensures { λ _. ⌜ now (out .exit) ≡ splice (now (out .entry)) «out_at» (commitments-of (now (matrix .entry)) «m_at» count n (now (vectors .entry)) at r) ⌝ }
 {
     let step = 64 * n;
     let out_step = 64 * count;

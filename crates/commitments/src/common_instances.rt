@@ -1,42 +1,30 @@
-// The norm bounds of the four commitments, three words each in the job's first section.
+// The norm bounds of the commitments: of the vectors that A commits to, and of the digits that B, C and D do.
 use crate::outer_commitments::Digits;
 use definitions::answers::Proved;
 use definitions::answers::Refusal;
+use definitions::answers::U128;
 use rq_vector::bound;
 use rq_vector::norm;
 ghost use mathlib.Core.Path.{_≡_};
 ghost use Prim.Native.Nat.{_+_, _*_, _≤_, _<_, _^_};
-ghost use native.Mathlib.Decide.{decLe};
 ghost use lib.Dec.{leb};
 ghost use lib.ListN.{length};
-ghost use Rattle.lists.specs.Table.{table};
-ghost use Rattle.definitions.specs.Answer.{refused, ofProved};
-ghost use Rattle.protocol.specs.Checks.{require, first};
-ghost use Rattle.protocol.specs.Parameters.{three-words, parameters};
+ghost use Rattle.definitions.specs.Answer.{value128, ofProved};
+ghost use Rattle.protocol.specs.Checks.{first};
 ghost use Rattle.protocol.specs.Formulas.{norm-of};
-ghost use Rattle.rq_matrix.specs.Region.{vector};
-ghost use Rattle.commitments.specs.Cells.{digits-at, Cells};
+ghost use Rattle.commitments.specs.Cells.{digits-at, vector-norm, Cells};
 
-// The places of the bounds of A, B, C and D.
-pub const BOUND_A: usize = 18;
-
-pub const BOUND_B: usize = 21;
-
-pub const BOUND_C: usize = 24;
-
-pub const BOUND_D: usize = 27;
-
-// 13: the first of r vectors of n elements whose norm is above A's bound.
-pub fn check_witness(job: &[u32], witness: &[u32], at: usize, n: usize, r: usize) -> Proved
-    requires { ⌜ (30 ≤ length (now job)) × (at + 64 * (r * n) ≤ length (now witness)) × (n ≤ 2 ^ 20) ⌝ }
-    ensures { λ result. ⌜ ofProved result ≡ first r (λ i. require (decLe (norm-of (table n (vector (now (witness .entry)) at n i))) (parameters (now (job .entry)) .bound-A)) (refused 13 i)) ⌝ }
+// 13: the first of r vectors of n elements whose norm is above the bound.
+pub fn check_witness(witness: &[u32], at: usize, n: usize, r: usize, bound: U128) -> Proved
+    requires { ⌜ (at + 64 * (r * n) ≤ length (now witness)) × (n ≤ 2 ^ 20) ⌝ }
+    ensures { λ result. ⌜ ofProved result ≡ first r (vector-norm (now (witness .entry)) at n (value128 bound)) ⌝ }
 {
     let step = 64 * n;
     let mut place = at;
     let mut i = 0;
     while i < r {
         let total = norm::elements_norm(witness, place, n);
-        if bound::within(total, job, BOUND_A) {
+        if bound::at_most(total, bound) {
             place += step;
             i += 1;
         } else {
@@ -46,35 +34,11 @@ pub fn check_witness(job: &[u32], witness: &[u32], at: usize, n: usize, r: usize
     Proved::Made
 }
 
-// Whether the norm of the digits is at most the job's bound at a place.
-fn digits_within(job: &[u32], bound_at: usize, from: &[u32], d: Digits, base: u32) -> bool
-    requires { ⌜ («bound_at» + 3 ≤ length (now job)) × Cells (now from) d × (1 < base) ⌝ }
-    ensures { λ r. ⌜ r ≡ leb (norm-of (digits-at (now (from .entry)) d base)) (three-words (now (job .entry)) «bound_at») ⌝ }
+// 14 to 16: whether the norm of the digits is at most a bound.
+pub fn digits_within(from: &[u32], d: Digits, base: u32, bound: U128) -> bool
+    requires { ⌜ Cells (now from) d × (1 < base) ⌝ }
+    ensures { λ r. ⌜ r ≡ leb (norm-of (digits-at (now (from .entry)) d base)) (value128 bound) ⌝ }
 {
     let total = norm::digits_norm(from, d.at, d.cells, base, d.parts);
-    bound::within(total, job, bound_at)
-}
-
-// 14: whether the norm of the digits of t is at most B's bound.
-pub fn t_within(job: &[u32], from: &[u32], t: Digits, base: u32) -> bool
-    requires { ⌜ (30 ≤ length (now job)) × Cells (now from) t × (1 < base) ⌝ }
-    ensures { λ r. ⌜ r ≡ leb (norm-of (digits-at (now (from .entry)) t base)) (parameters (now (job .entry)) .bound-B) ⌝ }
-{
-    digits_within(job, BOUND_B, from, t, base)
-}
-
-// 15: whether the norm of the digits of g is at most C's bound.
-pub fn g_within(job: &[u32], from: &[u32], g: Digits, base: u32) -> bool
-    requires { ⌜ (30 ≤ length (now job)) × Cells (now from) g × (1 < base) ⌝ }
-    ensures { λ r. ⌜ r ≡ leb (norm-of (digits-at (now (from .entry)) g base)) (parameters (now (job .entry)) .bound-C) ⌝ }
-{
-    digits_within(job, BOUND_C, from, g, base)
-}
-
-// 16: whether the norm of the digits of h is at most D's bound.
-pub fn h_within(job: &[u32], from: &[u32], h: Digits, base: u32) -> bool
-    requires { ⌜ (30 ≤ length (now job)) × Cells (now from) h × (1 < base) ⌝ }
-    ensures { λ r. ⌜ r ≡ leb (norm-of (digits-at (now (from .entry)) h base)) (parameters (now (job .entry)) .bound-D) ⌝ }
-{
-    digits_within(job, BOUND_D, from, h, base)
+    bound::at_most(total, bound)
 }

@@ -4,13 +4,9 @@ use rq_vector::vector::zero;
 ghost use mathlib.Core.Path.{_≡_};
 ghost use Prim.Native.Nat.{_+_, _*_, _≤_, _<_, _^_};
 ghost use lib.ListN.{length};
-ghost use Rattle.lists.specs.Table.{table};
-ghost use Rattle.lists.specs.Part.{part, splice};
-ghost use Rattle.definitions.specs.Ring.{element};
+ghost use Rattle.lists.specs.Part.{splice};
 ghost use Rattle.inner_product.specs.Run.{run};
-ghost use Rattle.protocol.specs.Formulas.{_⊕_, dot, flat, digit-element, times};
-ghost use Rattle.rq_matrix.specs.Region.{vector};
-ghost use Rattle.commitments.specs.Cells.{digits-at, width, Cells, Blocks, CanonicalFrom};
+ghost use Rattle.commitments.specs.Cells.{width, Room, added, row-product, digits-of-element, digits-product, u1-of, u2-of, Cells, Blocks, CanonicalFrom};
 
 // The digits of `cells` elements from `at` on, each element in `parts` digits.
 pub struct Digits {
@@ -30,8 +26,8 @@ pub fn add_products(
     out: &mut [u32],
     out_at: usize,
 )
-    requires { ⌜ Blocks (now matrix) «m_at» «m_step» (64 * n) rows × (64 * n ≤ length (now v)) × («out_at» + 64 * rows ≤ length (now out)) × (n ≤ 2 ^ 20) ⌝ }
-    ensures { λ _. ⌜ now (out .exit) ≡ splice (now (out .entry)) «out_at» (flat (table rows (λ k. run (now (out .entry)) «out_at» 64 k ⊕ dot n (run (now (matrix .entry)) («m_at» + «m_step» * k) 64) (run (now (v .entry)) 0 64)))) ⌝ }
+    requires { ⌜ Blocks (now matrix) «m_at» «m_step» (64 * n) rows × (64 * n ≤ length (now v)) × Room (now out) «out_at» rows × (n ≤ 2 ^ 20) ⌝ }
+    ensures { λ _. ⌜ now (out .exit) ≡ added (now (out .entry)) «out_at» rows (row-product (now (matrix .entry)) «m_at» «m_step» n (run (now (v .entry)) 0 64)) ⌝ }
 {
     let mut row = m_at;
     let mut place = out_at;
@@ -59,8 +55,8 @@ pub fn add_cell(
     out: &mut [u32],
     out_at: usize,
 )
-    requires { ⌜ Blocks (now matrix) «m_at» «m_step» (64 * parts) rows × (at + 64 ≤ length (now from)) × («out_at» + 64 * rows ≤ length (now out)) × (1 < base) × (parts ≤ 32) ⌝ }
-    ensures { λ _. ⌜ now (out .exit) ≡ splice (now (out .entry)) «out_at» (flat (table rows (λ k. run (now (out .entry)) «out_at» 64 k ⊕ dot parts (run (now (matrix .entry)) («m_at» + «m_step» * k) 64) (digit-element base (element (part (now (from .entry)) at 64)))))) ⌝ }
+    requires { ⌜ Blocks (now matrix) «m_at» «m_step» (64 * parts) rows × (at + 64 ≤ length (now from)) × Room (now out) «out_at» rows × (1 < base) × (parts ≤ 32) ⌝ }
+    ensures { λ _. ⌜ now (out .exit) ≡ added (now (out .entry)) «out_at» rows (row-product (now (matrix .entry)) «m_at» «m_step» parts (digits-of-element base (now (from .entry)) at)) ⌝ }
 {
     let mut digits = [0u32; 2048];
     digits::decompose_to(from, at, base, parts, &mut digits, 0);
@@ -78,8 +74,8 @@ pub fn add_cells(
     out: &mut [u32],
     out_at: usize,
 )
-    requires { ⌜ («m_at» + 64 * (rows * width d) ≤ length (now matrix)) × Cells (now from) d × (1 < base) × («out_at» + 64 * rows ≤ length (now out)) × CanonicalFrom (now out) «out_at» (64 * rows) ⌝ }
-    ensures { λ _. ⌜ now (out .exit) ≡ splice (now (out .entry)) «out_at» (flat (table rows (λ k. run (now (out .entry)) «out_at» 64 k ⊕ times (vector (now (matrix .entry)) «m_at» (width d)) (digits-at (now (from .entry)) d base) k))) ⌝ }
+    requires { ⌜ Room (now matrix) «m_at» (rows * width d) × Cells (now from) d × (1 < base) × Room (now out) «out_at» rows × CanonicalFrom (now out) «out_at» (64 * rows) ⌝ }
+    ensures { λ _. ⌜ now (out .exit) ≡ added (now (out .entry)) «out_at» rows (digits-product (now (matrix .entry)) «m_at» (now (from .entry)) d base) ⌝ }
 {
     let cells = d.cells;
     let parts = d.parts;
@@ -120,8 +116,8 @@ pub fn compute_u1(
     out: &mut [u32],
     out_at: usize,
 )
-    requires { ⌜ («b_at» + 64 * (rows * width t) ≤ length (now job)) × Cells (now from) t × («c_at» + 64 * (rows * width g) ≤ length (now job)) × Cells (now from) g × (1 < base) × («out_at» + 64 * rows ≤ length (now out)) ⌝ }
-    ensures { λ _. ⌜ now (out .exit) ≡ splice (now (out .entry)) «out_at» (flat (table rows (λ k. times (vector (now (job .entry)) «b_at» (width t)) (digits-at (now (from .entry)) t base) k ⊕ times (vector (now (job .entry)) «c_at» (width g)) (digits-at (now (from .entry)) g base) k))) ⌝ }
+    requires { ⌜ Room (now job) «b_at» (rows * width t) × Cells (now from) t × Room (now job) «c_at» (rows * width g) × Cells (now from) g × (1 < base) × Room (now out) «out_at» rows ⌝ }
+    ensures { λ _. ⌜ now (out .exit) ≡ splice (now (out .entry)) «out_at» (u1-of (now (job .entry)) «b_at» «c_at» rows (now (from .entry)) t g base) ⌝ }
 {
     zero(out, out_at, rows);
     add_cells(job, b_at, rows, from, t, base, out, out_at);
@@ -139,8 +135,8 @@ pub fn compute_u2(
     out: &mut [u32],
     out_at: usize,
 )
-    requires { ⌜ («d_at» + 64 * (rows * width h) ≤ length (now job)) × Cells (now from) h × (1 < base) × («out_at» + 64 * rows ≤ length (now out)) ⌝ }
-    ensures { λ _. ⌜ now (out .exit) ≡ splice (now (out .entry)) «out_at» (flat (table rows (times (vector (now (job .entry)) «d_at» (width h)) (digits-at (now (from .entry)) h base)))) ⌝ }
+    requires { ⌜ Room (now job) «d_at» (rows * width h) × Cells (now from) h × (1 < base) × Room (now out) «out_at» rows ⌝ }
+    ensures { λ _. ⌜ now (out .exit) ≡ splice (now (out .entry)) «out_at» (u2-of (now (job .entry)) «d_at» rows (now (from .entry)) h base) ⌝ }
 {
     zero(out, out_at, rows);
     add_cells(job, d_at, rows, from, h, base, out, out_at);

@@ -1,7 +1,7 @@
--- Laws of the remainder by a modulus m: a factor, a term or a sum may be reduced first, and differences modulo m.
+-- Laws of the remainder by a modulus m: a factor, a term or a sum may be reduced first, and differences modulo m. The two parts of a number of two u64.
 use mathlib.Core.Path.{_≡_, sym, ap, _∙_}
-use Prim.Native.Nat.{ℕ, _+_, _-_, _*_, _/_, _%_, _<_}
-use native.Mathlib.Nat.{mod-add-mod, add-mod-mod, mod-add-div', add-mul-mod-self-right, mul-mod-left, mod-lt, mod-mod, add-assoc, add-right-comm, add-zero, mul-comm}
+use Prim.Native.Nat.{ℕ, _+_, _-_, _*_, _/_, _%_, _^_, _<_}
+use native.Mathlib.Nat.{mod-add-mod, add-mod-mod, mod-add-div', add-mul-mod-self-right, mul-mod-left, mod-lt, mod-mod, add-assoc, add-right-comm, add-zero, mul-comm, mul-add-div-right, div-eq-of-lt, mul-add-mod-self-right, mod-eq-of-lt}
 use native.Mathlib.Omega.{arith}
 
 -- a factor on the left reduced first
@@ -47,3 +47,11 @@ module _ (m : ℕ) (pos : 0 < m) where
   -- the negative of a reduced number is that of the number
   pub neg-mod : (y : ℕ) → (m - y % m % m) % m ≡ (m - y % m) % m
   neg-mod y = ap (λ k. (m - k) % m) (mod-mod y m)
+
+-- the upper part of hi · 2^64 + lo
+pub upper-part : (hi lo : ℕ) → lo < 2 ^ 64 → hi ≡ (hi * 2 ^ 64 + lo) / 2 ^ 64
+upper-part hi lo h = sym (mul-add-div-right {m = 2 ^ 64} (omega arith) hi lo ∙ ap (λ n. hi + n) (div-eq-of-lt h) ∙ add-zero hi)
+
+-- and its lower part
+pub lower-part : (hi lo : ℕ) → lo < 2 ^ 64 → lo ≡ (hi * 2 ^ 64 + lo) % 2 ^ 64
+lower-part hi lo h = sym (mul-add-mod-self-right hi (2 ^ 64) lo ∙ mod-eq-of-lt h)

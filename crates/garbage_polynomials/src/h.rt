@@ -2,16 +2,14 @@
 use rq::rq::Rq;
 use rq_matrix::vector_at;
 ghost use mathlib.Core.Path.{_≡_};
-ghost use Prim.Native.Nat.{_+_, _*_, _≤_, _<_};
+ghost use Prim.Native.Nat.{_+_, _*_, _≤_};
 ghost use lib.ListN.{length};
 ghost use Rattle.lists.specs.Table.{table};
 ghost use Rattle.lists.specs.Part.{splice};
 ghost use Rattle.definitions.specs.Ring.{words};
 ghost use Rattle.inner_product.specs.Run.{run};
-ghost use Rattle.protocol.specs.Parameters.{triangular};
 ghost use Rattle.protocol.specs.Formulas.{_⊕_, dot, flat, triangle};
-ghost use Rattle.rq_matrix.specs.Region.{Apart};
-ghost use Rattle.garbage_polynomials.specs.Garbage.{h-of};
+ghost use Rattle.garbage_polynomials.specs.Garbage.{h-of, RowFits, TriangleFits};
 
 // One cell, from the places of its four vectors.
 pub fn h_cell(
@@ -42,7 +40,7 @@ pub fn h_row(
     phi_at: usize,
     out_at: usize,
 )
-    requires { ⌜ («s_at» + 64 * (r * n) ≤ length (now s)) × («phi_at» + 64 * (r * n) ≤ length (now scratch)) × («out_at» + 64 * (i + 1) ≤ length (now scratch)) × Apart «phi_at» (64 * (r * n)) «out_at» (64 * (i + 1)) × (i < r) × (r ≤ 64) × (n ≤ 64) ⌝ }
+    requires { ⌜ RowFits (now s) «s_at» r n i (now scratch) «phi_at» «out_at» ⌝ }
     ensures { λ _. ⌜ now (scratch .exit) ≡ splice (now (scratch .entry)) «out_at» (flat (table (i + 1) (h-of (now (scratch .entry)) «phi_at» (now (s .entry)) «s_at» n i))) ⌝ }
 {
     let s_i = vector_at(s_at, n, i);
@@ -71,7 +69,7 @@ pub fn compute_h(
     phi_at: usize,
     out_at: usize,
 )
-    requires { ⌜ («s_at» + 64 * (r * n) ≤ length (now s)) × («phi_at» + 64 * (r * n) ≤ length (now scratch)) × («out_at» + 64 * triangular r ≤ length (now scratch)) × Apart «phi_at» (64 * (r * n)) «out_at» (64 * triangular r) × (r ≤ 64) × (n ≤ 64) ⌝ }
+    requires { ⌜ TriangleFits (now s) «s_at» r n (now scratch) «phi_at» «out_at» ⌝ }
     ensures { λ _. ⌜ now (scratch .exit) ≡ splice (now (scratch .entry)) «out_at» (flat (triangle r (h-of (now (scratch .entry)) «phi_at» (now (s .entry)) «s_at» n))) ⌝ }
 {
     let mut place = out_at;

@@ -16,3 +16,7 @@ pub record Run (words : List ℕ) (at step n : ℕ) : Type 0 where
   pub few : n ≤ 2 ^ 20
   pub near : step ≤ 2 ^ 40
   pub first : at ≤ 2 ^ 62
+
+-- n elements one after the other have room in the slice from a place on
+abbrev pub Room : List ℕ → (at n : ℕ) → Type 0
+Room words at n = at + 64 * n ≤ length words

@@ -22,7 +22,7 @@ pub fn inner_product(
     requires { ⌜ Run (now x) «x_at» «x_step» n × Run (now y) «y_at» «y_step» n ⌝ }
     ensures { λ r. ⌜ r .coeffs ≡ words (dot RqOps n (run (now (x .entry)) «x_at» «x_step») (run (now (y .entry)) «y_at» «y_step»)) ⌝ }
 {
-    let mut totals = [0u64; 64];
+    let mut totals = [0u64; Rq::DEGREE];
     let mut i = x_at;
     let mut j = y_at;
     let mut m = 0;
@@ -52,7 +52,7 @@ pub fn linear_combination(
     requires { ⌜ Run (now x) «x_at» «x_step» n × (at + n ≤ length (now factors)) ⌝ }
     ensures { λ r. ⌜ r .coeffs ≡ words (sum RqOps n (λ m. scale (run (now (x .entry)) «x_at» «x_step» m) (getD (now (factors .entry)) (at + m) 0))) ⌝ }
 {
-    let mut totals = [0u64; 64];
+    let mut totals = [0u64; Rq::DEGREE];
     let mut i = x_at;
     let mut m = 0;
     while m < n {

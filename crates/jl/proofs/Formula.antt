@@ -1,8 +1,8 @@
 -- Over slices and over the protocol's values: the projection of all vectors is p, the omega part that of φ''. Runs of vectors add up.
-use mathlib.Core.Path.{_≡_, sym, ap, ap₂, _∙_}
+use mathlib.Core.Path.{_≡_, sym, ap, _∙_}
 use mathlib.Core.List.{List}
 use Prim.Native.Nat.{ℕ, _+_, _-_, _*_, _/_, _%_, _≤_, _<_}
-use native.Mathlib.Nat.{add-assoc, mod-lt, zero-add, sub-zero, mod-add-mod, add-mod-mod}
+use native.Mathlib.Nat.{mod-lt, zero-add, sub-zero, mod-add-mod, add-mod-mod}
 use native.Mathlib.Omega.{arith}
 use lib.ListN.{getD}
 use Rattle.lists.specs.Sum.{Σ}
@@ -10,19 +10,17 @@ use Rattle.lists.specs.Table.{table}
 use Rattle.lists.proofs.Sum.{Σ-ext, Σ-split, Σ-mod-ext}
 use Rattle.lists.proofs.Table.{getD-table, table-ext}
 use Rattle.lists.proofs.Splice.{getD-part}
-use Rattle.algebra.proofs.Sum.{sum-ext}
 use Rattle.definitions.specs.Zq.{Q, zadd}
 use Rattle.definitions.specs.Projection.{entry}
 use Rattle.definitions.specs.Rq.{coeff}
-use Rattle.definitions.specs.Ring.{RqOps, words, element, scale, conj}
+use Rattle.definitions.specs.Ring.{words, element}
 use Rattle.definitions.proofs.Modulo.{mul-mod-second}
 use Rattle.protocol.specs.Parameters.{Parameters, parameters}
 use Rattle.protocol.specs.Layout.{part, start, randomness-sections, witness-sections}
 use Rattle.protocol.specs.Views.{public, witness}
-use Rattle.protocol.specs.Formulas.{_⊕_, sum, coefficient, projection, p, Π-row, φ″}
+use Rattle.protocol.specs.Formulas.{coefficient, projection, p}
 use Rattle.jl.specs.Rows.{row-sum}
 use Rattle.jl.specs.Run.{vector-row, run-row, run}
-use Rattle.jl.specs.Omega.{row-element, omega-element}
 
 -- a word of the element of a part is the list's, reduced
 element-word : (l : List ℕ) (at k : ℕ) → k < 64 → coeff (words (element (part l at 64))) k ≡ getD l (at + k) 0 % Q
@@ -73,43 +71,6 @@ module _ (J R W : List ℕ) where
   -- the run of all vectors is p
   pub run-is-p : run R (start (randomness-sections (parameters J)) 0) W (start (witness-sections (parameters J)) 0) (parameters J .n) 0 (parameters J .r) ≡ table 256 (p (public J R) (witness (parameters J) W))
   run-is-p = table-ext 256 _ (p (public J R) (witness (parameters J) W)) (λ j h. p-row j)
-
--- word c of row j of vector i
-row-place : (pi i j w c : ℕ) → pi + i * 256 * w + j * w + c ≡ pi + ((i * 256 + j) * w + c)
-row-place pi i j w c = omega arith
-
--- the omega part of φ'' of vector i for k, from the place of the vector's first row and that of k's omega
-pub omega-is : (J R : List ℕ) (i k m : ℕ)
-    → omega-element R (start (randomness-sections (parameters J)) 0 + i * 256 * (64 * parameters J .n)) (start (randomness-sections (parameters J)) 2 + k * 256) (parameters J .n) m
-    ≡ sum 256 (λ j. scale (conj (Π-row (public J R) i j m)) (public J R .omega k j))
-unfolding omega-element Π-row
-omega-is J R i k m =
-    sum-ext RqOps 256
-    (λ j. scale (conj (row-element R (pi + i * 256 * w + j * w) m)) (getD R (om + k * 256 + j) 0))
-    (λ j. scale (conj (Π-row (public J R) i j m)) (public J R .omega k j))
-    (λ j h. ap₂ (λ e o. scale (conj (element e)) o) (entries j) (ap (λ x. getD R x 0) (add-assoc om (k * 256) j)))
-  where
-    pi : ℕ
-    pi = start (randomness-sections (parameters J)) 0
-
-    om : ℕ
-    om = start (randomness-sections (parameters J)) 2
-
-    w : ℕ
-    w = 64 * parameters J .n
-
-    entries : (j : ℕ) → table 64 (λ q. entry (getD R (pi + i * 256 * w + j * w + (64 * m + q)) 0)) ≡ table 64 (λ q. entry (getD R (pi + ((i * 256 + j) * w + (64 * m + q))) 0))
-    entries j =
-        table-ext 64 (λ q. entry (getD R (pi + i * 256 * w + j * w + (64 * m + q)) 0)) (λ q. entry (getD R (pi + ((i * 256 + j) * w + (64 * m + q))) 0))
-        (λ q l. ap (λ x. entry (getD R x 0)) (row-place pi i j w (64 * m + q)))
-
--- φ'' is the part of psi and the omega part
-pub φ″-parts : (J R : List ℕ) (i k m : ℕ)
-    → φ″ (public J R) k i m
-    ≡ sum (parameters J .l) (λ x. scale (public J R .φ′ x i m) (public J R .psi k x))
-    ⊕ omega-element R (start (randomness-sections (parameters J)) 0 + i * 256 * (64 * parameters J .n)) (start (randomness-sections (parameters J)) 2 + k * 256) (parameters J .n) m
-unfolding φ″
-φ″-parts J R i k m = ap (λ e. sum (parameters J .l) (λ x. scale (public J R .φ′ x i m) (public J R .psi k x)) ⊕ e) (sym (omega-is J R i k m))
 
 -- two runs, one after the other, add up to the run of both
 pub runs-add : (R : List ℕ) (pi : ℕ) (W : List ℕ) (s n first mid end j : ℕ) → first ≤ mid → mid ≤ end

@@ -1,4 +1,2 @@
 pub mod Rows
 pub mod Run
-pub mod Omega
-pub mod Fours

@@ -1,4 +1,2 @@
-// The projection (core/jl.rs) and its part of the aggregated φ'' (core/aggregate.rs).
-pub mod fours;
-pub mod omega;
+// The projection (core/jl.rs).
 pub mod projection;

@@ -1,5 +1,6 @@
 // p, the projection of the witness: sums of words where the projection's entry is 1 and of their negatives where it is −1.
 // A slice is passed whole, with the place of what is read or written.
+use zq::zq::Zq;
 ghost use mathlib.Core.Path.{_≡_};
 ghost use Prim.Native.Nat.{_+_, _*_, _%_, _≤_, _<_};
 ghost use lib.ListN.{length};
@@ -9,7 +10,7 @@ ghost use Rattle.jl.specs.Rows.{term, row-sum};
 ghost use Rattle.jl.specs.Run.{run-row, run, Within};
 
 // Q as a u64.
-const MODULUS: u64 = 4294967295;
+const MODULUS: u64 = Zq::Q as u64;
 
 // The word, its negative or 0, as the projection word's entry is 1, −1 or 0. Q less a word is the word with each bit changed.
 pub fn term(code: u32, word: u32) -> u32

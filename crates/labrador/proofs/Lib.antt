@@ -1,4 +1,1 @@
-mod Result
-mod Owned
-pub mod Rows
 mod Lengths

@@ -1,15 +1,15 @@
 // The exported calls on whole slices: the prover, its five rounds and the verifier.
-use crate::verdicts;
-use crate::verdicts::LabradorAnswer;
-use crate::verdicts::LabradorVerdict;
 use admission::calls::Call;
+use call_answers::verdicts;
+use call_answers::verdicts::LabradorAnswer;
+use call_answers::verdicts::LabradorVerdict;
 use prover::prove;
 use verifier::verify;
 ghost use mathlib.Core.Path.{_≡_};
 ghost use lib.ListN.{length};
 ghost use Rattle.protocol.specs.Prover.{prove as proved, prove-output, prove-scratch, whole, round₁, round₂, round₃, round₄, round₅};
 ghost use Rattle.protocol.specs.Verifier.{verify as verdict, verify-scratch};
-ghost use Rattle.labrador.specs.Calls.{labradorAnswer, labradorVerdict};
+ghost use Rattle.call_answers.specs.Calls.{labradorAnswer, labradorVerdict};
 
 // The whole transcript.
 #[no_mangle]

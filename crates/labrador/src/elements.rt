@@ -1,19 +1,17 @@
 // The exported calls on ring elements.
-use crate::answers;
-use crate::answers::ElementAnswer;
-use crate::answers::NormAnswer;
+use leaf_answers::answers;
+use leaf_answers::answers::ElementAnswer;
+use leaf_answers::answers::NormAnswer;
+use leaf_answers::challenge::challenge_of;
 use operands::leaf;
-use operands::scan;
 use rq::rq::Rq;
-use transcript::challenge;
 use zq::zq::Zq;
 ghost use mathlib.Core.Path.{_≡_};
 ghost use mathlib.Core.List.{[], _∷_, _++_};
-ghost use lib.ListN.{length};
 ghost use Rattle.definitions.specs.Rq.{radd, rsub, rmul, rscale, rconj};
 ghost use Rattle.definitions.specs.Norm.{norm};
 ghost use Rattle.definitions.specs.Leaf.{canonicalWords};
-ghost use Rattle.labrador.specs.Answers.{elementAnswer, normAnswer, challengeAnswer};
+ghost use Rattle.leaf_answers.specs.Answers.{elementAnswer, normAnswer, challengeAnswer};
 
 // The sum of two elements.
 #[no_mangle]
@@ -67,19 +65,6 @@ pub extern "C" fn labrador_rq_norm(a: Rq) -> NormAnswer
 #[repr(C)]
 pub struct ChallengeWords {
     pub words: [u32; 104],
-}
-
-// The challenge of 41 sign words, then 63 shuffle words.
-fn challenge_of(words: &[u32]) -> ElementAnswer
-    requires { ⌜ length (now words) ≡ 104 ⌝ }
-    ensures { λ r. ⌜ r ≡ challengeAnswer (now (words .entry)) ⌝ }
-{
-    let signs = &words[..41];
-    let shuffle = &words[41..];
-    answers::element_of(
-        scan::sign_words(signs),
-        challenge::sample_challenge(signs, shuffle),
-    )
 }
 
 // The challenge of its words.

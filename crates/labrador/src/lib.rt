@@ -1,8 +1,6 @@
 // The exported calls.
-pub mod answers;
 pub mod calls;
 pub mod digits;
 pub mod elements;
 pub mod needs;
 pub mod numbers;
-pub mod verdicts;

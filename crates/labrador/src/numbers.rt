@@ -1,8 +1,8 @@
 // The exported calls on numbers modulo Q.
-use crate::answers;
-use crate::answers::CentreAnswer;
-use crate::answers::DigitsAnswer;
-use crate::answers::WordAnswer;
+use leaf_answers::answers;
+use leaf_answers::answers::CentreAnswer;
+use leaf_answers::answers::DigitsAnswer;
+use leaf_answers::answers::WordAnswer;
 use operands::leaf;
 use transcript::projection;
 use zq::digits;
@@ -13,7 +13,7 @@ ghost use Rattle.definitions.specs.Zq.{zadd, zsub, zneg, zmul, centre};
 ghost use Rattle.definitions.specs.Digits.{digitPlaces};
 ghost use Rattle.definitions.specs.Projection.{entry};
 ghost use Rattle.definitions.specs.Leaf.{canonicalWords, digitOperands};
-ghost use Rattle.labrador.specs.Answers.{wordAnswer, centreAnswer, digitsAnswer};
+ghost use Rattle.leaf_answers.specs.Answers.{wordAnswer, centreAnswer, digitsAnswer};
 
 // The sum of two numbers.
 #[no_mangle]

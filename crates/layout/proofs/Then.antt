@@ -1,13 +1,7 @@
 -- Answers one after the other, as the code finds them.
-use mathlib.Core.Path.{_≡_, refl, ap, _∙_}
+use mathlib.Core.Path.{_≡_, ap, _∙_}
 use Prim.Native.Nat.{ℕ}
 use Rattle.definitions.specs.Answer.{Answer, fine, refused, _then_}
-use Rattle.protocol.specs.Checks.{require}
-
--- a fact that does not hold is complained of
-pub require-fails {ℓ} : {A : Type ℓ} (d : Dec A) (answer : Answer) → (A → ⊥) → require d answer ≡ answer
-require-fails (yes a) answer h = absurd (h a)
-require-fails (no n) answer h = refl
 
 -- a refusal is the answer, whatever follows
 pub stops : {number place : ℕ} {a : Answer} (b : Answer) → refused number place ≡ a → refused number place ≡ a then b

@@ -13,10 +13,10 @@ use Rattle.lists.proofs.Table.{length-table, getD-table}
 use Rattle.definitions.specs.Answer.{Answer, fine, refused, _then_}
 use Rattle.protocol.specs.Checks.{require}
 use Rattle.protocol.specs.Layout.{Section, span, counted, layout}
-use Rattle.protocol.proofs.Fine.{require-holds}
+use Rattle.protocol.proofs.Fine.{require-holds, require-fails}
 use Rattle.layout.specs.declared.sections.Sections.{Sections}
 use Rattle.layout.specs.Sections.{section-at, listed}
-use Rattle.layout.proofs.Then.{require-fails, stops, goes-on}
+use Rattle.layout.proofs.Then.{stops, goes-on}
 
 -- from section m on: that section, then those from m + 1 on
 pub listed-from : (s : Sections) (m : ℕ) → m < s .len → drop m (listed s) ≡ section-at s m ∷ drop (m + 1) (listed s)

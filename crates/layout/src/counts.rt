@@ -1,5 +1,6 @@
 // The counts of a slice's sections, and where the slice ends.
 use crate::sections::Sections;
+use zq::wide::wide_usize;
 ghost use mathlib.Core.Path.{_≡_};
 ghost use Prim.Native.Nat.{ℕ, _+_, _≤_};
 ghost use lib.ListN.{length};
@@ -18,12 +19,6 @@ pub enum Found {
     Nowhere,
 }
 
-fn wide(x: u32) -> usize
-    ensures { λ r. ⌜ r ≡ x ⌝ }
-{
-    x as usize
-}
-
 // The counts of sections that start at a place, as far as they are right.
 pub fn count(words: &[u32], place: usize, s: Sections) -> Counted
     requires { ⌜ (s .len ≤ 10) × (place ≤ length (now words)) ⌝ }
@@ -37,7 +32,7 @@ pub fn count(words: &[u32], place: usize, s: Sections) -> Counted
     while m < s.len {
         let expected = counts[m];
         if at < len {
-            if wide(words[at]) != expected {
+            if wide_usize(words[at]) != expected {
                 return Counted::Wrong(at);
             }
         }

@@ -9,16 +9,16 @@ use lib.Dec.{ltb, eqb}
 use lib.ListN.{length, take, getD, length-append}
 use lib.Seq.{take-suc}
 use borrow.Author.Tests.{ne-eqb}
-use Rattle.line_answer.specs.Text.{isDigit}
-use Rattle.line_answer.specs.Line.{answerTo, text}
+use Rattle.line_reading.specs.Text.{isDigit}
+use Rattle.line_reading.specs.Line.{answerTo, text}
 use Rattle.line_answer.specs.Output.{lastLine, linesAfter, answerLines, output}
-use Rattle.line_answer.specs.Reading.{none, start, pushed, extended, with, stepped, steps, parsed, answerOf, next, written, after, answers, isFresh, last}
-use Rattle.line_answer.specs.declared.reading.Word.{Word}
-use Rattle.line_answer.specs.declared.reading.Extended.the-variants.{To, No}
-use Rattle.line_answer.specs.declared.reading.State.{State}
-use Rattle.line_answer.specs.declared.reading.State.the-variants.{First, Second, Bad}
-use Rattle.line_answer.proofs.Parsing.{parsed-steps}
-use Rattle.line_answer.proofs.Decimal.{length-text}
+use Rattle.line_reading.specs.Reading.{none, start, pushed, extended, with, stepped, steps, parsed, answerOf, next, written, after, answers, isFresh, last}
+use Rattle.line_reading.specs.declared.reading.Word.{Word}
+use Rattle.line_reading.specs.declared.reading.Extended.the-variants.{To, No}
+use Rattle.line_reading.specs.declared.reading.State.{State}
+use Rattle.line_reading.specs.declared.reading.State.the-variants.{First, Second, Bad}
+use Rattle.line_reading.proofs.Parsing.{parsed-steps}
+use Rattle.line_writing.proofs.Decimal.{length-text}
 
 -- the state after two runs
 pub after-append : (s : State) (xs ys : List ℕ) → after s (xs ++ ys) ≡ after (after s xs) ys

@@ -1,6 +1,1 @@
-pub mod Small
-mod Decimal
-pub mod Runs
-pub mod Parsing
 pub mod Chunks
-pub mod Laws

@@ -1,5 +1,1 @@
-pub mod Text
-pub mod Line
 pub mod Output
-pub mod Reading
-pub mod Written

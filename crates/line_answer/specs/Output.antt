@@ -3,7 +3,7 @@ use mathlib.Core.Bool.{cond}
 use mathlib.Core.List.{List, [], _∷_, _++_}
 use Prim.Native.Nat.{ℕ}
 use lib.Dec.{eqb}
-use Rattle.line_answer.specs.Line.{answerTo}
+use Rattle.line_reading.specs.Line.{answerTo}
 
 -- what stands after the last line feed is a line where it has a byte
 unfoldable pub lastLine : List ℕ → List (List ℕ)

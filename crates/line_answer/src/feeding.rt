@@ -3,13 +3,13 @@ ghost use mathlib.Core.Path.{_≡_};
 ghost use Prim.Native.Nat.{_+_, _*_, _≤_};
 ghost use lib.ListN.{length, take, drop};
 ghost use Rattle.line_answer.specs.Output.{output};
-ghost use Rattle.line_answer.specs.Reading.{Bounded, written, next, after, answers, last};
-ghost use Rattle.line_answer.specs.Written.{Written};
-use crate::reading::State;
-use crate::reading::is_fresh;
-use crate::reading::start;
-use crate::reading::step;
-use crate::writing::put_answer;
+ghost use Rattle.line_reading.specs.Reading.{Bounded, written, next, after, answers, last};
+ghost use Rattle.line_writing.specs.Written.{Written};
+use line_reading::reading::State;
+use line_reading::reading::is_fresh;
+use line_reading::reading::start;
+use line_reading::reading::step;
+use line_writing::writing::put_answer;
 
 // The state after some bytes, and the place after the answers so far.
 pub struct Fed {

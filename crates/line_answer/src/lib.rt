@@ -1,4 +1,2 @@
-// The answers of the line program: lines of two decimal words, read byte by byte and answered into a lent slice.
+// The answers of the line program: an input in chunks, its lines answered into a lent slice.
 pub mod feeding;
-pub mod reading;
-pub mod writing;

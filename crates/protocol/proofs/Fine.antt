@@ -13,6 +13,11 @@ pub require-holds {ℓ} : {A : Type ℓ} (d : Dec A) (answer : Answer) → A →
 require-holds (yes a) answer h = refl
 require-holds (no n) answer h = absurd (n h)
 
+-- a fact that does not hold is complained of
+pub require-fails {ℓ} : {A : Type ℓ} (d : Dec A) (answer : Answer) → (A → ⊥) → require d answer ≡ answer
+require-fails (yes a) answer h = absurd (h a)
+require-fails (no n) answer h = refl
+
 -- a fact whose test is fine holds, where the answer given is not fine
 pub required {ℓ} : {A : Type ℓ} (d : Dec A) (answer : Answer) → (answer ≡ fine → ⊥) → require d answer ≡ fine → A
 required (yes a) answer bad e = a

@@ -3,6 +3,7 @@ pub mod Checks
 pub mod Constraints
 pub mod PsiRows
 pub mod Fine
+pub mod First
 pub mod Sections
 pub mod Flat
 pub mod Norms

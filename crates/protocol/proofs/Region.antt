@@ -7,17 +7,17 @@ use native.Mathlib.Omega.{arith}
 use lib.ListN.{length, getD}
 use Rattle.lists.specs.Table.{table, cat}
 use Rattle.lists.specs.Part.{part, splice}
-use Rattle.lists.proofs.Sum.{Σ-ext, Σ-const}
+use Rattle.lists.proofs.Sum.{Σ-ext, Σ-const, Σ-triangle}
 use Rattle.lists.proofs.Table.{length-table, getD-table, table-ext}
-use Rattle.lists.proofs.Cat.{length-cat, getD-cat, cat-ext}
+use Rattle.lists.proofs.Cat.{length-cat, getD-cat, cat-ext, cat-runs}
 use Rattle.lists.proofs.Splice.{part-splice-before, part-splice-after, part-splice-same}
 use Rattle.definitions.specs.Rq.{Element}
 use Rattle.definitions.specs.Ring.{element}
 use Rattle.protocol.specs.Parameters.{triangular}
 use Rattle.protocol.specs.Views.{element-at, cell}
-use Rattle.protocol.specs.Formulas.{flat, rows}
+use Rattle.protocol.specs.Formulas.{flat, rows, triangle}
 pub use Rattle.protocol.specs.Region.{Elements, Triangle, Vectors}
-use Rattle.protocol.proofs.Flat.{length-flat, element-of-flat, length-rows, row-cell, row-cell-within, cell-within, length-triangle}
+use Rattle.protocol.proofs.Flat.{length-flat, element-of-flat, length-rows, row-cell, row-cell-within, cell-within, cell-lower, length-triangle}
 
 -- equal elements
 pub elements-ext : (words : List ℕ) (at n : ℕ) (f g : ℕ → Element) → ((m : ℕ) → m < n → f m ≡ g m) → Elements words at n f → Elements words at n g
@@ -79,3 +79,12 @@ vectors-of words at r n F f h e i m k l = h (i * n + m) (omega (arith, row-cell-
 pub rows-ext : (r n : ℕ) (f g : ℕ → ℕ → Element) → ((i m : ℕ) → i < r → m < n → f i m ≡ g i m) → rows r n f ≡ rows r n g
 unfolding rows
 rows-ext r n f g e = cat-ext r (λ i. table n (f i)) (λ i. table n (g i)) (λ i h. table-ext n (f i) (g i) (λ m k. e i m h k))
+
+-- a triangle of r rows of the elements f 0, f 1, … is all of them
+pub triangle-table : (r : ℕ) (f : ℕ → Element) → triangle r (λ i j. f (cell i j)) ≡ table (triangular r) f
+unfolding triangle
+triangle-table r f =
+    cat-ext r (λ i. table (i + 1) (λ j. f (cell i j))) (λ i. table (i + 1) (λ k. f (_ + k)))
+    (λ i h. table-ext (i + 1) (λ j. f (cell i j)) (λ k. f (_ + k)) (λ j l. ap f (cell-lower i j (omega arith) ∙ ap (λ n. n + j) (sym (Σ-triangle i)))))
+    ∙ cat-runs r (λ i. i + 1) f
+    ∙ ap (λ n. table n f) (Σ-triangle r)

@@ -10,25 +10,21 @@ use Rattle.definitions.specs.Answer.{Answer, fine, refused, failed, result, _th
 use Rattle.protocol.specs.Parameters.{parameters}
 use Rattle.protocol.specs.Layout.{span, job-refusal, randomness-refusal, transcript-refusal, scratch-refusal, scratch-need}
 use Rattle.protocol.specs.Views.{public, witness}
+use Rattle.protocol.specs.Kept.{Kept}
 use Rattle.protocol.specs.Prover.{Call, made-sections, prove-refusal, work-refusal, made, zeroed, prove-output, prove-scratch}
 use Rattle.protocol.specs.Verifier.{verify-refusal, verify-scratch}
 use Rattle.protocol.proofs.Fine.{required, refused-not-fine, failed-not-fine, then-fine-right}
 use Rattle.protocol.proofs.Accepted.{admitted, length-made}
 
--- a buffer of which no word beyond the need is changed, and whose length stays
-pub record Kept (need : ℕ) (entry exit : List ℕ) : Type 0 where
-  pub length-kept : length exit ≡ length entry
-  pub beyond-kept : drop need exit ≡ drop need entry
-
 -- a buffer that is left
 kept-left : (need : ℕ) (buffer : List ℕ) → Kept need buffer buffer
-kept-left need buffer = record { length-kept = refl; beyond-kept = refl }
+kept-left need buffer = record { size = refl; beyond = refl }
 
 -- a buffer whose needed part is written
 kept-written : (need : ℕ) (new buffer : List ℕ) → length new ≡ need → need ≤ length buffer → Kept need buffer (new ++ drop need buffer)
 kept-written need new buffer e h = record {
-  length-kept = length-append new (drop need buffer) ∙ omega (arith, length-drop need buffer);
-  beyond-kept = drop-at new (drop need buffer) need e;
+  size = length-append new (drop need buffer) ∙ omega (arith, length-drop need buffer);
+  beyond = drop-at new (drop need buffer) need e;
 }
 
 -- a value that depends on whether an answer is fine

@@ -85,7 +85,7 @@ module _ (J R W scratch output : List ℕ) where
 
       -- the scratch is long enough for both
       enough-left : (middle : List ℕ) → middle ≡ prove-scratch whole J R W scratch output → scratch-need (parameters J) ≤ length middle
-      enough-left middle m = subst (λ n. scratch-need (parameters J) ≤ n) (sym (ap length m ∙ scratch-kept whole J R W scratch output .length-kept)) (call .scratch-fits)
+      enough-left middle m = subst (λ n. scratch-need (parameters J) ≤ n) (sym (ap length m ∙ scratch-kept whole J R W scratch output .size)) (call .scratch-fits)
 
       -- the length that is read of the output is the transcript's, and the output has it
       length-sent : (n : ℕ) → n ≡ result (job-refusal J) (span (transcript-sections (parameters J))) 0 → n ≡ span (transcript-sections (parameters J))
@@ -94,7 +94,7 @@ module _ (J R W scratch output : List ℕ) where
       pub sent-within : (n : ℕ) → n ≡ result (job-refusal J) (span (transcript-sections (parameters J))) 0 → n ≤ length exit
       sent-within n e =
           subst (λ k. k ≤ length exit) (sym (length-sent n e))
-          (subst (λ k. span (transcript-sections (parameters J)) ≤ k) (sym (ap length left ∙ output-kept whole J R W scratch output .length-kept)) (call .output-fits))
+          (subst (λ k. span (transcript-sections (parameters J)) ≤ k) (sym (ap length left ∙ output-kept whole J R W scratch output .size)) (call .output-fits))
 
       -- answer, output and scratch of both calls, one after the other
       pub both-calls : (v : Verdict) (n : ℕ) (middle last : List ℕ) → middle ≡ prove-scratch whole J R W scratch output

@@ -10,13 +10,12 @@ use verifier::verify;
 ghost use mathlib.Core.Path.{_≡_};
 ghost use Prim.Native.Nat.{_≤_};
 ghost use lib.ListN.{length, take};
-ghost use Rattle.definitions.specs.Answer.{result, _then_, ofVerdict};
+ghost use Rattle.definitions.specs.Answer.{result, ofVerdict};
 ghost use Rattle.protocol.specs.Parameters.{parameters};
 ghost use Rattle.protocol.specs.Layout.{span, transcript-sections, job-refusal};
-ghost use Rattle.protocol.specs.Views.{public, witness as vectors};
-ghost use Rattle.protocol.specs.Prover.{whole, prove as proved, prove-output, prove-scratch};
+ghost use Rattle.protocol.specs.Prover.{whole, prove-output, prove-scratch};
 ghost use Rattle.protocol.specs.Verifier.{verify as verdict, verify-scratch};
-ghost use Rattle.protocol.specs.Conditions.{conditions};
+ghost use Rattle.prove_then_verify.specs.Both.{both};
 
 // The length of a transcript of this job; 0 where the job is refused.
 pub fn transcript_length(job: &[u32]) -> usize
@@ -52,7 +51,7 @@ pub fn prove_then_verify(
     scratch: &mut [u32],
     output: &mut [u32],
 ) -> Verdict
-    ensures { λ v. ⌜ ofVerdict v ≡ proved whole (now (job .entry)) (now (randomness .entry)) (now (witness .entry)) (length (now (scratch .entry))) (length (now (output .entry))) then conditions (public (now (job .entry)) (now (randomness .entry))) (vectors (parameters (now (job .entry))) (now (witness .entry))) ⌝ }
+    ensures { λ v. ⌜ ofVerdict v ≡ both (now (job .entry)) (now (randomness .entry)) (now (witness .entry)) (length (now (scratch .entry))) (length (now (output .entry))) ⌝ }
     ensures { λ v. ⌜ now (output .exit) ≡ prove-output whole (now (job .entry)) (now (randomness .entry)) (now (witness .entry)) (now (scratch .entry)) (now (output .entry)) ⌝ }
     ensures { λ v. ⌜ now (scratch .exit) ≡ prove-scratch whole (now (job .entry)) (now (randomness .entry)) (now (witness .entry)) (now (scratch .entry)) (now (output .entry)) ⌝ }
 {

@@ -11,7 +11,7 @@ use Rattle.definitions.specs.declared.answers.Proved.the-variants as E
 use Rattle.definitions.specs.Answer.{result, ofProved}
 use Rattle.protocol.specs.Parameters.{parameters}
 use Rattle.protocol.specs.Layout.{span, transcript-sections, scratch-need}
-use Rattle.protocol.specs.Prover.{made-sections, work-refusal, made, zeroed}
+use Rattle.protocol.specs.Prover.{made-sections, zeroed}
 use Rattle.relation.specs.declared.env_params.EnvironmentParameters.{EnvironmentParameters}
 use Rattle.relation.specs.Parameters.{parametersOf}
 use Rattle.sizes.specs.Sizes.{Sized}
@@ -20,8 +20,9 @@ use Rattle.admission.specs.declared.calls.Call.{Call}
 use Rattle.admission.specs.Admission.{callOf, Provable}
 use Rattle.workspace.specs.Holds.{Kept}
 use Rattle.workspace.proofs.Kept.{kept-clear}
-use Rattle.prover.specs.Words.{X, s}
-use Rattle.prover.proofs.Calls.{Done, refused-is, unchanged, output-made, output-zeroed}
+use Rattle.prover_commit.specs.Refusals.{work, makes}
+use Rattle.prover.specs.Worked.{worked}
+use Rattle.prover.proofs.Calls.{refused-is, output-made, output-zeroed}
 
 module _ (call : Call) (J R W : List ℕ) (p : EnvironmentParameters) (S O : List ℕ) (h : Provable (callOf call) J R W (length S) (length O) p) where
   -- the parameters can be reckoned with
@@ -51,40 +52,35 @@ module _ (call : Call) (J R W : List ℕ) (p : EnvironmentParameters) (S O : Lis
     scratch-cleared S₂ f = f ∙ ap (λ k. splice S₁ 0 (replicate k 0)) scratch-size ∙ kept-clear (scratch-need (parameters J)) S S₁ kept (h .handed .scratch-fits)
 
   -- the output that it leaves where something was made
-  module _ (k : Proved) (S₁ O₁ : List ℕ) (d : Done (callOf call) J R W k S S₁ O O₁) (told : k ≡ E.Made) where
-    pub answer-made : ofProved E.Made ≡ work-refusal (X J R W) (callOf call) (s J R W)
-    answer-made = sym (ap ofProved told) ∙ d .0
+  module _ (k : Proved) (told : k ≡ E.Made) (e : ofProved k ≡ work J R W (callOf call)) where
+    pub answer-made : ofProved E.Made ≡ work J R W (callOf call)
+    answer-made = sym (ap ofProved told) ∙ e
 
-    pub output-left : O₁ ≡ result (work-refusal (X J R W) (callOf call) (s J R W)) (made (X J R W) (callOf call) (s J R W) ++ drop (span (made-sections (callOf call) (parameters J))) O) (zeroed (span (made-sections (callOf call) (parameters J))) O)
-    output-left =
-        d .1 .1
-        ∙ ap (λ x. result (ofProved x) (splice O 0 (made (X J R W) (callOf call) (s J R W))) O) told
+    pub output-left : (O₁ : List ℕ) → O₁ ≡ splice O 0 (makes J R W (callOf call)) → O₁ ≡ worked (callOf call) J R W O
+    output-left O₁ stored =
+        stored
         ∙ output-made J R W (callOf call) O (h .output-fits)
-        ∙ ap (λ a. result a (made (X J R W) (callOf call) (s J R W) ++ drop (span (made-sections (callOf call) (parameters J))) O) (zeroed (span (made-sections (callOf call) (parameters J))) O)) answer-made
+        ∙ ap (λ a. result a (makes J R W (callOf call) ++ drop (span (made-sections (callOf call) (parameters J))) O) (zeroed (span (made-sections (callOf call) (parameters J))) O)) answer-made
 
   -- and where it is refused
-  module _ (k : Proved) (r : Refusal) (S₁ O₁ : List ℕ) (d : Done (callOf call) J R W k S S₁ O O₁) (told : k ≡ E.Refused r)
-      (n from makes : ℕ) (e : n ≡ span (take makes (drop from (transcript-sections (parametersOf p))))) (f : from ≡ callOf call .from) (g : makes ≡ callOf call .makes) where
-    pub answer-refused : ofProved (E.Refused r) ≡ work-refusal (X J R W) (callOf call) (s J R W)
-    answer-refused = sym (ap ofProved told) ∙ d .0
+  module _ (k : Proved) (r : Refusal) (told : k ≡ E.Refused r) (e : ofProved k ≡ work J R W (callOf call))
+      (n from count : ℕ) (size : n ≡ span (take count (drop from (transcript-sections (parametersOf p))))) (f : from ≡ callOf call .from) (g : count ≡ callOf call .makes) where
+    pub answer-refused : ofProved (E.Refused r) ≡ work J R W (callOf call)
+    answer-refused = sym (ap ofProved told) ∙ e
 
     output-size : n ≡ span (made-sections (callOf call) (parameters J))
     output-size =
-        e
+        size
         ∙ ap₂ (λ m k. span (take m (drop k (transcript-sections (parametersOf p))))) g f
         ∙ ap (λ Q. span (made-sections (callOf call) Q)) (h .handed .same)
 
-    same-output : O₁ ≡ O
-    same-output = unchanged k r O₁ (splice O 0 (made (X J R W) (callOf call) (s J R W))) O told (d .1 .1)
-
-    pub output-room : n ≤ length O₁
-    output-room = subst (λ k. k ≤ length O₁) (sym output-size) (subst (λ l. span (made-sections (callOf call) (parameters J)) ≤ length l) (sym same-output) (h .output-fits))
+    pub output-room : n ≤ length O
+    output-room = subst (λ k. k ≤ length O) (sym output-size) (h .output-fits)
 
     -- set to zero
-    pub output-cleared : (O₂ : List ℕ) → O₂ ≡ splice O₁ 0 (replicate n 0)
-        → O₂ ≡ result (work-refusal (X J R W) (callOf call) (s J R W)) (made (X J R W) (callOf call) (s J R W) ++ drop (span (made-sections (callOf call) (parameters J))) O) (zeroed (span (made-sections (callOf call) (parameters J))) O)
+    pub output-cleared : (O₂ : List ℕ) → O₂ ≡ splice O 0 (replicate n 0) → O₂ ≡ worked (callOf call) J R W O
     output-cleared O₂ c =
         c
-        ∙ ap₂ (λ l k. splice l 0 (replicate k 0)) same-output output-size
+        ∙ ap (λ k. splice O 0 (replicate k 0)) output-size
         ∙ output-zeroed (span (made-sections (callOf call) (parameters J))) O (h .output-fits)
-        ∙ refused-is r (made (X J R W) (callOf call) (s J R W) ++ drop (span (made-sections (callOf call) (parameters J))) O) (zeroed (span (made-sections (callOf call) (parameters J))) O) answer-refused
+        ∙ refused-is r (makes J R W (callOf call) ++ drop (span (made-sections (callOf call) (parameters J))) O) (zeroed (span (made-sections (callOf call) (parameters J))) O) answer-refused

@@ -1,8 +1,2 @@
-mod Commitments
-mod WithH
-pub mod TranscriptSections
-mod SectionRoom
-mod SectionMade
-mod Calls
-mod Scratch
+pub mod Calls
 mod Cleared

@@ -1,23 +1,23 @@
 // The prover's calls on whole slices, for every input.
-use crate::work;
 use admission::answers::Admitted;
 use admission::calls;
 use admission::calls::Call;
-use admission::prover;
+use admission_order::prover;
 use definitions::answers::Proved;
 use relation::env_params::EnvironmentParameters;
 use sizes::buffers;
 ghost use mathlib.Core.Path.{_≡_};
-ghost use mathlib.Core.List.{_++_};
-ghost use lib.ListN.{length, drop};
-ghost use Rattle.definitions.specs.Answer.{result, ofProved};
+ghost use lib.ListN.{length};
+ghost use Rattle.definitions.specs.Answer.{ofProved};
 ghost use Rattle.protocol.specs.Parameters.{parameters};
-ghost use Rattle.protocol.specs.Layout.{span, scratch-need};
-ghost use Rattle.protocol.specs.Prover.{prove as proved, made-sections, work-refusal, made, zeroed, prove-output, prove-scratch};
+ghost use Rattle.protocol.specs.Layout.{scratch-need};
+ghost use Rattle.protocol.specs.Prover.{prove as proved, zeroed, prove-output, prove-scratch};
 ghost use Rattle.admission.specs.Admission.{callOf, Provable};
-ghost use Rattle.prover.specs.Words.{X, s};
+ghost use Rattle.prover_commit.specs.Refusals.{work};
+ghost use Rattle.prover.specs.Worked.{worked};
 
-// The work of a call that is refused nothing before it: "After any later answer scratch is zero to the length needed; after 13 to 16 the output's needed part is zero too."
+// The work of a call that is refused nothing before it: "After any later answer scratch is zero to the length needed; after 13 to 16 the output's
+// needed part is zero too."
 fn work_and_clear(
     call: Call,
     job: &[u32],
@@ -28,21 +28,24 @@ fn work_and_clear(
     output: &mut [u32],
 ) -> Proved
     requires { ⌜ Provable (callOf call) (now job) (now randomness) (now witness) (length (now scratch)) (length (now output)) p ⌝ }
-    ensures { λ r. ⌜ ofProved r ≡ work-refusal (X (now (job .entry)) (now (randomness .entry)) (now (witness .entry))) (callOf call) (s (now (job .entry)) (now (randomness .entry)) (now (witness .entry))) ⌝ }
-    ensures { λ r. ⌜ now (output .exit) ≡ result (work-refusal (X (now (job .entry)) (now (randomness .entry)) (now (witness .entry))) (callOf call) (s (now (job .entry)) (now (randomness .entry)) (now (witness .entry)))) (made (X (now (job .entry)) (now (randomness .entry)) (now (witness .entry))) (callOf call) (s (now (job .entry)) (now (randomness .entry)) (now (witness .entry))) ++ drop (span (made-sections (callOf call) (parameters (now (job .entry))))) (now (output .entry))) (zeroed (span (made-sections (callOf call) (parameters (now (job .entry))))) (now (output .entry))) ⌝ }
+    ensures { λ r. ⌜ ofProved r ≡ work (now (job .entry)) (now (randomness .entry)) (now (witness .entry)) (callOf call) ⌝ }
+    ensures { λ r. ⌜ now (output .exit) ≡ worked (callOf call) (now (job .entry)) (now (randomness .entry)) (now (witness .entry)) (now (output .entry)) ⌝ }
     ensures { λ r. ⌜ now (scratch .exit) ≡ zeroed (scratch-need (parameters (now (job .entry)))) (now (scratch .entry)) ⌝ }
 {
     let q = regions::lay_out(p.rank, p.multiplicity, p.kappa, p.const_agg_length);
-    let answer = work::work(call, job, randomness, witness, p, q, scratch, output);
-    words::clear(scratch, buffers::scratch_length(p));
-    match answer {
-        Proved::Made => Proved::Made,
+    let need = buffers::scratch_length(p);
+    match prover_commit::fill(call, job, randomness, witness, p, q, scratch) {
+        Proved::Made => {
+            prover_sections::put(call, job, randomness, witness, p, q, scratch, output);
+            words::clear(scratch, need);
+            Proved::Made
+        }
         Proved::Refused(refusal) => {
             let sections = calls::makes(call);
-            words::clear(
-                output,
-                buffers::output_length(p, sections.from, sections.makes),
-            );
+            let length = buffers::output_length(p, sections.from, sections.makes);
+            words::clear(output, length);
+            let used = need;
+            words::clear(scratch, used);
             Proved::Refused(refusal)
         }
     }

@@ -1,2 +1,1 @@
-mod First
 pub mod Limits

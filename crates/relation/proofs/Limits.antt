@@ -14,13 +14,12 @@ use Rattle.definitions.specs.Leaf.{limited}
 use Rattle.protocol.specs.Checks.{require, first}
 use Rattle.protocol.specs.Parameters.{Parameters, parameters, rounded-up, some-constraint, limits, kappa-is-L}
 use Rattle.protocol.specs.Layout.{span, counted, first-section}
-use Rattle.protocol.proofs.Fine.{require-holds, required, refused-not-fine, then-fine-left, then-fine-right}
+use Rattle.protocol.proofs.Fine.{require-holds, require-fails, required, refused-not-fine, then-fine-left, then-fine-right}
 use Rattle.protocol.proofs.Checks.{then-fine}
 use Rattle.protocol.proofs.Then.{then-assoc}
-use Rattle.layout.proofs.Then.{require-fails}
+use Rattle.protocol.proofs.First.{first-each}
 use Rattle.layout.proofs.Laid.{counted-inside}
 use Rattle.relation.specs.SectionOne.{section-one, limit-at, least-l, Within, Sound}
-use Rattle.relation.proofs.First.{first-each}
 
 -- a value below its least
 pub limited-low : (least greatest place x : ℕ) → x < least → refused 4 place ≡ limited least greatest place x

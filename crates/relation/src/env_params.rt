@@ -1,7 +1,8 @@
 // The parameters (relation/env_params.rs), read from the words of the job's section one.
 use definitions::answers::U128;
+use zq::wide::wide;
 ghost use mathlib.Core.Path.{_≡_};
-ghost use Prim.Native.Nat.{_+_, _≤_, _<_, _^_};
+ghost use Prim.Native.Nat.{_+_, _≤_, _<_};
 ghost use lib.ListN.{length, getD};
 ghost use Rattle.definitions.specs.Answer.{value128};
 ghost use Rattle.protocol.specs.Parameters.{three-words, rounded-up, parameters};
@@ -35,12 +36,6 @@ pub struct EnvironmentParameters {
 }
 
 const SECURITY_PARAMETER: usize = 128;
-
-fn wide(x: u32) -> u64
-    ensures { λ r. ⌜ (r ≡ x) × (r < 2 ^ 32) ⌝ }
-{
-    x as u64
-}
 
 fn size(job: &[u32], at: usize) -> usize
     requires { ⌜ at < length (now job) ⌝ }

@@ -2,10 +2,10 @@
 use crate::marks;
 use crate::slices;
 use crate::words;
+use call_answers::verdicts::LabradorAnswer;
+use call_answers::verdicts::LabradorVerdict;
 use labrador::calls;
 use labrador::needs;
-use labrador::verdicts::LabradorAnswer;
-use labrador::verdicts::LabradorVerdict;
 
 // The verifier's number among the calls; 0 is the prover, 1 to 5 its rounds.
 const VERIFY: u32 = 6;

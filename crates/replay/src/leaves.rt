@@ -1,11 +1,11 @@
 // Each leaf call on a record's operands, compared with the recorded answer: number, place and result follow the operands.
 use crate::words;
-use labrador::answers::ElementAnswer;
-use labrador::answers::WordAnswer;
 use labrador::digits;
 use labrador::elements;
 use labrador::elements::ChallengeWords;
 use labrador::numbers;
+use leaf_answers::answers::ElementAnswer;
+use leaf_answers::answers::WordAnswer;
 ghost use Prim.Native.Nat.{_<_};
 
 // Whether a number and a place stand at word k.

@@ -1,7 +1,7 @@
 // Buffers that are filled with a mark before a call, so that each word that it leaves alone is seen.
 
-// A word that no call writes: it is above Q, and no count.
-const MARK: u32 = 4294967293;
+// The word 4294967295 is Q itself: elements, numbers and counts are below Q, so no call writes it.
+const MARK: u32 = 4294967295;
 
 // Fills a buffer with marks.
 pub fn fill(buffer: &mut [u32]) {

@@ -1,3 +1,2 @@
 mod Halves
 mod Coefficient
-pub mod Sizes

@@ -1,5 +1,4 @@
 // Ring elements (ring/rq.rs): the ring Z_Q[X]/(X^64 + 1).
-pub mod digits;
 pub mod product;
 pub mod rq;
 pub mod sums;

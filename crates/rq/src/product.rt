@@ -1,22 +1,17 @@
 // The ring product (`Mul for &Rq` of ring/rq.rs). With E the coefficients of −a and then those of a, and b reversed, coefficient k is the
 // sum of b's 64 entries times E's from k + 1 on: one run of products without a sign, reduced once.
+use zq::wide::wide;
+use zq::zq::Zq;
 ghost use mathlib.Core.Path.{_≡_};
-ghost use Prim.Native.Nat.{_+_, _^_, _≤_, _<_};
+ghost use Prim.Native.Nat.{_+_, _^_, _≤_};
 ghost use lib.ListN.{length};
 ghost use Rattle.definitions.specs.Rq.{rmul};
 ghost use Rattle.rq.specs.Product.{AllWords, extended, reversed, folded};
 
 // Q as a u64, and 2^32.
-pub const MODULUS: u64 = 4294967295;
+pub const MODULUS: u64 = Zq::Q as u64;
 
 pub const RADIX: u64 = 4294967296;
-
-// A word as a u64.
-pub fn wide(x: u32) -> u64
-    ensures { λ r. ⌜ (r ≡ x) × (r < 2 ^ 32) ⌝ }
-{
-    x as u64
-}
 
 // The coefficients of −a, then those of a.
 pub fn extend(a: [u32; 64]) -> [u64; 128]

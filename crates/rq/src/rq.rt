@@ -1,4 +1,5 @@
-// A ring element as 64 words, coefficient of X^0 first. No operation asks for canonical words, and each gives some.
+// A ring element as 64 words, coefficient of X^0 first. No operation asks for canonical words, and each gives some, except that the conjugate keeps
+// coefficient 0 as it is.
 use crate::product;
 use definitions::answers::U128;
 use zq::norm;
@@ -19,7 +20,9 @@ impl Rq {
     pub fn zero() -> Rq
         ensures { λ r. ⌜ r .coeffs ≡ rzero ⌝ }
     {
-        Rq { coeffs: [0u32; 64] }
+        Rq {
+            coeffs: [0u32; Rq::DEGREE],
+        }
     }
 
     pub fn add(self, rhs: Rq) -> Rq
@@ -27,8 +30,8 @@ impl Rq {
     {
         let a = self.coeffs;
         let b = rhs.coeffs;
-        let mut sum = [0u32; 64];
-        for k in 0..64 {
+        let mut sum = [0u32; Rq::DEGREE];
+        for k in 0..Rq::DEGREE {
             sum[k] = Zq(a[k]).add(Zq(b[k])).0;
         }
         Rq { coeffs: sum }
@@ -39,8 +42,8 @@ impl Rq {
     {
         let a = self.coeffs;
         let b = rhs.coeffs;
-        let mut difference = [0u32; 64];
-        for k in 0..64 {
+        let mut difference = [0u32; Rq::DEGREE];
+        for k in 0..Rq::DEGREE {
             difference[k] = Zq(a[k]).sub(Zq(b[k])).0;
         }
         Rq { coeffs: difference }
@@ -61,8 +64,8 @@ impl Rq {
         ensures { λ r. ⌜ r .coeffs ≡ rscale (self .coeffs) (factor .0) ⌝ }
     {
         let a = self.coeffs;
-        let mut scaled = [0u32; 64];
-        for k in 0..64 {
+        let mut scaled = [0u32; Rq::DEGREE];
+        for k in 0..Rq::DEGREE {
             scaled[k] = Zq(a[k]).mul(factor).0;
         }
         Rq { coeffs: scaled }
@@ -72,9 +75,9 @@ impl Rq {
         ensures { λ r. ⌜ r .coeffs ≡ rconj (self .coeffs) ⌝ }
     {
         let a = self.coeffs;
-        let mut conjugate = [0u32; 64];
+        let mut conjugate = [0u32; Rq::DEGREE];
         conjugate[0] = a[0];
-        for k in 1..64 {
+        for k in 1..Rq::DEGREE {
             conjugate[k] = Zq(a[64 - k]).neg().0;
         }
         Rq { coeffs: conjugate }
@@ -85,7 +88,7 @@ impl Rq {
     {
         let a = self.coeffs;
         let mut sum = U128 { hi: 0, lo: 0 };
-        for k in 0..64 {
+        for k in 0..Rq::DEGREE {
             sum = norm::add_square(sum, Zq(a[k]).size());
         }
         sum

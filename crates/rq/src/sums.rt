@@ -1,5 +1,6 @@
 // Sums of products and of scaled elements, coefficient by coefficient, in u64 and reduced once at the end.
 use crate::product;
+use zq::wide::wide;
 ghost use mathlib.Core.Path.{_≡_};
 ghost use Prim.Native.Nat.{_%_};
 ghost use lib.ListN.{getD};
@@ -27,10 +28,10 @@ pub fn add_scaled(sums: [u64; 64], a: [u32; 64], factor: u32) -> [u64; 64]
     requires { ⌜ Room sums ⌝ }
     ensures { λ r. ⌜ Added sums (rscale a factor) r ⌝ }
 {
-    let c = product::wide(factor);
+    let c = wide(factor);
     let mut out = [0u64; 64];
     for k in 0..64 {
-        let term = product::wide(a[k]) * c;
+        let term = wide(a[k]) * c;
         out[k] = sums[k] + (term % product::RADIX + term / product::RADIX);
     }
     out

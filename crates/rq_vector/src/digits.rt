@@ -1,6 +1,6 @@
 // The digits of an element of a slice, a row at a time from the sizes that go on.
-use rq::digits;
 use rq::rq::Rq;
+use rq_digits::digits;
 ghost use mathlib.Core.Path.{_≡_};
 ghost use Prim.Native.Nat.{_+_, _*_, _≤_, _<_};
 ghost use lib.ListN.{length};

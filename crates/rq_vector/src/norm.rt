@@ -1,6 +1,6 @@
 // Squared norms of runs of elements, and of their digits, which are not stored.
 use definitions::answers::U128;
-use rq::digits;
+use rq_digits::digits;
 ghost use mathlib.Core.Path.{_≡_};
 ghost use Prim.Native.Nat.{_+_, _*_, _≤_, _<_, _^_};
 ghost use lib.ListN.{length};

@@ -4,7 +4,9 @@ use mathlib.Core.List.{List, [], _∷_}
 use Prim.Native.Nat.{ℕ, zero, suc, _+_, _≤_, _<_}
 use lib.Dec.{ltb}
 use lib.ListN.{length, getD}
+use denote.Ref.{now}
 use Rattle.protocol.specs.Layout.{part}
+use Rattle.section_reader.specs.declared.SectionReader.{SectionReader}
 use Rattle.section_reader.specs.declared.Read.{Read}
 use Rattle.section_reader.specs.declared.Read.the-variants.{Section, Short, End}
 
@@ -46,3 +48,10 @@ abbrev pub Inside : (position len : ℕ) → Read → Type 0
 Inside position len (Section place count) = (position < place) × (place + count ≤ len)
 Inside position len Short = Unit {0}
 Inside position len End = Unit {0}
+
+-- what a reader reads, and the position behind it
+abbrev pub readBy : SectionReader → Read
+readBy r = readAt (now (r .words)) (r .position)
+
+abbrev pub behindBy : SectionReader → ℕ
+behindBy r = behindAt (now (r .words)) (r .position)

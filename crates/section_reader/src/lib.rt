@@ -1,9 +1,10 @@
 // "A record with the lent slice and a position reads the sections." The borrow checker covers no function over such a record,
 // so each is thin and proved by hand; the work is in `section_at` and `behind_at`, which take the slice and the position.
 // Callers use `section_from`, whose parameters are plain, and go on behind the section that it gives.
+use zq::wide::wide_usize;
 ghost use mathlib.Core.Path.{_≡_};
 ghost use lib.ListN.{length};
-ghost use Rattle.section_reader.specs.Read.{readAt, behindAt, Inside};
+ghost use Rattle.section_reader.specs.Read.{readAt, behindAt, readBy, behindBy, Inside};
 
 // A slice of sections, and the position of the next section's count.
 pub struct SectionReader<'a> {
@@ -21,19 +22,13 @@ pub enum Read {
     End,
 }
 
-fn wide(x: u32) -> usize
-    ensures { λ r. ⌜ r ≡ x ⌝ }
-{
-    x as usize
-}
-
 // The section whose count stands at a position.
 pub fn section_at(words: &[u32], position: usize) -> Read
     ensures { λ r. ⌜ r ≡ readAt (now (words .entry)) position ⌝ }
 {
     let len = words.len();
     if position < len {
-        let count = wide(words[position]);
+        let count = wide_usize(words[position]);
         if count < len - position {
             Read::Section(position + 1, count)
         } else {
@@ -65,7 +60,7 @@ impl<'a> SectionReader<'a> {
 
     // Reads the section at the reader's position and moves behind it. Where no section is read the position stays.
     pub fn section<'s>(&'s mut self) -> Read
-        ensures { λ r. ⌜ (r ≡ readAt (now (now (self .entry) .words)) (now (self .entry) .position)) × (now (self .exit) .words ≡ now (self .entry) .words) × (now (self .exit) .position ≡ behindAt (now (now (self .entry) .words)) (now (self .entry) .position)) ⌝ }
+        ensures { λ r. ⌜ (r ≡ readBy (now (self .entry))) × (now (self .exit) .words ≡ now (self .entry) .words) × (now (self .exit) .position ≡ behindBy (now (self .entry))) ⌝ }
     {
         let words = self.words;
         let position = self.position;

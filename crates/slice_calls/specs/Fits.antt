@@ -2,7 +2,6 @@
 use mathlib.Core.Bool.{Bool, _&&_}
 use Prim.Native.Nat.{ℕ, _+_, _*_}
 use lib.Dec.{leb, eqb}
-use Rattle.protocol.specs.Parameters.{triangular}
 
 -- two vectors of n elements, and an element
 abbrev pub inner-product-fits : (x y out n : ℕ) → Bool
@@ -30,32 +29,3 @@ abbrev pub u1-fits : (matrices from out rows t-cells t-parts g-cells g-parts bas
 u1-fits matrices from out rows t-cells t-parts g-cells g-parts base =
     (leb t-cells 256 && leb t-parts 32 && leb rows 16 && (leb g-cells 136 && leb g-parts 32 && leb 2 base))
     && (eqb matrices (64 * (rows * (t-cells * t-parts)) + 64 * (rows * (g-cells * g-parts))) && eqb from (64 * t-cells + 64 * g-cells) && eqb out (64 * rows))
-
--- a matrix of `rows` rows of n elements, r vectors of n elements, and r of `rows` elements
-abbrev pub t-fits : (matrix s out rows n r : ℕ) → Bool
-t-fits matrix s out rows n r = (leb n 64 && leb r 16 && leb rows 16) && (eqb matrix (64 * (rows * n)) && eqb s (64 * (r * n)) && eqb out (64 * (r * rows)))
-
--- r vectors of n elements, and a triangle of r rows
-abbrev pub g-fits : (s out n r : ℕ) → Bool
-g-fits s out n r = (leb n 64 && leb r 16) && (eqb s (64 * (r * n)) && eqb out (64 * triangular r))
-
--- r vectors of n elements, r elements, and n elements
-abbrev pub z-fits : (s c out n r : ℕ) → Bool
-z-fits s c out n r = (leb n 64 && leb r 16) && (eqb s (64 * (r * n)) && eqb c (64 * r) && eqb out (64 * n))
-
--- a matrix of `rows` rows, with an entry for each digit of the cells; the cells; and `rows` elements
-abbrev pub u2-fits : (matrix from out rows cells parts base : ℕ) → Bool
-u2-fits matrix from out rows cells parts base =
-    (leb cells 136 && leb parts 32 && (leb rows 16 && leb 2 base)) && (eqb matrix (64 * (rows * (cells * parts))) && eqb from (64 * cells) && eqb out (64 * rows))
-
--- n elements, n numbers, and an element
-abbrev pub linear-combination-fits : (x factors out n : ℕ) → Bool
-linear-combination-fits x factors out n = leb n 64 && (eqb x (64 * n) && eqb factors n && eqb out 64)
-
--- the sign words and the shuffle words of r challenges, and r elements
-abbrev pub challenges-fits : (words out r : ℕ) → Bool
-challenges-fits words out r = leb r 16 && (eqb words (41 * r + 63 * r) && eqb out (64 * r))
-
--- r vectors of n elements, and as many with a triangle of r rows behind them
-abbrev pub h-fits : (s scratch n r : ℕ) → Bool
-h-fits s scratch n r = (leb n 64 && leb r 16) && (eqb s (64 * (r * n)) && eqb scratch (64 * (r * n) + 64 * triangular r))

@@ -1,8 +1,8 @@
 // The tests before the work of the prover's whole call, as a call of their own.
 use admission::answers::Admitted;
-use admission::answers::number_of;
 use admission::calls::Call;
-use admission::prover;
+use admission_order::prover;
+use call_answers::numbers::number_of;
 ghost use mathlib.Core.Path.{_≡_};
 ghost use Rattle.definitions.specs.Answer.{number, place};
 ghost use Rattle.protocol.specs.Prover.{prove-refusal, whole};
@@ -22,7 +22,8 @@ pub extern "C" fn slice_judged(
     scratch: usize,
     output: usize,
 ) -> Judged
-    ensures { λ r. ⌜ (r .number ≡ number (prove-refusal whole (now (job .entry)) (now (randomness .entry)) (now (witness .entry)) scratch output)) × (r .place ≡ place (prove-refusal whole (now (job .entry)) (now (randomness .entry)) (now (witness .entry)) scratch output)) ⌝ }
+    ensures { λ r. ⌜ r .number ≡ number (prove-refusal whole (now (job .entry)) (now (randomness .entry)) (now (witness .entry)) scratch output) ⌝ }
+    ensures { λ r. ⌜ r .place ≡ place (prove-refusal whole (now (job .entry)) (now (randomness .entry)) (now (witness .entry)) scratch output) ⌝ }
 {
     match prover::admit(Call::Whole, job, randomness, witness, scratch, output) {
         Admitted::Refused(refusal) => {

@@ -1,5 +1,5 @@
 -- The whole of the checks in order, and a call of the verifier that is refused before its work or not.
-use mathlib.Core.Path.{_≡_, sym, ap, subst, _∙_}
+use mathlib.Core.Path.{_≡_, refl, sym, ap, ap₂, subst, _∙_}
 use mathlib.Core.List.{List}
 use Prim.Native.Nat.{ℕ, _≤_}
 use native.Mathlib.Omega.{arith}
@@ -10,6 +10,7 @@ use Rattle.definitions.specs.declared.answers.Refusal.{Refusal}
 use Rattle.protocol.specs.Parameters.{parameters}
 use Rattle.protocol.specs.Layout.{randomness-sections, scratch-need}
 use Rattle.protocol.specs.Views.{Public, Message, public, message}
+use Rattle.protocol.specs.Formulas.{u₁-of, u₂-of}
 use Rattle.protocol.specs.Prover.{t-norm, g-norm, h-norm, zeroed}
 use Rattle.protocol.specs.Verifier.{check-21, check-22, check-23, check-24, check-25, check-26, check-27, check-28, check-29, checks, verify-refusal, verify, verify-scratch}
 use Rattle.protocol.proofs.Then.{then-assoc}
@@ -27,9 +28,13 @@ use Rattle.admission.proofs.Fit.{refusal-none}
 use Rattle.workspace.specs.Ready.{Ready, Drawn}
 use Rattle.workspace.specs.Holds.{Kept}
 use Rattle.workspace.proofs.Kept.{kept-clear}
-use Rattle.verifier.specs.Work.{Sent}
-use Rattle.verifier.proofs.Sent.{reckoned}
-use Rattle.verifier.proofs.Verdicts.{refusal-then}
+use Rattle.verifier_common.specs.Work.{Sent}
+use Rattle.verifier_norms.specs.Order.{norms}
+use Rattle.verifier_relations.specs.Order.{relations}
+use Rattle.verifier_commitments.specs.Order.{commitments}
+use Rattle.verifier.specs.Order.{rest, all-checks}
+use Rattle.verifier_common.proofs.Sent.{reckoned}
+use Rattle.verifier_common.proofs.Verdicts.{refusal-then}
 
 -- two pairs of answers after another answer
 pairs-after : (x a b c d : Answer) → x then ((a then b) then (c then d)) ≡ x then a then b then c then d
@@ -46,19 +51,26 @@ five-after x a b c d e =
 abbrev pub of-commitments : Public → Message → Answer
 of-commitments X M = ((t-norm X (M .t) then g-norm X (M .g)) then check-28 X M) then (h-norm X (M .h) then check-29 X M)
 
--- the checks from 24 on, as `check_rest` groups them
-abbrev pub of-rest : Public → Message → Answer
-of-rest X M = ((check-24 X M then check-25 X M) then (check-26 X M then check-27 X M)) then of-commitments X M
+-- the checks of no randomness, and of parameters alone, are those of the protocol
+norms-are : (J R T : List ℕ) → norms J R T ≡ check-21 (public J R) (message (parameters J) T) then check-22 (public J R) (message (parameters J) T) then check-23 (public J R) (message (parameters J) T)
+unfolding check-21 check-23
+norms-are J R T = refl
+
+commitments-are : (J R T : List ℕ) → commitments J T ≡ of-commitments (public J R) (message (parameters J) T)
+unfolding t-norm g-norm h-norm check-28 check-29 u₁-of u₂-of
+commitments-are J R T = refl
 
 -- the groups of checks are all checks in order
-pub groups-are : (X : Public) (M : Message)
-    → (check-21 X M then check-22 X M then check-23 X M) then of-rest X M ≡ checks X M
+pub groups-are : (J R T : List ℕ) → norms J R T then rest J R T ≡ all-checks J R T
 unfolding checks
-groups-are X M =
-    let norms = check-21 X M then check-22 X M then check-23 X M in
-    sym (then-assoc norms ((check-24 X M then check-25 X M) then (check-26 X M then check-27 X M)) (of-commitments X M))
-    ∙ ap (λ y. y then of-commitments X M) (pairs-after norms (check-24 X M) (check-25 X M) (check-26 X M) (check-27 X M))
-    ∙ five-after (norms then check-24 X M then check-25 X M then check-26 X M then check-27 X M) (t-norm X (M .t)) (g-norm X (M .g)) (check-28 X M) (h-norm X (M .h)) (check-29 X M)
+groups-are J R T =
+    let X = public J R in
+    let M = message (parameters J) T in
+    let one = check-21 X M then check-22 X M then check-23 X M in
+    ap₂ (λ a b. a then (relations J R T then b)) (norms-are J R T) (commitments-are J R T)
+    ∙ sym (then-assoc one (relations J R T) (of-commitments X M))
+    ∙ ap (λ y. y then of-commitments X M) (pairs-after one (check-24 X M) (check-25 X M) (check-26 X M) (check-27 X M))
+    ∙ five-after (one then check-24 X M then check-25 X M then check-26 X M then check-27 X M) (t-norm X (M .t)) (g-norm X (M .g)) (check-28 X M) (h-norm X (M .h)) (check-29 X M)
 
 -- a call that is refused nothing before its work
 module _ (J R T : List ℕ) (p : EnvironmentParameters) where
@@ -69,11 +81,14 @@ module _ (J R T : List ℕ) (p : EnvironmentParameters) where
   module _ (scratch : ℕ) (v : Verifiable J R T scratch p) where
     -- what its checks stand on
     pub sent-of : Sent J R T p
-    sent-of = record { same = v .handed .same; sound = v .handed .sound; job = v .handed .job; drawn = all-drawn (v .handed .randomness); transcript = v .transcript }
+    sent-of = record {
+      posed = record { same = v .handed .same; sound = v .handed .sound; job = v .handed .job; transcript = v .transcript };
+      drawn = all-drawn (v .handed .randomness);
+    }
 
     -- its parameters can be reckoned with
     pub call-sized : Sized (parametersOf p)
-    call-sized = reckoned sent-of
+    call-sized = reckoned (sent-of .posed)
 
     -- and regions be laid out
     pub few-regions : (p .rank ≤ 64) × (p .multiplicity ≤ 16) × (p .kappa ≤ 16) × (p .«const_agg_length» ≤ 16)

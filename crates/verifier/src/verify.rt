@@ -1,25 +1,25 @@
 // The verifier's call on whole slices, for every input.
-use crate::norm_checks;
-use crate::outer_commitments;
-use crate::relations;
 use admission::answers::Admitted;
-use admission::verifier;
+use admission_order::verifier;
 use definitions::answers::Verdict;
 use regions::Regions;
 use relation::env_params::EnvironmentParameters;
 use sizes::buffers;
+use verifier_commitments::outer_commitments;
+use verifier_norms::norm_checks;
+use verifier_relations::relations;
 ghost use mathlib.Core.Path.{_≡_};
-ghost use Rattle.definitions.specs.Answer.{ofVerdict, _then_};
+ghost use Rattle.definitions.specs.Answer.{ofVerdict};
 ghost use Rattle.protocol.specs.Parameters.{parameters};
-ghost use Rattle.protocol.specs.Views.{public, message};
 ghost use lib.ListN.{length};
 ghost use Rattle.protocol.specs.Layout.{scratch-need};
-ghost use Rattle.protocol.specs.Prover.{t-norm, g-norm, h-norm, zeroed};
-ghost use Rattle.protocol.specs.Verifier.{check-24, check-25, check-26, check-27, check-28, check-29, checks, verify as verdict, verify-scratch};
+ghost use Rattle.protocol.specs.Prover.{zeroed};
+ghost use Rattle.protocol.specs.Verifier.{verify as verdict, verify-scratch};
 ghost use Rattle.admission.specs.Admission.{Verifiable};
 ghost use Rattle.workspace.specs.Ready.{Ready};
 ghost use Rattle.workspace.specs.Holds.{Kept};
-ghost use Rattle.verifier.specs.Work.{Sent};
+ghost use Rattle.verifier_common.specs.Work.{Sent};
+ghost use Rattle.verifier.specs.Order.{rest, all-checks};
 
 // The checks from 24 on, in order.
 fn check_rest(
@@ -31,21 +31,14 @@ fn check_rest(
     scratch: &mut [u32],
 ) -> Verdict
     requires { ⌜ Sent (now job) (now randomness) (now transcript) p × Ready (now job) p q (now scratch) ⌝ }
-    ensures { λ v. ⌜ ofVerdict v ≡ ((check-24 (public (now (job .entry)) (now (randomness .entry))) (message (parameters (now (job .entry))) (now (transcript .entry))) then check-25 (public (now (job .entry)) (now (randomness .entry))) (message (parameters (now (job .entry))) (now (transcript .entry)))) then (check-26 (public (now (job .entry)) (now (randomness .entry))) (message (parameters (now (job .entry))) (now (transcript .entry))) then check-27 (public (now (job .entry)) (now (randomness .entry))) (message (parameters (now (job .entry))) (now (transcript .entry))))) then (((t-norm (public (now (job .entry)) (now (randomness .entry))) ((message (parameters (now (job .entry))) (now (transcript .entry))) .t) then g-norm (public (now (job .entry)) (now (randomness .entry))) ((message (parameters (now (job .entry))) (now (transcript .entry))) .g)) then check-28 (public (now (job .entry)) (now (randomness .entry))) (message (parameters (now (job .entry))) (now (transcript .entry)))) then (h-norm (public (now (job .entry)) (now (randomness .entry))) ((message (parameters (now (job .entry))) (now (transcript .entry))) .h) then check-29 (public (now (job .entry)) (now (randomness .entry))) (message (parameters (now (job .entry))) (now (transcript .entry))))) ⌝ }
+    ensures { λ v. ⌜ ofVerdict v ≡ rest (now (job .entry)) (now (randomness .entry)) (now (transcript .entry)) ⌝ }
     ensures { λ v. ⌜ Kept (scratch-need (parameters (now (job .entry)))) (now (scratch .entry)) (now (scratch .exit)) ⌝ }
 {
-    match relations::check_relations(job, randomness, transcript, p, q, scratch) {
-        Verdict::Accepted => outer_commitments::check_commitments(
-            job,
-            randomness,
-            transcript,
-            p,
-            q,
-            scratch,
-        ),
-        Verdict::Refused(refusal) => Verdict::Refused(refusal),
-        Verdict::Failed(check) => Verdict::Failed(check),
-    }
+    let first = relations::check_relations(job, randomness, transcript, p, q, scratch);
+    let Verdict::Accepted = first else {
+        return first;
+    };
+    outer_commitments::check_commitments(job, transcript, p, q, scratch)
 }
 
 // All checks, in order.
@@ -58,14 +51,14 @@ pub fn check_all(
     scratch: &mut [u32],
 ) -> Verdict
     requires { ⌜ Sent (now job) (now randomness) (now transcript) p × Ready (now job) p q (now scratch) ⌝ }
-    ensures { λ v. ⌜ ofVerdict v ≡ checks (public (now (job .entry)) (now (randomness .entry))) (message (parameters (now (job .entry))) (now (transcript .entry))) ⌝ }
+    ensures { λ v. ⌜ ofVerdict v ≡ all-checks (now (job .entry)) (now (randomness .entry)) (now (transcript .entry)) ⌝ }
     ensures { λ v. ⌜ Kept (scratch-need (parameters (now (job .entry)))) (now (scratch .entry)) (now (scratch .exit)) ⌝ }
 {
-    match norm_checks::check_norms(job, randomness, transcript, p) {
-        Verdict::Accepted => check_rest(job, randomness, transcript, p, q, scratch),
-        Verdict::Refused(refusal) => Verdict::Refused(refusal),
-        Verdict::Failed(check) => Verdict::Failed(check),
-    }
+    let first = norm_checks::check_norms(job, randomness, transcript, p);
+    let Verdict::Accepted = first else {
+        return first;
+    };
+    check_rest(job, randomness, transcript, p, q, scratch)
 }
 
 // The work of a call that is refused nothing before it: "After any later answer scratch is zero to the length needed".
@@ -77,7 +70,7 @@ fn work_and_clear(
     scratch: &mut [u32],
 ) -> Verdict
     requires { ⌜ Verifiable (now job) (now randomness) (now transcript) (length (now scratch)) p ⌝ }
-    ensures { λ v. ⌜ ofVerdict v ≡ checks (public (now (job .entry)) (now (randomness .entry))) (message (parameters (now (job .entry))) (now (transcript .entry))) ⌝ }
+    ensures { λ v. ⌜ ofVerdict v ≡ all-checks (now (job .entry)) (now (randomness .entry)) (now (transcript .entry)) ⌝ }
     ensures { λ v. ⌜ now (scratch .exit) ≡ zeroed (scratch-need (parameters (now (job .entry)))) (now (scratch .entry)) ⌝ }
 {
     let q = regions::lay_out(p.rank, p.multiplicity, p.kappa, p.const_agg_length);

@@ -11,8 +11,8 @@ pub fn load(words: &[u32], at: usize) -> Rq
     requires { ⌜ at + 64 ≤ length (now words) ⌝ }
     ensures { λ r. ⌜ r .coeffs ≡ part (now (words .entry)) at 64 ⌝ }
 {
-    let mut coeffs = [0u32; 64];
-    for k in 0..64 {
+    let mut coeffs = [0u32; Rq::DEGREE];
+    for k in 0..Rq::DEGREE {
         coeffs[k] = words[at + k];
     }
     Rq { coeffs }
@@ -24,7 +24,7 @@ pub fn store(words: &mut [u32], at: usize, element: Rq)
     ensures { λ _. ⌜ now (words .exit) ≡ splice (now (words .entry)) at (element .coeffs) ⌝ }
 {
     let coeffs = element.coeffs;
-    for k in 0..64 {
+    for k in 0..Rq::DEGREE {
         words[at + k] = coeffs[k];
     }
 }
@@ -46,10 +46,10 @@ pub fn clear_run(words: &mut [u32], at: usize, count: usize)
     requires { ⌜ at + count ≤ length (now words) ⌝ }
     ensures { λ _. ⌜ now (words .exit) ≡ splice (now (words .entry)) at (replicate count 0) ⌝ }
 {
-    let mut k = 0;
-    while k < count {
-        words[at + k] = 0;
-        k += 1;
+    let mut m = 0;
+    while m < count {
+        words[at + m] = 0;
+        m += 1;
     }
 }
 

@@ -13,10 +13,10 @@ use Rattle.protocol.specs.Parameters.{Parameters, parameters, T, triangular}
 use Rattle.protocol.specs.Views.{Public, public, element-at, cell}
 use Rattle.protocol.specs.Formulas.{flat, rows, triangle, _⊕_, _⊗_, a″, φ″, a-sum, φ-sum}
 use Rattle.protocol.specs.Region.{Triangle, Vectors}
-use Rattle.protocol.proofs.Region.{rows-ext}
+use Rattle.protocol.proofs.Region.{rows-ext, triangle-table}
 use Rattle.rq_matrix.proofs.Place.{cell-mirrored}
-use Rattle.commitments.proofs.Formula.{triangle-table}
-use Rattle.aggregate.specs.Weighed.{weighed, both, mixed}
+use Rattle.aggregate_psi.specs.Grid.{weighed}
+use Rattle.aggregate.specs.Weighed.{both, mixed}
 use Rattle.aggregate.proofs.Laws.{job-at, randomness-at, a″-is, φ″-is, a-sum-is, φ-sum-is}
 use Rattle.workspace.specs.Aggregated.{a″-words, φ″-words, φ-words, a-words}
 

@@ -18,7 +18,8 @@ use Rattle.protocol.specs.Formulas.{flat, rows, a″, φ″}
 use Rattle.regions.specs.declared.Regions.{Regions}
 use Rattle.relation.specs.declared.env_params.EnvironmentParameters.{EnvironmentParameters}
 use Rattle.relation.specs.Parameters.{parametersOf}
-use Rattle.aggregate.specs.Weighed.{Grid, weighed, both, mixed}
+use Rattle.aggregate_psi.specs.Grid.{Grid, weighed}
+use Rattle.aggregate.specs.Weighed.{both, mixed}
 use Rattle.aggregate.proofs.Grid.{row-run}
 use Rattle.aggregate.proofs.Laws.{job-at, randomness-at}
 use Rattle.workspace.specs.Ready.{Ready, Drawn}

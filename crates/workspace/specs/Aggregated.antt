@@ -1,5 +1,5 @@
 -- The words of the aggregated constraints and of the challenges, as their regions hold them.
-use mathlib.Core.List.{List}
+use mathlib.Core.List.{List, _++_}
 use Prim.Native.Nat.{ℕ}
 use Rattle.lists.specs.Table.{table, cat}
 use Rattle.protocol.specs.Parameters.{parameters}
@@ -14,6 +14,10 @@ module _ (J R : List ℕ) where
   -- φ''_k, the r vectors of one k after the other's
   abbrev pub φ″-words : List ℕ
   φ″-words = flat (cat (parameters J .L) (λ k. rows (parameters J .r) (parameters J .n) (φ″ (public J R) k)))
+
+  -- both, as their regions lie
+  abbrev pub double-prime-words : List ℕ
+  double-prime-words = φ″-words ++ a″-words
 
   -- φ, r vectors
   abbrev pub φ-words : List ℕ

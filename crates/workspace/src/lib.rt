@@ -6,11 +6,10 @@ use regions::Regions;
 use relation::env_params::EnvironmentParameters;
 use sizes::offsets;
 ghost use mathlib.Core.Path.{_≡_};
-ghost use mathlib.Core.List.{_++_};
 ghost use Rattle.lists.specs.Part.{splice};
 ghost use Rattle.workspace.specs.Ready.{Ready, Drawn};
 ghost use Rattle.workspace.specs.Holds.{Holds};
-ghost use Rattle.workspace.specs.Aggregated.{a″-words, φ″-words, φ-words, a-words, c-words};
+ghost use Rattle.workspace.specs.Aggregated.{a″-words, φ″-words, double-prime-words, φ-words, a-words, c-words};
 
 // "φ''_k,i = Σ psi[k][l]·φ'_l,i + Σ omega[k][j]·conj(row j of Π_i)"
 pub fn phi_double_prime(
@@ -73,7 +72,7 @@ pub fn double_prime(
     scratch: &mut [u32],
 )
     requires { ⌜ Ready (now job) p q (now scratch) × Drawn 3 (now job) (now randomness) ⌝ }
-    ensures { λ _. ⌜ now (scratch .exit) ≡ splice (now (scratch .entry)) 0 (φ″-words (now (job .entry)) (now (randomness .entry)) ++ a″-words (now (job .entry)) (now (randomness .entry))) ⌝ }
+    ensures { λ _. ⌜ now (scratch .exit) ≡ splice (now (scratch .entry)) 0 (double-prime-words (now (job .entry)) (now (randomness .entry))) ⌝ }
 {
     phi_double_prime(job, randomness, p, q, scratch);
     a_double_prime(job, randomness, p, q, scratch);

@@ -5,6 +5,7 @@ use crate::leaves::Leaves;
 use crate::record::Recorder;
 use crate::rust;
 use crate::tally::Tally;
+use crate::whole::BROKEN;
 use model::refusals::{fit, output_need, Handed};
 use model::words::{join, read_witness, Job, Parameters, Randomness, Transcript};
 use model::{checks, conditions, formulas, Answer, Call};
@@ -49,6 +50,17 @@ pub const CALLS: &str = "answers of the calls";
 pub const CONDITIONS: &str = "demand 3's conditions";
 pub const PURPOSES: &str = "purposes";
 
+/// The comparisons of calls on whole slices.
+pub const PLANTED: &str = "model: refusals 1 to 12 with the fault planted";
+pub const PROVER: &str = "model: the prover's answer with the Rust's";
+pub const TRANSCRIPT: &str = "model: the prover's transcript with the Rust's";
+pub const VERIFIER: &str = "model: the verifier's answer with the Rust's";
+pub const FOUR: &str = "model: the four conditions with the Rust's verdict";
+pub const FOUR_OURS: &str = "library: prove then verify with the four conditions";
+pub const WORKED: &str = "library: calls on whole slices with the Rust's";
+pub const REFUSED: &str = "library: refusals 1 to 12 with the model's";
+pub const JUDGED: &str = "library: the tests before the work with the model's";
+
 pub struct Context {
     pub tally: Tally,
     pub recorder: Option<Recorder>,
@@ -75,6 +87,8 @@ impl Context {
         for number in [0, 13, 14, 15, 16, 21, 22, 23, 27] {
             tally.must_occur(CONDITIONS, format!("{number:>2}"));
         }
+        tally.must_compare(&[PLANTED, PROVER, TRANSCRIPT, VERIFIER, FOUR, FOUR_OURS, WORKED, REFUSED]);
+        tally.must_compare(&[BROKEN, JUDGED]);
         Leaves::must_occur(&mut tally);
         Context { tally, recorder }
     }
@@ -106,12 +120,8 @@ impl Context {
             output: case.output,
         };
         let answer = fit(case.call, handed).err().unwrap_or_default();
-        self.tally.compare(
-            "model of refusals 1 to 12 with the fault planted",
-            &answer,
-            &Answer::refused(aim.0, aim.1),
-            || case.describe(),
-        );
+        self.tally
+            .compare(PLANTED, &answer, &Answer::refused(aim.0, aim.1), || case.describe());
         let expected = Expected { answer, worked: None };
         self.take(Case { expected, ..case });
     }
@@ -135,16 +145,10 @@ impl Context {
         let drawn = Randomness::read(p, &randomness);
         let s = read_witness(p, &witness);
         let (made, modelled) = formulas::transcript(&values, &drawn, &s);
-        self.tally
-            .compare("model's prover with the Rust's, answer", &modelled, &answer, described);
+        self.tally.compare(PROVER, &modelled, &answer, described);
         if !sections.is_empty() {
             let ours = made.sections();
-            self.tally.compare(
-                "model's prover with the Rust's, transcript",
-                &ours,
-                &sections,
-                described,
-            );
+            self.tally.compare(TRANSCRIPT, &ours, &sections, described);
         }
 
         for call in Call::ALL {
@@ -183,12 +187,9 @@ impl Context {
         let transcript = join(&sections);
         let verdict = self.verifier(purpose, instance, &transcript, spare);
         let breach = conditions::first_breach(&values, &drawn, &s);
-        self.tally
-            .compare("four conditions with the Rust's verdict", &breach, &verdict, described);
-        if let Some(ours) = prove_then_verify(&job, &randomness, &witness, p.scratch_need(), transcript.len()) {
-            self.tally
-                .compare("library's prove then verify with the four conditions", &ours, &breach, described);
-        }
+        self.tally.compare(FOUR, &breach, &verdict, described);
+        let ours = prove_then_verify(&job, &randomness, &witness, p.scratch_need(), transcript.len());
+        self.tally.compare(FOUR_OURS, &ours, &breach, described);
         self.tally.occurred(CONDITIONS, format!("{:>2}", breach.number));
         Some(transcript)
     }
@@ -205,9 +206,7 @@ impl Context {
             &Transcript::read(p, transcript),
         );
         self.tally
-            .compare("model's verifier with the Rust's", &modelled, &answer, || {
-                format!("verify ({purpose}) {p:?}")
-            });
+            .compare(VERIFIER, &modelled, &answer, || format!("verify ({purpose}) {p:?}"));
         self.take(Case {
             purpose,
             call: Call::Verify,
@@ -228,12 +227,30 @@ impl Context {
 impl Tally {
     /// Compares the library's answer with the expected one.
     pub fn library(&mut self, case: &Case) {
-        if let Some(ours) = ours(case) {
-            let expected = Seen {
-                answer: case.expected.answer,
-                ..Seen::default()
+        let expected = Seen {
+            answer: case.expected.answer,
+            ..Seen::default()
+        };
+        let kind = if case.expected.worked.is_some() {
+            WORKED
+        } else {
+            REFUSED
+        };
+        self.compare(kind, &ours(case), &expected, || case.describe());
+        if case.call == Call::Prove {
+            let slices = [&case.job[..], &case.randomness, &case.third];
+            let ours = library::slices::judged(slices, case.scratch, case.output);
+            let refused = if kind == REFUSED {
+                case.expected.answer
+            } else {
+                Answer::FINE
             };
-            self.compare("library with the expected answer", &ours, &expected, || case.describe());
+            self.compare(
+                JUDGED,
+                &(ours.number, ours.place),
+                &(refused.number, refused.place),
+                || case.describe(),
+            );
         }
     }
 }
@@ -250,10 +267,7 @@ struct Seen {
 const GUARD: usize = 16;
 
 /// The library's call on a case, with buffers whose words are all known beforehand.
-fn ours(case: &Case) -> Option<Seen> {
-    if !library::HAS_WHOLE_CALLS {
-        return None;
-    }
+fn ours(case: &Case) -> Seen {
     let before = |length: usize| -> Vec<u32> { (0..GUARD + length + GUARD).map(|k| 0xc0de_0000 ^ k as u32).collect() };
     let mut scratch = before(case.scratch);
     let mut output = before(case.output);
@@ -266,7 +280,7 @@ fn ours(case: &Case) -> Option<Seen> {
             scratch: &mut scratch[GUARD..GUARD + case.scratch],
             output: &mut output[GUARD..GUARD + case.output],
         },
-    )?;
+    );
     let mut scratch_after = before(case.scratch);
     let mut output_after = before(case.output);
     if let Some(words) = &case.expected.worked {
@@ -274,11 +288,11 @@ fn ours(case: &Case) -> Option<Seen> {
         output_after[GUARD..GUARD + words.len()].copy_from_slice(words);
     }
     let first = |x: &[u32], y: &[u32]| x.iter().zip(y).position(|(a, b)| a != b);
-    Some(Seen {
+    Seen {
         answer,
         scratch: first(&scratch, &scratch_after),
         output: first(&output, &output_after),
-    })
+    }
 }
 
 fn row(call: Call, number: u32) -> String {
@@ -286,7 +300,7 @@ fn row(call: Call, number: u32) -> String {
 }
 
 /// The library's prover, then its verifier on the words that the prover made.
-fn prove_then_verify(job: &[u32], randomness: &[u32], witness: &[u32], scratch: usize, output: usize) -> Option<Answer> {
+fn prove_then_verify(job: &[u32], randomness: &[u32], witness: &[u32], scratch: usize, output: usize) -> Answer {
     let mut scratch = vec![0; scratch];
     let mut made = vec![0; output];
     let proved = library::whole(
@@ -298,9 +312,9 @@ fn prove_then_verify(job: &[u32], randomness: &[u32], witness: &[u32], scratch: 
             scratch: &mut scratch,
             output: &mut made,
         },
-    )?;
+    );
     if proved.number > 0 {
-        return Some(proved);
+        return proved;
     }
     library::whole(
         Call::Verify,

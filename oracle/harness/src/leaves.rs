@@ -12,6 +12,11 @@ use model::words::{SHUFFLES, SIGNS};
 /// Heading of the tally.
 pub const LEAVES: &str = "answers of the leaf calls";
 
+/// The comparisons of leaf calls.
+const MODELLED: &str = "model: leaf calls with the Rust's";
+const OURS: &str = "library: leaf calls with the Rust's";
+const REFUSED: &str = "library: refusals of leaf calls with the model's";
+
 /// The result of fit operands by the published Rust.
 fn rust_value(leaf: Leaf, w: &[u32]) -> Vec<u32> {
     use rust::leaf::*;
@@ -41,6 +46,7 @@ pub struct Leaves<'a> {
 
 impl Leaves<'_> {
     pub fn must_occur(tally: &mut Tally) {
+        tally.must_compare(&[MODELLED, OURS, REFUSED]);
         for leaf in Leaf::ALL {
             for number in leaf.answers() {
                 tally.must_occur(LEAVES, row(leaf, *number));
@@ -53,12 +59,13 @@ impl Leaves<'_> {
         let expected = leaf.answer(operands, rust_value);
         let described = || format!("{} {operands:?}", leaf.name());
         self.tally.occurred(LEAVES, row(leaf, expected.number));
-        let modelled = leaf.answer(operands, calls::value);
-        self.tally
-            .compare("model's leaf with the Rust's", &modelled, &expected, described);
-        if let Some(ours) = library::leaf(leaf, operands) {
-            self.tally
-                .compare("library's leaf with the Rust's", &ours, &expected, described);
+        let ours = library::leaf(leaf, operands);
+        if expected.number == 0 {
+            let modelled = leaf.answer(operands, calls::value);
+            self.tally.compare(MODELLED, &modelled, &expected, described);
+            self.tally.compare(OURS, &ours, &expected, described);
+        } else {
+            self.tally.compare(REFUSED, &ours, &expected, described);
         }
         if let Some(recorder) = self.recorder {
             recorder.leaf(leaf, operands, &expected);

@@ -8,7 +8,6 @@ pub mod record;
 pub mod replay;
 pub mod rust;
 pub mod slices;
-pub mod sums;
 pub mod tally;
 pub mod unfit;
 pub mod whole;

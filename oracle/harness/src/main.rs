@@ -3,7 +3,7 @@
 //! `harness compare SEED COUNT [largest]` compares, on COUNT random instances beside the fixed families.
 //! `harness record FOLDER` writes the recorded answers. `harness replay FOLDER` reads them back and compares them with
 //! the model, and with the library where it is linked.
-//! Each prints a tally, and fails where anything differs or a row is empty.
+//! Each prints a tally, and fails where anything differs, an answer never occurs or a comparison is never made.
 
 use harness::cases::Context;
 use harness::instances::{small, Instance};
@@ -53,10 +53,16 @@ fn compare(seed: u64, count: u64, largest: bool) -> bool {
     let mut random = Random::new(seed);
     let leaf_cases = 500.max(count as usize);
     context.leaves().all(&mut random, leaf_cases, 1);
+    context.tally.stage("leaf calls");
     slices::all(&mut context.tally, &mut Random::new(seed), count as usize / 4);
+    context.tally.stage("calls of the slice layer");
     let base = whole::base(&mut random, whole::pair_parameters());
     families(&mut context, &mut random, &base, 10);
+    context
+        .tally
+        .stage("one instance, with every fault and every check broken");
     whole::limits(&mut context, &mut random);
+    context.tally.stage("sizes at their limits");
     for i in 0..count as usize {
         let parameters = small(&mut random, i);
         whole::random_instance(&mut context, &mut random, parameters);
@@ -64,17 +70,13 @@ fn compare(seed: u64, count: u64, largest: bool) -> bool {
             let base = whole::base(&mut random, parameters);
             unfit::unfit(&mut context, &mut random, &base, Call::ALL[i / 20 % 7], 1);
         }
+        if i % 20 == 19 || i + 1 == count as usize {
+            context.tally.stage(&format!("random instances, {} of {count}", i + 1));
+        }
     }
     if largest {
         whole::largest(&mut context, &mut random);
-    }
-    if !library::HAS_SLICE_CALLS {
-        println!("not compared: the calls of the slice layer are not linked");
-    }
-    if !library::HAS_LEAF_CALLS {
-        println!("not compared: no library is linked, so the proved calls were not run");
-    } else if !library::HAS_WHOLE_CALLS {
-        println!("not compared: the library has no calls on whole slices yet");
+        context.tally.stage("the largest job");
     }
     context.tally.report()
 }
@@ -86,6 +88,7 @@ fn record(folder: &Path) -> bool {
     let base = whole::base(&mut random, whole::pair_parameters());
     families(&mut context, &mut random, &base, 1);
     whole::few(&mut context, &mut random);
+    context.tally.stage("recorded answers, made again");
     let recorder = context.recorder.take().expect("a recorder");
     recorder.write(folder).expect("the folder can be written");
     context.tally.report()

@@ -1,12 +1,18 @@
 //! Reads recorded answers back, as a program with fixed buffers does.
 
-use crate::cases::{Case, Expected};
+use crate::cases::{Case, Expected, JUDGED, REFUSED, WORKED};
 use crate::record::*;
 use crate::tally::Tally;
 use model::calls::{self, Leaf, LeafAnswer};
 use model::refusals::Handed;
 use model::{Answer, Call};
 use std::path::Path;
+
+/// The comparisons of a replay, beside those of the library's calls on whole slices.
+const WHOLE: &str = "files with their last records";
+const MODELLED_LEAF: &str = "model: leaf calls with the recorded ones";
+const LEAF: &str = "library: leaf calls with the Rust's, recorded";
+const MODELLED_CALL: &str = "model: calls on whole slices with the recorded ones";
 
 /// Calls `take` with each record's kind and body; true where the file is whole.
 fn records(path: &Path, mut take: impl FnMut(u32, &[u32])) -> bool {
@@ -32,8 +38,9 @@ fn records(path: &Path, mut take: impl FnMut(u32, &[u32])) -> bool {
 
 pub fn replay(folder: &Path) -> bool {
     let mut tally = Tally::default();
+    tally.must_compare(&[WHOLE, MODELLED_LEAF, LEAF, MODELLED_CALL, WORKED, REFUSED, JUDGED]);
     let leaves_whole = records(&folder.join("leaves"), |kind, body| leaf(&mut tally, kind, body));
-    tally.compare("file with its last record", &leaves_whole, &true, || "leaves".into());
+    tally.compare(WHOLE, &leaves_whole, &true, || "leaves".into());
     let mut slices = CAPACITY.map(|capacity| (vec![0; capacity], 0));
     let calls_whole = records(&folder.join("calls"), |kind, body| match kind {
         PUT => {
@@ -45,7 +52,8 @@ pub fn replay(folder: &Path) -> bool {
         CALL => call(&mut tally, &slices, body),
         _ => panic!("unknown record {kind}"),
     });
-    tally.compare("file with its last record", &calls_whole, &true, || "calls".into());
+    tally.compare(WHOLE, &calls_whole, &true, || "calls".into());
+    tally.stage("recorded answers, read back");
     tally.report()
 }
 
@@ -61,10 +69,8 @@ fn leaf(tally: &mut Tally, kind: u32, body: &[u32]) {
     };
     let described = || format!("{} {operands:?}", leaf.name());
     let modelled = leaf.answer(operands, calls::value);
-    tally.compare("model's leaf with the recorded one", &modelled, &recorded, described);
-    if let Some(ours) = library::leaf(leaf, operands) {
-        tally.compare("library's leaf with the recorded one", &ours, &recorded, described);
-    }
+    tally.compare(MODELLED_LEAF, &modelled, &recorded, described);
+    tally.compare(LEAF, &library::leaf(leaf, operands), &recorded, described);
 }
 
 fn call(tally: &mut Tally, slices: &[(Vec<u32>, usize); 4], body: &[u32]) {
@@ -105,8 +111,6 @@ fn call(tally: &mut Tally, slices: &[(Vec<u32>, usize); 4], body: &[u32]) {
     };
     let (answer, worked) = model::whole(call, handed);
     let modelled = Expected { answer, worked };
-    tally.compare("model's call with the recorded one", &modelled, &case.expected, || {
-        case.describe()
-    });
+    tally.compare(MODELLED_CALL, &modelled, &case.expected, || case.describe());
     tally.library(&case);
 }

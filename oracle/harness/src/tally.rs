@@ -6,8 +6,16 @@ use std::collections::BTreeMap;
 pub struct Tally {
     /// How often each row occurred, under its heading; rows that must occur start at 0.
     rows: BTreeMap<(&'static str, String), u64>,
-    /// How often each comparison was made, and how often the two differed.
-    compared: BTreeMap<&'static str, (u64, u64)>,
+    /// How often each comparison was made, and how often the two differed. Each must be made.
+    compared: BTreeMap<&'static str, Counted>,
+    /// What was compared when the last stage ended.
+    shown: Counted,
+}
+
+#[derive(Clone, Copy, Default)]
+struct Counted {
+    made: u64,
+    differ: u64,
 }
 
 /// Differences of a comparison beyond this many are counted and not printed.
@@ -22,7 +30,13 @@ impl Tally {
         *self.rows.entry((heading, row.to_string())).or_default() += 1;
     }
 
-    /// Counts a comparison, and prints it where the two differ.
+    pub fn must_compare(&mut self, kinds: &[&'static str]) {
+        for kind in kinds {
+            self.compared.entry(kind).or_default();
+        }
+    }
+
+    /// Counts a comparison of a kind that must be made, and prints it where the two differ.
     pub fn compare<T: PartialEq + std::fmt::Debug>(
         &mut self,
         kind: &'static str,
@@ -30,11 +44,13 @@ impl Tally {
         theirs: &T,
         case: impl FnOnce() -> String,
     ) {
-        let (count, differences) = self.compared.entry(kind).or_default();
-        *count += 1;
+        let Some(counted) = self.compared.get_mut(kind) else {
+            panic!("a comparison that need not be made: {kind}");
+        };
+        counted.made += 1;
         if ours != theirs {
-            *differences += 1;
-            if *differences <= SHOWN {
+            counted.differ += 1;
+            if counted.differ <= SHOWN {
                 let cut = |text: String| text.chars().take(400).collect::<String>();
                 println!("differs: {kind}: {}", case());
                 println!("  {}", cut(format!("{ours:?}")));
@@ -43,30 +59,62 @@ impl Tally {
         }
     }
 
-    /// Prints everything; true where nothing differs and no row is empty.
+    /// The comparisons of some kinds.
+    fn counted(&self, of: impl Fn(&str) -> bool) -> Counted {
+        let mut all = Counted::default();
+        for (_, counted) in self.compared.iter().filter(|(kind, _)| of(kind)) {
+            all.made += counted.made;
+            all.differ += counted.differ;
+        }
+        all
+    }
+
+    /// Prints what was compared since the last stage.
+    pub fn stage(&mut self, name: &str) {
+        let all = self.counted(|_| true);
+        let (made, differ) = (all.made - self.shown.made, all.differ - self.shown.differ);
+        println!("stage: {name}: {made} comparisons, {differ} differ");
+        self.shown = all;
+    }
+
+    /// Prints everything; true where nothing differs, no row is empty and each comparison was made.
     pub fn report(&self) -> bool {
         let mut heading = "";
-        let mut empty = 0;
+        let mut never = 0;
+        let mut mark = |count: u64| {
+            never += u64::from(count == 0);
+            if count == 0 {
+                "  never"
+            } else {
+                ""
+            }
+        };
         for ((h, row), count) in &self.rows {
             if *h != heading {
                 println!("\n{h}");
                 heading = h;
             }
-            let mark = if *count == 0 { "  never occurred" } else { "" };
-            println!("  {count:>8}  {row}{mark}");
-            empty += u64::from(*count == 0);
+            println!("  {count:>8}  {row}{}", mark(*count));
         }
         println!("\ncompared");
-        let mut all = 0;
-        for (kind, (count, differences)) in &self.compared {
-            let mark = match differences {
+        for (kind, counted) in &self.compared {
+            let differ = match counted.differ {
                 0 => String::new(),
-                _ => format!("  {differences} differ"),
+                differ => format!("  {differ} differ"),
             };
-            println!("  {count:>8}  {kind}{mark}");
-            all += differences;
+            println!("  {:>8}  {kind}{differ}{}", counted.made, mark(counted.made));
         }
-        println!("\n{all} differences, {empty} empty rows");
-        all == 0 && empty == 0
+        let all = self.counted(|_| true);
+        let rust = self.counted(|kind| kind.starts_with("library: ") && kind.contains(" with the Rust's"));
+        let model = self.counted(|kind| kind.starts_with("library: ") && !kind.contains(" with the Rust's"));
+        println!(
+            "\n{} comparisons; of calls of the library {} with the Rust and {} with the model",
+            all.made, rust.made, model.made
+        );
+        println!(
+            "{} differ, {never} answers or comparisons that must occur did not",
+            all.differ
+        );
+        all.differ == 0 && never == 0
     }
 }

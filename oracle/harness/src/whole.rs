@@ -447,6 +447,9 @@ fn break_checks(instance: &Instance, made: &Transcript, broken: &[u32]) -> (Inst
     (instance, sent)
 }
 
+/// A comparison of the tally.
+pub const BROKEN: &str = "model: the first check broken with the Rust's verdict";
+
 /// Transcripts and jobs on which each check fails alone, and each two together.
 pub fn broken_checks(context: &mut Context, instance: &Instance) {
     let mut instance = instance.clone();
@@ -458,7 +461,7 @@ pub fn broken_checks(context: &mut Context, instance: &Instance) {
         let (instance, sent) = break_checks(&instance, &made, broken);
         let answer = context.verifier(purpose, &instance, &join(&sent.sections()), 0);
         context.tally.compare(
-            "the Rust's verdict with the checks broken",
+            BROKEN,
             &Some(answer.number),
             &broken.first().copied().or(Some(0)),
             || format!("{broken:?}"),

@@ -6,7 +6,6 @@ use model::{Answer, Call};
 pub mod slices;
 
 /// The exported functions as C has them.
-#[cfg(leaf_calls)]
 pub mod leaf_calls {
     #[repr(C)]
     #[derive(Clone, Copy)]
@@ -81,7 +80,6 @@ pub mod leaf_calls {
     }
 }
 
-#[cfg(whole_calls)]
 pub mod whole_calls {
     #[repr(C)]
     pub struct Proved {
@@ -130,21 +128,8 @@ pub mod whole_calls {
     }
 }
 
-/// Whether the library is linked, and whether it has the calls on whole slices.
-pub const HAS_LEAF_CALLS: bool = cfg!(leaf_calls);
-pub const HAS_WHOLE_CALLS: bool = cfg!(whole_calls);
-
-/// Whether the calls of the slice layer are linked.
-pub const HAS_SLICE_CALLS: bool = cfg!(slice_calls);
-
-#[cfg(not(leaf_calls))]
-pub fn leaf(_: Leaf, _: &[u32]) -> Option<LeafAnswer> {
-    None
-}
-
 /// A leaf call on its operand words.
-#[cfg(leaf_calls)]
-pub fn leaf(leaf: Leaf, w: &[u32]) -> Option<LeafAnswer> {
+pub fn leaf(leaf: Leaf, w: &[u32]) -> LeafAnswer {
     use leaf_calls::*;
     use model::calls::{centre_words, norm_words};
     let at = |k: usize| Element {
@@ -192,7 +177,7 @@ pub fn leaf(leaf: Leaf, w: &[u32]) -> Option<LeafAnswer> {
             }
         }
     };
-    Some(LeafAnswer { number, place, result })
+    LeafAnswer { number, place, result }
 }
 
 /// The slices of a call on whole slices, and its lent buffers.
@@ -204,14 +189,8 @@ pub struct Handed<'a> {
     pub output: &'a mut [u32],
 }
 
-#[cfg(not(whole_calls))]
-pub fn whole(_: Call, _: Handed) -> Option<Answer> {
-    None
-}
-
 /// A call on whole slices.
-#[cfg(whole_calls)]
-pub fn whole(call: Call, handed: Handed) -> Option<Answer> {
+pub fn whole(call: Call, handed: Handed) -> Answer {
     use whole_calls::*;
     let Handed {
         job,
@@ -241,13 +220,13 @@ pub fn whole(call: Call, handed: Handed) -> Option<Answer> {
                     scratch.len(),
                 )
             };
-            return Some(Answer {
+            return Answer {
                 number: a.number,
                 place: a.place,
                 index: a.index,
                 first: u128::from(a.first_hi) << 64 | u128::from(a.first_lo),
                 second: u128::from(a.second_hi) << 64 | u128::from(a.second_lo),
-            });
+            };
         }
     };
     let a = unsafe {
@@ -264,9 +243,9 @@ pub fn whole(call: Call, handed: Handed) -> Option<Answer> {
             output.len(),
         )
     };
-    Some(Answer {
+    Answer {
         number: a.number,
         place: a.place,
         ..Answer::FINE
-    })
+    }
 }

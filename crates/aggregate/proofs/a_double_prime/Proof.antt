@@ -9,7 +9,7 @@ use Rattle.lists.specs.Part.{splice}
 use Rattle.lists.proofs.Splice.{length-splice}
 use Rattle.protocol.specs.Formulas.{flat, rows}
 use Rattle.protocol.proofs.Stored.{rows-none, rows-next, rows-all}
-use Rattle.aggregate.specs.Weighed.{weighed}
+use Rattle.aggregate_psi.specs.Grid.{weighed}
 use Rattle.aggregate.proofs.a_double_prime.Statement.{statement}
 use Rattle.aggregate.proofs.a_double_prime.Tie as tie
 

@@ -11,7 +11,8 @@ use Rattle.definitions.specs.Ring.{words}
 use Rattle.protocol.specs.Formulas.{flat}
 use Rattle.protocol.proofs.Stored.{stored-none, stored-next, stored-all}
 use Rattle.aggregate.specs.Weighed.{mixed}
-use Rattle.aggregate.proofs.Grid.{grid-run, grid-same, mixed-before}
+use Rattle.aggregate_psi.proofs.Sums.{grid-run}
+use Rattle.aggregate.proofs.Grid.{grid-same, mixed-before}
 use Rattle.aggregate.proofs.aggregate.Statement.{statement}
 use Rattle.aggregate.proofs.aggregate.Tie as tie
 

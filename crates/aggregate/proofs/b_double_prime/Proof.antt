@@ -12,7 +12,7 @@ use Rattle.protocol.specs.Parameters.{triangular}
 use Rattle.protocol.specs.Formulas.{flat}
 use Rattle.protocol.proofs.Stored.{stored-none, stored-next, stored-all}
 use Rattle.aggregate.specs.Weighed.{formed}
-use Rattle.aggregate.proofs.Grid.{row-within, row-next}
+use Rattle.aggregate_omega.proofs.Rows.{row-within, row-next}
 use Rattle.aggregate.proofs.Formed.{formed-before}
 use Rattle.aggregate.proofs.b_double_prime.Statement.{statement}
 use Rattle.aggregate.proofs.b_double_prime.Tie as tie

@@ -1,8 +1,9 @@
 -- `phi_double_prime` meets its contract.
 use Prim.Native.Nat.{_+_, _*_}
 use borrow.Author.Needs.{needs}
-use Rattle.jl.specs.Omega.{omega-element}
-use Rattle.aggregate.specs.Weighed.{weighed, both}
+use Rattle.jl_omega.specs.Omega.{omega-element}
+use Rattle.aggregate_psi.specs.Grid.{weighed}
+use Rattle.aggregate.specs.Weighed.{both}
 use Rattle.aggregate.proofs.Sums.{lists-added}
 use Rattle.aggregate.proofs.phi_double_prime.Statement.{statement}
 use Rattle.aggregate.proofs.phi_double_prime.Tie as tie

@@ -7,10 +7,10 @@ use Rattle.section_reader.proofs.section_at.Statement.{statement}
 use Rattle.section_reader.proofs.section_at.Tie as tie
 
 returns : tie.Need-returns
-returns c = sym (read-section _ _ (c .before .wide .result) (c .before .wide .ensures) (omega arith) (omega arith))
+returns c = sym (read-section _ _ (c .before .wide-usize .result) (c .before .wide-usize .ensures) (omega arith) (omega arith))
 
 returns-2 : tie.Need-returns-2
-returns-2 c = sym (read-short _ _ (c .before .wide .result) (c .before .wide .ensures) (omega arith) (omega arith))
+returns-2 c = sym (read-short _ _ (c .before .wide-usize .result) (c .before .wide-usize .ensures) (omega arith) (omega arith))
 
 returns-3 : tie.Need-returns-3
 returns-3 c = sym (read-end _ _ (omega arith))

@@ -1,4 +1,4 @@
--- `clear_run` meets its contract. The invariant: the first k words are zero.
+-- `clear_run` meets its contract. The invariant: the first m words are zero.
 use mathlib.Core.Path.{_≡_, refl, sym, _∙_, ap}
 use Prim.Native.Nat.{_+_, _-_, _≤_}
 use native.Mathlib.Omega.{arith}
@@ -9,17 +9,17 @@ use Rattle.words.proofs.clear_run.Statement.{statement}
 use Rattle.words.proofs.clear_run.Tie as tie
 
 abbrev Inv-loop : tie.InvT-loop
-Inv-loop words₀ at count k₀ words k = (k ≤ count) × (words ≡ splice words₀ at (replicate k 0)) × (length words ≡ length words₀)
+Inv-loop words₀ at count m₀ words m = (m ≤ count) × (words ≡ splice words₀ at (replicate m 0)) × (length words ≡ length words₀)
 
 abbrev μ-loop : tie.MeasureT-loop
-μ-loop words₀ at count k₀ words k = count - k
+μ-loop words₀ at count m₀ words m = count - m
 
 loop-again : tie.Need-loop-again Inv-loop μ-loop
 loop-again c =
     let s = c .before .before .args in
     let l = c .before .loop in (
       omega arith,
-      ap (λ w. set w (s .at + l .k) 0) (l .inv .1) ∙ splice-replicate-next 0 (s .words .now) (s .at) (l .k),
+      ap (λ w. set w (s .at + l .m) 0) (l .inv .1) ∙ splice-replicate-next 0 (s .words .now) (s .at) (l .m),
       simp length-set (l .inv .2),
     )
 
@@ -27,7 +27,7 @@ returns : tie.Need-returns Inv-loop μ-loop
 returns c =
     let s = c .before .before .args in
     let l = c .before .loop in
-    let n : l .k ≡ s .count = omega arith in
+    let n : l .m ≡ s .count = omega arith in
     l .inv .1 ∙ ap (λ k. splice (s .words .now) (s .at) (replicate k 0)) n
 
 pub clear-run-spec : {M : Type 1} → statement M

@@ -5,9 +5,9 @@ use native.Mathlib.Omega.{arith}
 use lib.ListN.{length, take}
 use lib.Seq.{length-take-le}
 use borrow.Author.Needs.{needs}
-use Rattle.line_answer.specs.Reading.{answers}
+use Rattle.line_reading.specs.Reading.{answers}
 use Rattle.line_answer.proofs.Chunks.{length-answers}
-use Rattle.line_answer.proofs.Runs.{within, written-first}
+use Rattle.line_writing.proofs.Runs.{within, written-first}
 use Rattle.zq_lines.proofs.read_some.Statement.{statement}
 use Rattle.zq_lines.proofs.read_some.Tie as tie
 

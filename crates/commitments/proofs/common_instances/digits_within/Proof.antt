@@ -2,12 +2,12 @@
 use mathlib.Core.Path.{_∙_, ap}
 use borrow.Author.Needs.{needs}
 use lib.Dec.{leb}
-use Rattle.protocol.specs.Parameters.{three-words}
+use Rattle.definitions.specs.Answer.{value128}
 use Rattle.commitments.proofs.common_instances.digits_within.Statement.{statement}
 use Rattle.commitments.proofs.common_instances.digits_within.Tie as tie
 
 returns : tie.Need-returns
-returns c = let s = c .before .before .before .before .args in c .within .ensures ∙ ap (λ x. leb x (three-words (s .job .now) (s .bound-at))) (c .before .digits-norm .ensures .0)
+returns c = let s = c .before .before .before .args in c .at-most .ensures ∙ ap (λ x. leb x (value128 (s .bound))) (c .before .digits-norm .ensures .0)
 
 pub digits-within-spec : {M : Type 1} → statement M
 digits-within-spec = tie.close (tie.spec (λ c κs. search needs) (λ c κs. search needs) returns)

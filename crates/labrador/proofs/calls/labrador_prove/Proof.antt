@@ -1,7 +1,7 @@
 -- `labrador_prove` meets its contract.
 use mathlib.Core.Path.{ap, _∙_}
 use borrow.Author.Needs.{needs}
-use Rattle.labrador.specs.Calls.{labradorAnswer}
+use Rattle.call_answers.specs.Calls.{labradorAnswer}
 use Rattle.labrador.proofs.calls.labrador_prove.Statement.{statement}
 use Rattle.labrador.proofs.calls.labrador_prove.Tie as tie
 

@@ -1,7 +1,7 @@
 -- `labrador_round_3` meets its contract.
 use mathlib.Core.Path.{ap, _∙_}
 use borrow.Author.Needs.{needs}
-use Rattle.labrador.specs.Calls.{labradorAnswer}
+use Rattle.call_answers.specs.Calls.{labradorAnswer}
 use Rattle.labrador.proofs.calls.labrador_round_3.Statement.{statement}
 use Rattle.labrador.proofs.calls.labrador_round_3.Tie as tie
 

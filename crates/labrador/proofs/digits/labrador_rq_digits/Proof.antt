@@ -9,9 +9,9 @@ use borrow.Author.Tests.{lt-ltb, le-ltb}
 use lib.ListN.{length}
 use Rattle.lists.specs.Part.{splice}
 use Rattle.definitions.specs.Answer.{fine, refused, _then_, ofOperands}
-use Rattle.labrador.specs.Answers.{statusOf}
-use Rattle.labrador.specs.Rows.{roomFor2048, rowsOrZero, rowWords, wordsWritten}
-use Rattle.labrador.proofs.Result.{is-fine, refused-first, then-fine}
+use Rattle.leaf_answers.specs.Answers.{statusOf}
+use Rattle.leaf_answers.specs.Rows.{roomFor2048, rowsOrZero, rowWords, wordsWritten}
+use Rattle.leaf_answers.proofs.Result.{is-fine, refused-first, then-fine}
 use Rattle.labrador.proofs.digits.labrador_rq_digits.Statement.{statement}
 use Rattle.labrador.proofs.digits.labrador_rq_digits.Tie as tie
 

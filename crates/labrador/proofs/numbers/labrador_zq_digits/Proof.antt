@@ -7,10 +7,10 @@ use borrow.Author.Needs.{needs}
 use Rattle.definitions.specs.declared.answers.Operands.{Operands}
 use Rattle.definitions.specs.Answer.{Answer, result, ofOperands}
 use Rattle.definitions.specs.Digits.{digitPlaces}
-use Rattle.labrador.specs.declared.answers.Status.{Status}
-use Rattle.labrador.specs.declared.answers.DigitsAnswer.{DigitsAnswer}
-use Rattle.labrador.specs.Answers.{statusOf, digitsAnswer}
-use Rattle.labrador.proofs.Result.{is-fine, kept, dropped}
+use Rattle.leaf_answers.specs.declared.answers.Status.{Status}
+use Rattle.leaf_answers.specs.declared.answers.DigitsAnswer.{DigitsAnswer}
+use Rattle.leaf_answers.specs.Answers.{statusOf, digitsAnswer}
+use Rattle.leaf_answers.proofs.Result.{is-fine, kept, dropped}
 use Rattle.operands.proofs.Limits.{digit-limits}
 use Rattle.labrador.proofs.numbers.labrador_zq_digits.Statement.{statement}
 use Rattle.labrador.proofs.numbers.labrador_zq_digits.Tie as tie

@@ -21,7 +21,7 @@ loop-holds c = (omega arith, reached-none _ _ _ (omega arith))
 returns : tie.Need-returns Inv-loop μ-loop
 returns c =
     let l = c .before .before .before .before .before .before .loop in
-    (reached-wrong _ _ _ _ _ (l .inv .1) (omega arith) (omega arith) (λ e. c .if3 .taken (c .before .wide .ensures ∙ e)), tt)
+    (reached-wrong _ _ _ _ _ (l .inv .1) (omega arith) (omega arith) (λ e. c .if3 .taken (c .before .wide-usize .ensures ∙ e)), tt)
 
 returns-2 : tie.Need-returns-2 Inv-loop μ-loop
 returns-2 c =

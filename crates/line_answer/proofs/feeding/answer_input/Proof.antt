@@ -6,12 +6,12 @@ use native.Mathlib.Omega.{arith}
 use lib.ListN.{length}
 use borrow.Author.Needs.{needs}
 use Rattle.line_answer.specs.Output.{output}
-use Rattle.line_answer.specs.Reading.{Bounded, start, answers, after, last}
-use Rattle.line_answer.specs.Written.{Written}
-use Rattle.line_answer.specs.declared.reading.State.{State}
+use Rattle.line_reading.specs.Reading.{Bounded, start, answers, after, last}
+use Rattle.line_writing.specs.Written.{Written}
+use Rattle.line_reading.specs.declared.reading.State.{State}
 use Rattle.line_answer.proofs.Chunks.{length-answers, length-output, fed-output}
-use Rattle.line_answer.proofs.Runs.{written-append, written-start, room}
-use Rattle.line_answer.proofs.Small.{bounded-start}
+use Rattle.line_writing.proofs.Runs.{written-append, written-start, room}
+use Rattle.line_reading.proofs.Small.{bounded-start}
 use Rattle.line_answer.proofs.feeding.answer_input.Statement.{statement}
 use Rattle.line_answer.proofs.feeding.answer_input.Tie as tie
 

@@ -5,12 +5,12 @@ use native.Mathlib.Omega.{arith}
 use mathlib.Core.List.{List}
 use lib.ListN.{length, take, getD}
 use lib.Seq.{take-all, length-take-le}
-use Rattle.line_answer.specs.Reading.{after, answers, written, next, Bounded}
-use Rattle.line_answer.specs.Written.{Written}
-use Rattle.line_answer.specs.declared.reading.State.{State}
+use Rattle.line_reading.specs.Reading.{after, answers, written, next, Bounded}
+use Rattle.line_writing.specs.Written.{Written}
+use Rattle.line_reading.specs.declared.reading.State.{State}
 use Rattle.line_answer.proofs.Chunks.{after-take, answers-take, length-answers}
-use Rattle.line_answer.proofs.Runs.{written-none, written-append, written-length}
-use Rattle.line_answer.proofs.Small.{bounded-after}
+use Rattle.line_writing.proofs.Runs.{written-none, written-append, written-length}
+use Rattle.line_reading.proofs.Small.{bounded-after}
 use Rattle.line_answer.proofs.feeding.feed.Statement.{statement}
 use Rattle.line_answer.proofs.feeding.feed.Tie as tie
 

@@ -1,7 +1,7 @@
 -- `feed_byte` meets its contract.
 use borrow.Author.Needs.{needs}
 use borrow.Author.Tests.{eq-eqb, ne-eqb}
-use Rattle.line_answer.proofs.Runs.{written-none}
+use Rattle.line_writing.proofs.Runs.{written-none}
 use Rattle.line_answer.proofs.feeding.feed_byte.Statement.{statement}
 use Rattle.line_answer.proofs.feeding.feed_byte.Tie as tie
 

@@ -2,8 +2,8 @@
 use mathlib.Core.Path.{_≡_, sym, _∙_}
 use mathlib.Core.Bool.{true, false}
 use borrow.Author.Needs.{needs}
-use Rattle.line_answer.specs.Reading.{isFresh}
-use Rattle.line_answer.proofs.Runs.{written-none}
+use Rattle.line_reading.specs.Reading.{isFresh}
+use Rattle.line_writing.proofs.Runs.{written-none}
 use Rattle.line_answer.proofs.feeding.finish.Statement.{statement}
 use Rattle.line_answer.proofs.feeding.finish.Tie as tie
 

@@ -1,7 +1,9 @@
 -- `work_and_clear` meets its contract.
+use native.Mathlib.Omega.{arith}
 use borrow.Author.Needs.{needs}
 use lib.ListN.{length}
 use Rattle.admission.specs.Admission.{callOf}
+use Rattle.prover_commit.proofs.Commitments.{from-made, given-changed}
 use Rattle.prover.proofs.Calls.{given-of, handed-few}
 use Rattle.prover.proofs.Cleared.{call-sized, lay-needs, scratch-room, scratch-cleared, answer-made, output-left, answer-refused, output-room, output-cleared}
 use Rattle.prover.proofs.prove.work_and_clear.Statement.{statement}
@@ -13,98 +15,79 @@ lay-out-requires c κs =
     let a = b .args in
     lay-needs (a .call) (a .job .now) (a .randomness .now) (a .witness .now) (a .p) (a .scratch .now) (a .output .now) (b .pre)
 
-work-requires : tie.Need-work-requires
-work-requires c κs =
-    let l = c .before .before in
-    let b = l .before .before .before .before .before .before in
-    let a = b .args in
-    (given-of (callOf (a .call)) (a .job .now) (a .randomness .now) (a .witness .now) (a .p) (l .lay-out .result) (a .scratch .now) (length (a .output .now)) (handed-few (a .call)) (b .pre) (l .lay-out .ensures), b .pre .output-fits)
-
 scratch-length-requires : tie.Need-scratch-length-requires
 scratch-length-requires c κs =
-    let w = c .before .before .before .before .before in
-    let l = w .before .before .before in
-    let b = l .before .before .before .before .before .before in
+    let b = c .before .before .before .before .before .before in
     let a = b .args in
     call-sized (a .call) (a .job .now) (a .randomness .now) (a .witness .now) (a .p) (a .scratch .now) (a .output .now) (b .pre)
 
+fill-requires : tie.Need-fill-requires
+fill-requires c κs =
+    let b = c .before .before .before .before .before .before .before .before in
+    let a = b .args in
+    given-of (callOf (a .call)) (a .job .now) (a .randomness .now) (a .witness .now) (a .p) (c .before .before .lay-out .result) (a .scratch .now) (length (a .output .now)) (handed-few (a .call)) (b .pre) (c .before .before .lay-out .ensures)
+
+put-requires : tie.Need-put-requires
+put-requires c κs =
+    let b = c .before .before .before .before .before .before .before .before .before .before .before .before .before .before .before in
+    let a = b .args in
+    let g = given-of (callOf (a .call)) (a .job .now) (a .randomness .now) (a .witness .now) (a .p) (c .before .before .before .before .before .before .before .before .before .lay-out .result) (a .scratch .now) (length (a .output .now)) (handed-few (a .call)) (b .pre) (c .before .before .before .before .before .before .before .before .before .lay-out .ensures) in (
+      (given-changed (a .job .now) (a .witness .now) (a .p) (c .before .before .before .before .before .before .before .before .before .lay-out .result) (a .scratch .now) (g .0) _ (c .before .before .before .before .before .before .fill .ensures .1 .0 .size), g .1),
+      (from-made (c .before .before .before .before .before .before .fill .result) _ (c .before .before .enum-told .given .1) (c .before .before .before .before .before .before .fill .ensures .1 .1), b .pre .output-fits),
+    )
+
 clear-requires : tie.Need-clear-requires
 clear-requires c κs =
-    let w = c .before .before .before .before .before .before in
-    let l = w .before .before .before in
-    let b = l .before .before .before .before .before .before in
+    let b = c .before .before .before .before .before .before .before .before .before .before .before .before .before .before .before .before .before .before .before in
     let a = b .args in
-    scratch-room (a .call) (a .job .now) (a .randomness .now) (a .witness .now) (a .p) (a .scratch .now) (a .output .now) (b .pre) (c .scratch-length .result) (c .scratch-length .ensures) _ (w .work .ensures .1 .0)
+    omega (arith, scratch-room (a .call) (a .job .now) (a .randomness .now) (a .witness .now) (a .p) (a .scratch .now) (a .output .now) (b .pre) (c .before .before .before .before .before .before .before .before .before .before .before .before .scratch-length .result) (c .before .before .before .before .before .before .before .before .before .before .before .before .scratch-length .ensures) _ (c .before .before .before .before .before .before .before .before .before .before .fill .ensures .1 .0))
 
 output-length-requires : tie.Need-output-length-requires
 output-length-requires c κs =
-    let m = c .before in
-    let w = m .before .before .before .before .before .before .before .before .before .before .before .before .before in
-    let l = w .before .before .before in
-    let b = l .before .before .before .before .before .before in
+    let b = c .before .before .before .before .before .before .before .before .before .before .before .before .before .before .before in
     let a = b .args in
-    (call-sized (a .call) (a .job .now) (a .randomness .now) (a .witness .now) (a .p) (a .scratch .now) (a .output .now) (b .pre), m .makes .ensures .2)
+    (call-sized (a .call) (a .job .now) (a .randomness .now) (a .witness .now) (a .p) (a .scratch .now) (a .output .now) (b .pre), c .makes .ensures .2)
 
 clear-requires-2 : tie.Need-clear-requires-2
 clear-requires-2 c κs =
-    let m = c .before .before in
-    let w = m .before .before .before .before .before .before .before .before .before .before .before .before .before in
-    let l = w .before .before .before in
-    let b = l .before .before .before .before .before .before in
+    let b = c .before .before .before .before .before .before .before .before .before .before .before .before .before .before .before .before .before in
     let a = b .args in
-    output-room (a .call) (a .job .now) (a .randomness .now) (a .witness .now) (a .p) (a .scratch .now) (a .output .now) (b .pre) (w .work .result) (m .before .before .answer .given .0 .0) _ _ (w .work .ensures) (m .before .before .answer .given .1) _ _ _ (c .output-length .ensures) (m .makes .ensures .0) (m .makes .ensures .1)
+    omega (arith, output-room (a .call) (a .job .now) (a .randomness .now) (a .witness .now) (a .p) (a .scratch .now) (a .output .now) (b .pre) (c .before .before .before .before .before .before .before .before .fill .result) (c .before .before .before .before .refusal .given .0 .0) (c .before .before .before .before .refusal .given .1) (c .before .before .before .before .before .before .before .before .fill .ensures .0) _ _ _ (c .before .output-length .ensures) (c .before .before .makes .ensures .0) (c .before .before .makes .ensures .1))
+
+clear-requires-3 : tie.Need-clear-requires-3
+clear-requires-3 c κs =
+    let b = c .before .before .before .before .before .before .before .before .before .before .before .before .before .before .before .before .before .before .before .before .before in
+    let a = b .args in
+    omega (arith, scratch-room (a .call) (a .job .now) (a .randomness .now) (a .witness .now) (a .p) (a .scratch .now) (a .output .now) (b .pre) (c .before .before .before .before .before .before .before .before .before .before .before .before .before .before .scratch-length .result) (c .before .before .before .before .before .before .before .before .before .before .before .before .before .before .scratch-length .ensures) _ (c .before .before .before .before .before .before .before .before .before .before .before .before .fill .ensures .1 .0))
 
 returns : tie.Need-returns
 returns c =
-    let x = c .before .before .before .before in
-    let n = x .before in
-    let w = n .before .before .before .before .before .before in
-    let l = w .before .before .before in
-    let b = l .before .before .before .before .before .before in
-    let a = b .args in (
-      answer-made (a .call) (a .job .now) (a .randomness .now) (a .witness .now) (a .p) (a .scratch .now) (a .output .now) (b .pre) (w .work .result) _ _ (w .work .ensures) (c .enum-told .given .1),
+    let b = c .before .before .before .before .before .before .before .before .before .before .before .before .before .before .before .before .before .before .before .before .before .before in
+    let a = b .args in
+    let f = c .before .before .before .before .before .before .before .before .before .before .before .before .before in
+    let told = c .before .before .before .before .before .before .before .before .before .enum-told .given .1 in (
+      answer-made (a .call) (a .job .now) (a .randomness .now) (a .witness .now) (a .p) (a .scratch .now) (a .output .now) (b .pre) (f .fill .result) told (f .fill .ensures .0),
       (
-        output-left (a .call) (a .job .now) (a .randomness .now) (a .witness .now) (a .p) (a .scratch .now) (a .output .now) (b .pre) (w .work .result) _ _ (w .work .ensures) (c .enum-told .given .1),
-        scratch-cleared (a .call) (a .job .now) (a .randomness .now) (a .witness .now) (a .p) (a .scratch .now) (a .output .now) (b .pre) (n .scratch-length .result) (n .scratch-length .ensures) _ (w .work .ensures .1 .0) _ (x .clear .ensures),
+        output-left (a .call) (a .job .now) (a .randomness .now) (a .witness .now) (a .p) (a .scratch .now) (a .output .now) (b .pre) (f .fill .result) told (f .fill .ensures .0) _ (c .before .before .before .before .before .before .put .ensures),
+        scratch-cleared (a .call) (a .job .now) (a .randomness .now) (a .witness .now) (a .p) (a .scratch .now) (a .output .now) (b .pre) (c .before .before .before .before .before .before .before .before .before .before .before .before .before .before .before .scratch-length .result) (c .before .before .before .before .before .before .before .before .before .before .before .before .before .before .before .scratch-length .ensures) _ (f .fill .ensures .1 .0) _ (c .before .before .clear .ensures),
       ),
     )
 
 returns-2 : tie.Need-returns-2
 returns-2 c =
-    let y = c .before .before in
-    let o = y .before in
-    let m = o .before .before in
-    let x = m .before .before .before .before .before .before in
-    let n = x .before in
-    let w = n .before .before .before .before .before .before in
-    let l = w .before .before .before in
-    let b = l .before .before .before .before .before .before in
+    let b = c .before .before .before .before .before .before .before .before .before .before .before .before .before .before .before .before .before .before .before .before .before .before .before .before in
     let a = b .args in
-    let r = m .before .before .answer .given .0 .0 in
-    let told = m .before .before .answer .given .1 in (
-      answer-refused (a .call) (a .job .now) (a .randomness .now) (a .witness .now) (a .p) (a .scratch .now) (a .output .now) (b .pre) (w .work .result) r _ _ (w .work .ensures) told _ _ _ (o .output-length .ensures) (m .makes .ensures .0) (m .makes .ensures .1),
+    let f = c .before .before .before .before .before .before .before .before .before .before .before .before .before .before .before in
+    let r = c .before .before .before .before .before .before .before .before .before .before .before .refusal .given .0 .0 in
+    let told = c .before .before .before .before .before .before .before .before .before .before .before .refusal .given .1 in
+    let m = c .before .before .before .before .before .before .before .before .before .makes .ensures in
+    let l = c .before .before .before .before .before .before .before .before .output-length .ensures in (
+      answer-refused (a .call) (a .job .now) (a .randomness .now) (a .witness .now) (a .p) (a .scratch .now) (a .output .now) (b .pre) (f .fill .result) r told (f .fill .ensures .0) _ _ _ l (m .0) (m .1),
       (
-        output-cleared (a .call) (a .job .now) (a .randomness .now) (a .witness .now) (a .p) (a .scratch .now) (a .output .now) (b .pre) (w .work .result) r _ _ (w .work .ensures) told _ _ _ (o .output-length .ensures) (m .makes .ensures .0) (m .makes .ensures .1) _ (y .clear2 .ensures),
-        scratch-cleared (a .call) (a .job .now) (a .randomness .now) (a .witness .now) (a .p) (a .scratch .now) (a .output .now) (b .pre) (n .scratch-length .result) (n .scratch-length .ensures) _ (w .work .ensures .1 .0) _ (x .clear .ensures),
+        output-cleared (a .call) (a .job .now) (a .randomness .now) (a .witness .now) (a .p) (a .scratch .now) (a .output .now) (b .pre) (f .fill .result) r told (f .fill .ensures .0) _ _ _ l (m .0) (m .1) _ (c .before .before .before .before .before .before .clear2 .ensures),
+        scratch-cleared (a .call) (a .job .now) (a .randomness .now) (a .witness .now) (a .p) (a .scratch .now) (a .output .now) (b .pre) (c .before .before .before .before .before .before .before .before .before .before .before .before .before .before .before .before .before .scratch-length .result) (c .before .before .before .before .before .before .before .before .before .before .before .before .before .before .before .before .before .scratch-length .ensures) _ (f .fill .ensures .1 .0) _ (c .before .before .clear3 .ensures),
       ),
     )
 
 pub work-and-clear-spec : {M : Type 1} → statement M
-work-and-clear-spec =
-    tie.close
-    (tie.spec
-    lay-out-requires
-    work-requires
-    scratch-length-requires
-    clear-requires
-    (λ c. search needs)
-    (λ c. search needs)
-    (λ c κs. search needs)
-    output-length-requires
-    clear-requires-2
-    (λ c. search needs)
-    (λ c. search needs)
-    returns
-    (λ c. search needs)
-    (λ c. search needs)
-    returns-2)
+work-and-clear-spec = tie.close (tie.spec lay-out-requires scratch-length-requires fill-requires (λ c. search needs) put-requires clear-requires (λ c. search needs) (λ c κs. search needs) output-length-requires clear-requires-2 clear-requires-3 (λ c. search needs) (λ c. search needs) returns (λ c. search needs) (λ c. search needs) returns-2)

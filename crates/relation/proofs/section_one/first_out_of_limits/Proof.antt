@@ -6,7 +6,7 @@ use lib.ListN.{getD}
 use Rattle.definitions.specs.Answer.{fine}
 use Rattle.protocol.specs.Checks.{first}
 use Rattle.relation.specs.SectionOne.{limit-at}
-use Rattle.relation.proofs.First.{first-next, first-found}
+use Rattle.protocol.proofs.First.{first-next, first-found}
 use Rattle.relation.proofs.Limits.{limited-low, limited-high, limited-within}
 use Rattle.relation.proofs.section_one.first_out_of_limits.Statement.{statement}
 use Rattle.relation.proofs.section_one.first_out_of_limits.Tie as tie

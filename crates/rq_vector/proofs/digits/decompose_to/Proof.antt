@@ -12,7 +12,7 @@ use Rattle.lists.proofs.Splice.{length-splice}
 use Rattle.definitions.specs.Ring.{element}
 use Rattle.protocol.specs.Formulas.{flat, digit-element}
 use Rattle.protocol.proofs.Stored.{stored-none, stored-next}
-use Rattle.rq.proofs.Sizes.{sizesAfter, sizes-first, sizes-next, row-is}
+use Rattle.rq_digits.proofs.Sizes.{sizesAfter, sizes-first, sizes-next, row-is}
 use Rattle.rq_vector.proofs.Rows.{AllFit, row-words}
 use Rattle.rq_vector.proofs.digits.decompose_to.Statement.{statement}
 use Rattle.rq_vector.proofs.digits.decompose_to.Tie as tie

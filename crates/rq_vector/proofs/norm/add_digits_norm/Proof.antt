@@ -11,7 +11,7 @@ use Rattle.lists.proofs.Sum.{Σ-suc}
 use Rattle.definitions.specs.Answer.{value128}
 use Rattle.definitions.specs.Norm.{norm}
 use Rattle.definitions.specs.Rq.{digitRow}
-use Rattle.rq.proofs.Sizes.{sizesAfter, sizes-first, sizes-next, row-is}
+use Rattle.rq_digits.proofs.Sizes.{sizesAfter, sizes-first, sizes-next, row-is}
 use Rattle.rq_vector.proofs.norm.add_digits_norm.Statement.{statement}
 use Rattle.rq_vector.proofs.norm.add_digits_norm.Tie as tie
 

@@ -1,0 +1,42 @@
+// The order of refusals before the work of the prover's calls, as one answer.
+use admission::answers::Admitted;
+use admission::answers::Checked;
+use admission::calls::Call;
+use admission::job;
+use admission::output;
+use admission::randomness;
+use admission::scratch;
+use admission::witness;
+ghost use mathlib.Core.Path.{_≡_};
+ghost use Rattle.protocol.specs.Prover.{prove-refusal};
+ghost use Rattle.admission.specs.Admission.{callOf, ofAdmitted, At, Provable};
+
+// "section one by 3, then 4, 5; other job sections 3, 6; 7, 8; 11, 12 […]; 1, 2; then the work"
+pub fn admit(
+    call: Call,
+    job: &[u32],
+    randomness: &[u32],
+    witness: &[u32],
+    scratch: usize,
+    output: usize,
+) -> Admitted
+    ensures { λ r. ⌜ ofAdmitted r ≡ prove-refusal (callOf call) (now (job .entry)) (now (randomness .entry)) (now (witness .entry)) scratch output ⌝ }
+    ensures { λ r. ⌜ At r (Provable (callOf call) (now (job .entry)) (now (randomness .entry)) (now (witness .entry)) scratch output) ⌝ }
+{
+    match job::check(job) {
+        Admitted::Refused(refusal) => Admitted::Refused(refusal),
+        Admitted::Fit(p) => match randomness::check(randomness, p, call) {
+            Checked::Refused(refusal) => Admitted::Refused(refusal),
+            Checked::Fine => match witness::check(witness, p) {
+                Checked::Refused(refusal) => Admitted::Refused(refusal),
+                Checked::Fine => match scratch::check(scratch, p) {
+                    Checked::Refused(refusal) => Admitted::Refused(refusal),
+                    Checked::Fine => match output::check(output, p, call) {
+                        Checked::Refused(refusal) => Admitted::Refused(refusal),
+                        Checked::Fine => Admitted::Fit(p),
+                    },
+                },
+            },
+        },
+    }
+}

@@ -1,0 +1,47 @@
+-- Rows and lists of elements stored one after the other.
+use mathlib.Core.Path.{_≡_, sym, ap, ap₂, _∙_}
+use mathlib.Core.List.{List, _++_, append-nil, append-assoc}
+use Prim.Native.Nat.{ℕ, zero, suc, _+_, _*_, _≤_, _<_}
+use native.Mathlib.Nat.{add-zero, add-suc, mul-le-mul-right}
+use native.Mathlib.Omega.{arith}
+use lib.ListN.{length}
+use Rattle.lists.specs.Table.{cat}
+use Rattle.lists.specs.Part.{splice}
+use Rattle.lists.proofs.Cat.{cat-ext}
+use Rattle.lists.proofs.Splice.{splice-append}
+use Rattle.definitions.specs.Rq.{Element}
+use Rattle.protocol.specs.Formulas.{flat, rows}
+use Rattle.jl_omega.specs.Omega.{omega-element}
+use Rattle.protocol.proofs.Flat.{length-flat}
+use Rattle.protocol.proofs.Stored.{flat-append}
+use Rattle.protocol.proofs.Region.{length-lists}
+use Rattle.aggregate_omega.specs.Omega.{omega-rows}
+
+-- row k of rows of so many elements ends where the rows do, or before
+pub row-within : (at k number width end : ℕ) → k < number → at + 64 * (number * width) ≤ end → at + 64 * (k * width) + 64 * width ≤ end
+row-within at k number width end l h = omega (arith, mul-le-mul-right width l)
+
+-- where the next row starts
+pub row-next : (at k width place : ℕ) → place ≡ at + 64 * (k * width) → place + 64 * width ≡ at + 64 * ((k + 1) * width)
+row-next at k width place e = omega arith
+
+-- so many lists and so many more
+cat-split : (m n : ℕ) (f : ℕ → List Element) → cat (m + n) f ≡ cat m f ++ cat n (λ q. f (m + q))
+unfolding cat
+cat-split m zero f = ap (λ k. cat k f) (add-zero m) ∙ sym (append-nil (cat m f))
+cat-split m (suc n) f = ap (λ k. cat k f) (add-suc m n) ∙ ap (λ x. x ++ f (m + n)) (cat-split m n f) ∙ append-assoc (cat m f) (cat n (λ q. f (m + q))) (f (m + n))
+
+-- so many more lists of w elements stored after the first m
+pub lists-more : (l before : List ℕ) (at m n w : ℕ) (f g : ℕ → List Element) → before ≡ splice l at (flat (cat m f)) → ((k : ℕ) → length (f k) ≡ w) → ((q : ℕ) → g q ≡ f (m + q))
+    → splice before (at + 64 * (m * w)) (flat (cat n g)) ≡ splice l at (flat (cat (m + n) f))
+lists-more l before at m n w f g b h e =
+    ap₂ (λ x y. splice x (at + 64 * (m * w)) (flat y)) b (cat-ext n g (λ q. f (m + q)) (λ q i. e q))
+    ∙ ap (λ j. splice (splice l at (flat (cat m f))) (at + j) (flat (cat n (λ q. f (m + q))))) (sym (length-flat (cat m f) ∙ ap (λ j. 64 * j) (length-lists m w f h)))
+    ∙ splice-append l at (flat (cat m f)) (flat (cat n (λ q. f (m + q))))
+    ∙ ap (splice l at) (sym (flat-append (cat m f) (cat n (λ q. f (m + q)))) ∙ ap flat (sym (cat-split m n f)))
+
+-- the omega part for k = m + q is that for q from the omega of m on
+pub omega-rows-from : (R : List ℕ) (pi om from r n m q : ℕ) → from ≡ om + m * 256 → omega-rows R pi from r n q ≡ omega-rows R pi om r n (m + q)
+omega-rows-from R pi om from r n m q e =
+    let place : from + q * 256 ≡ om + (m + q) * 256 = omega arith in
+    ap (λ w. rows r n (λ i. omega-element R (pi + i * 256 * (64 * n)) w n)) place

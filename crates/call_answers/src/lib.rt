@@ -1,0 +1,3 @@
+// The answers of the exported calls on whole slices.
+pub mod numbers;
+pub mod verdicts;

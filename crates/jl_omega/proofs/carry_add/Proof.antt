@@ -1,0 +1,20 @@
+-- `carry_add` meets its contract.
+use Prim.Native.Nat.{_+_}
+use native.Mathlib.Omega.{arith}
+use borrow.Author.Needs.{needs}
+use borrow.Author.Tests.{lt-ltb, le-ltb}
+use Rattle.jl_omega.proofs.carry_add.Statement.{statement}
+use Rattle.jl_omega.proofs.carry_add.Tie as tie
+
+returns : tie.Need-returns
+returns c =
+    let s = c .before .before .args in
+    simp (le-ltb (s .a + s .b) 4294967296 (omega arith)) (omega arith)
+
+returns-2 : tie.Need-returns-2
+returns-2 c =
+    let s = c .before .before .args in
+    simp (lt-ltb (s .a + s .b) 4294967296 (omega arith)) (omega arith)
+
+pub carry-add-spec : {M : Type 1} → statement M
+carry-add-spec = tie.close (tie.spec (λ c κs. search needs) (λ c. search needs) returns returns-2)

@@ -1,0 +1,3 @@
+pub mod Result
+mod Owned
+pub mod Rows

@@ -1,0 +1,43 @@
+-- The structs of the exported leaf calls as answers: the number and the place, and the result, which is zero on a refusal.
+use mathlib.Core.List.{List}
+use Prim.Native.Nat.{ℕ, _/_, _%_, _^_}
+use lib.IntN.{ℤ, pos}
+use lib.ListN.{replicate, take, drop}
+use Rattle.definitions.specs.Answer.{Answer, number, place, result}
+use Rattle.definitions.specs.Rq.{rzero}
+use Rattle.definitions.specs.Challenge.{challenge}
+use Rattle.definitions.specs.Leaf.{signWords}
+use Rattle.leaf_answers.specs.declared.answers.Status.{Status}
+use Rattle.leaf_answers.specs.declared.answers.WordAnswer.{WordAnswer}
+use Rattle.leaf_answers.specs.declared.answers.CentreAnswer.{CentreAnswer}
+use Rattle.leaf_answers.specs.declared.answers.DigitsAnswer.{DigitsAnswer}
+use Rattle.leaf_answers.specs.declared.answers.ElementAnswer.{ElementAnswer}
+use Rattle.leaf_answers.specs.declared.answers.NormAnswer.{NormAnswer}
+
+-- no result
+abbrev pub statusOf : Answer → Status
+statusOf a = record { number = number a; place = place a }
+
+-- a word
+abbrev pub wordAnswer : Answer → ℕ → WordAnswer
+wordAnswer a value = record { number = number a; place = place a; value = result a value 0 }
+
+-- a centre
+abbrev pub centreAnswer : Answer → ℤ → CentreAnswer
+centreAnswer a value = record { number = number a; place = place a; value = result a value (pos 0) }
+
+-- the digits of a number in 32 places
+abbrev pub digitsAnswer : Answer → List ℕ → DigitsAnswer
+digitsAnswer a digits = record { number = number a; place = place a; digits = result a digits (replicate 32 0) }
+
+-- an element
+abbrev pub elementAnswer : Answer → List ℕ → ElementAnswer
+elementAnswer a coeffs = record { number = number a; place = place a; coeffs = result a coeffs rzero }
+
+-- a norm in two u64
+abbrev pub normAnswer : Answer → ℕ → NormAnswer
+normAnswer a norm = record { number = number a; place = place a; hi = result a norm 0 / 2 ^ 64; lo = result a norm 0 % 2 ^ 64 }
+
+-- a challenge: "the 41 sign words coming first"
+abbrev pub challengeAnswer : List ℕ → ElementAnswer
+challengeAnswer words = elementAnswer (signWords (take 41 words)) (challenge (take 41 words) (drop 41 words))

@@ -1,0 +1,2 @@
+// The lines of the line program: two decimal words, read byte by byte.
+pub mod reading;

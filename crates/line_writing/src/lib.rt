@@ -1,0 +1,2 @@
+// The line program's answers, written into a lent slice.
+pub mod writing;

@@ -1,0 +1,266 @@
+-- What the steps of the prover's commitments need, store and answer.
+use mathlib.Core.Path.{_≡_, refl, sym, ap, subst, _∙_}
+use mathlib.Core.Bool.{Bool, cond}
+use mathlib.Core.List.{List, []}
+use mathlib.Core.Logic.{inl}
+use Prim.Native.Nat.{ℕ, _+_, _*_, _≤_, _<_, _^_}
+use native.Mathlib.Decide.{decLe}
+use native.Mathlib.Omega.{arith}
+use lib.Dec.{leb}
+use lib.ListN.{length}
+use Rattle.lists.specs.Table.{table}
+use Rattle.lists.specs.Part.{splice}
+use Rattle.lists.proofs.Table.{table-ext}
+use Rattle.lists.proofs.Splice.{length-splice}
+use Rattle.definitions.specs.declared.answers.Proved.{Proved}
+use Rattle.definitions.specs.declared.answers.Proved.the-variants as E
+use Rattle.definitions.specs.Answer.{Answer, fine, refused, value128, _then_}
+use Rattle.protocol.specs.Checks.{require, first}
+use Rattle.protocol.specs.Parameters.{Parameters, parameters, T, triangular}
+use Rattle.protocol.specs.Layout.{start, job-sections, witness-sections, scratch-need}
+use Rattle.protocol.specs.Formulas as F
+use Rattle.protocol.specs.Formulas.{dot, flat, rows, triangle, norm-of}
+use Rattle.protocol.specs.Prover.{witness-norm}
+use Rattle.protocol.specs.Region.{Triangle}
+use Rattle.protocol.proofs.Then.{then-assoc}
+use Rattle.protocol.proofs.ReadBack.{g-symmetric, h-symmetric}
+use Rattle.rq_matrix.specs.Region.{vector, gram, Apart}
+use Rattle.commitments.specs.Cells.{digits-at, vector-norm}
+use Rattle.commitments.proofs.Answers.{require-leb}
+use Rattle.commitments.proofs.Formula.{digits, t-is, witness-norm-is, t-norm-is, g-norm-is, h-norm-is}
+use Rattle.garbage_polynomials.specs.Garbage.{h-of}
+use Rattle.garbage_polynomials.proofs.Formula.{g-formula, h-formula}
+use Rattle.aggregate.specs.Weighed.{formed}
+use Rattle.aggregate.proofs.Formed.{b″-is}
+use Rattle.regions.specs.declared.Regions.{Regions}
+use Rattle.relation.specs.declared.env_params.EnvironmentParameters.{EnvironmentParameters}
+use Rattle.relation.specs.Parameters.{parametersOf}
+use Rattle.workspace.specs.Holds.{Holds, Kept}
+use Rattle.workspace.specs.Aggregated.{a″-words, φ″-words, φ-words}
+use Rattle.workspace.proofs.Holds.{holds-stored, holds-before, holds-after, vectors-held, triangle-held, vectors-list-held, triangle-list-held}
+use Rattle.workspace.proofs.Kept.{kept-refl, kept-stored}
+use Rattle.workspace.proofs.Aggregated.{a″-symmetric}
+use Rattle.workspace.proofs.Ready.{ready-changed, regions-end, A-within, φ″-end, a″-end, φ-end, a-end, g-end, c-end, t-end, u-end, b″-end}
+use Rattle.prover_commit.specs.Words.{statement, X, s, t-words, g-words, b″-words, h-words}
+use Rattle.prover_commit.specs.Refusals.{t-refusal, g-refusal, h-refusal, first-refusal, t-check, g-check, h-check}
+use Rattle.prover_commit.specs.Work.{Given, Where-made, Committed}
+use Rattle.prover_commit.proofs.Lengths.{length-t, length-g}
+
+-- the witness's words stand after their count
+witness-start : (P : Parameters) → start (witness-sections P) 0 ≡ 1
+unfolding start
+witness-start P = refl
+
+-- what is stored, in the scratch that it was stored into
+pub held-stored : (S S′ : List ℕ) (at : ℕ) (ws : List ℕ) → S′ ≡ splice S at ws → at + length ws ≤ length S → Holds S′ at ws
+held-stored S S′ at ws e l = subst (λ x. Holds x at ws) (sym e) (holds-stored S at ws l)
+
+-- what stands before it
+pub held-before : (S S′ : List ℕ) (to : ℕ) (new : List ℕ) → S′ ≡ splice S to new → (at : ℕ) (ws : List ℕ) → at + length ws ≤ to → Holds S at ws → Holds S′ at ws
+held-before S S′ to new e at ws l h = subst (λ x. Holds x at ws) (sym e) (holds-before S at ws to new l h)
+
+-- what stands after it
+pub held-after : (S S′ : List ℕ) (to : ℕ) (new : List ℕ) → S′ ≡ splice S to new → (at : ℕ) (ws : List ℕ) → to + length new ≤ at → Holds S at ws → Holds S′ at ws
+held-after S S′ to new e at ws l h = subst (λ x. Holds x at ws) (sym e) (holds-after S at ws to new l h)
+
+-- a fact that holds in any case
+pub where-made : (r : Proved) {fact : Type 0} → fact → Where-made r fact
+where-made E.Made h = h
+where-made (E.Refused r) h = tt
+
+-- a fact that holds where something was made
+pub from-made : (r : Proved) (fact : Type 0) → r ≡ E.Made → Where-made r fact → fact
+from-made r fact e h = subst (λ x. Where-made x fact) e h
+
+-- a test of the norm of cells' digits as a boolean
+pub bounded : (number at cells n parts base : ℕ) (S : List ℕ) (bound : ℕ) → cells ≡ n → (b : Bool) → b ≡ leb (norm-of (digits-at S (digits at cells parts) base)) bound
+    → (v : Bool) → b ≡ v → cond v fine (refused number 0) ≡ require (decLe (norm-of (digits-at S (digits at n parts) base)) bound) (refused number 0)
+bounded number at cells n parts base S bound same b e v w =
+    ap (λ x. cond x fine (refused number 0)) (sym w ∙ e ∙ ap (λ k. leb (norm-of (digits-at S (digits at k parts) base)) bound) same)
+    ∙ sym (require-leb (norm-of (digits-at S (digits at n parts) base)) bound (refused number 0))
+
+-- what a call hands the steps
+module _ (J W : List ℕ) (p : EnvironmentParameters) (q : Regions) (S : List ℕ) (h : Given J W p q S) where
+  abbrev P : Parameters
+  P = parameters J
+
+  witness-fits : 1 + 64 * (P .r * P .n) ≤ length W
+  witness-fits = subst (λ k. k + 64 * (P .r * P .n) ≤ length W) (witness-start P) (h .witness)
+
+  -- the same with a scratch of the same length
+  pub given-changed : (S′ : List ℕ) → length S′ ≡ length S → Given J W p q S′
+  given-changed S′ e = record { ready = ready-changed J p q S (h .ready) S′ e; witness = h .witness }
+
+  -- the ends of the regions within the scratch
+  pub t-room : q .t + 64 * (P .r * P .κ) ≤ scratch-need P
+  t-room = omega (arith, t-end J p q S (h .ready), u-end J p q S (h .ready), regions-end J p q S (h .ready))
+
+  pub g-room : q .g + 64 * T P ≤ scratch-need P
+  g-room = omega (arith, g-end J p q S (h .ready), c-end J p q S (h .ready), t-room)
+
+  pub a-room : q .a + 64 * T P ≤ scratch-need P
+  a-room = omega (arith, a-end J p q S (h .ready), g-room)
+
+  -- 13: what `check_witness` needs, and what it answers
+  pub witness-checks : (1 + 64 * (p .multiplicity * p .rank) ≤ length W) × (p .rank ≤ 2 ^ 20)
+  witness-checks = subst (λ Q. (1 + 64 * (Q .r * Q .n) ≤ length W) × (Q .n ≤ 2 ^ 20)) (sym (h .ready .same)) (witness-fits, omega (arith, h .ready .sound .within .n .1))
+
+  abbrev tested : Answer
+  tested = first (p .multiplicity) (vector-norm W 1 (p .rank) (value128 (p .«bound_a»)))
+
+  witness-answer : tested ≡ witness-norm (statement J) (s J W)
+  witness-answer =
+      ap (λ (Q : Parameters). first (Q .r) (vector-norm W 1 (Q .n) (Q .bound-A))) (h .ready .same)
+      ∙ ap (λ k. first (P .r) (vector-norm W k (P .n) (P .bound-A))) (sym (witness-start P))
+      ∙ witness-norm-is J [] W
+
+  -- then 14 and 15
+  pub first-is : tested then (t-refusal J W then g-refusal J W) ≡ first-refusal J W
+  unfolding first-refusal
+  first-is = ap (λ a. a then (t-refusal J W then g-refusal J W)) witness-answer ∙ sym (then-assoc (witness-norm (statement J) (s J W)) (t-refusal J W) (g-refusal J W))
+
+  -- t: what `commit_all` needs, and what it stores
+  pub t-fits : (at : ℕ) → at ≡ 30 + start (job-sections (parametersOf p)) 6
+      → (at + 64 * (p .kappa * p .rank) ≤ length J) × (1 + 64 * (p .multiplicity * p .rank) ≤ length W) × (q .t + 64 * (p .multiplicity * p .kappa) ≤ length S) × (p .rank ≤ 64) × (p .kappa ≤ 64)
+  t-fits at e =
+      subst (λ k. (k + 64 * (p .kappa * p .rank) ≤ length J) × (1 + 64 * (p .multiplicity * p .rank) ≤ length W) × (q .t + 64 * (p .multiplicity * p .kappa) ≤ length S) × (p .rank ≤ 64) × (p .kappa ≤ 64)) (sym e)
+      (subst (λ Q. (30 + start (job-sections Q) 6 + 64 * (Q .κ * Q .n) ≤ length J) × (1 + 64 * (Q .r * Q .n) ≤ length W) × (q .t + 64 * (Q .r * Q .κ) ≤ length S) × (Q .n ≤ 64) × (Q .κ ≤ 64)) (sym (h .ready .same))
+      (A-within J p q S (h .ready), witness-fits, omega (arith, t-room, h .ready .room), h .ready .sound .within .n .1, omega (arith, h .ready .sound .within .κ .1)))
+
+  pub t-made : (S′ : List ℕ) (at : ℕ) → at ≡ 30 + start (job-sections (parametersOf p)) 6
+      → S′ ≡ splice S (q .t) (flat (rows (p .multiplicity) (p .kappa) (λ i k. dot (p .rank) (vector J at (p .rank) k) (vector W 1 (p .rank) i)))) → S′ ≡ splice S (q .t) (t-words J W)
+  t-made S′ at e w =
+      w
+      ∙ ap (splice S (q .t))
+      (ap (λ k. flat (rows (p .multiplicity) (p .kappa) (λ i j. dot (p .rank) (vector J k (p .rank) j) (vector W 1 (p .rank) i)))) e
+      ∙ ap (λ Q. flat (rows (Q .r) (Q .κ) (λ i j. dot (Q .n) (vector J (30 + start (job-sections Q) 6) (Q .n) j) (vector W 1 (Q .n) i)))) (h .ready .same)
+      ∙ ap (λ k. flat (rows (P .r) (P .κ) (λ i j. dot (P .n) (vector J (30 + start (job-sections P) 6) (P .n) j) (vector W k (P .n) i)))) (sym (witness-start P))
+      ∙ ap (λ f. flat (rows (P .r) (P .κ) f)) (t-is J [] W))
+
+  -- g: what `compute_g` needs, and what it stores
+  pub g-fits : (1 + 64 * (p .multiplicity * p .rank) ≤ length W) × (q .g + 64 * triangular (p .multiplicity) ≤ length S) × (p .multiplicity ≤ 64) × (p .rank ≤ 64)
+  g-fits =
+      subst (λ Q. (1 + 64 * (Q .r * Q .n) ≤ length W) × (q .g + 64 * T Q ≤ length S) × (Q .r ≤ 64) × (Q .n ≤ 64)) (sym (h .ready .same))
+      (witness-fits, omega (arith, g-room, h .ready .room), omega (arith, h .ready .sound .within .r .1), h .ready .sound .within .n .1)
+
+  pub g-made : (S′ : List ℕ) → S′ ≡ splice S (q .g) (flat (triangle (p .multiplicity) (gram W 1 (p .rank)))) → S′ ≡ splice S (q .g) (g-words J W)
+  g-made S′ w =
+      w
+      ∙ ap (splice S (q .g))
+      (ap (λ Q. flat (triangle (Q .r) (gram W 1 (Q .n)))) (h .ready .same)
+      ∙ ap (λ k. flat (triangle (P .r) (gram W k (P .n)))) (sym (witness-start P))
+      ∙ ap flat (g-formula J [] W))
+
+  -- h: what `compute_h` needs, and what it stores from φ
+  pub h-fits : (1 + 64 * (p .multiplicity * p .rank) ≤ length W) × (q .phi + 64 * (p .multiplicity * p .rank) ≤ length S) × (q .a + 64 * triangular (p .multiplicity) ≤ length S)
+      × Apart (q .phi) (64 * (p .multiplicity * p .rank)) (q .a) (64 * triangular (p .multiplicity)) × (p .multiplicity ≤ 64) × (p .rank ≤ 64)
+  h-fits =
+      subst (λ Q. (1 + 64 * (Q .r * Q .n) ≤ length W) × (q .phi + 64 * (Q .r * Q .n) ≤ length S) × (q .a + 64 * T Q ≤ length S) × Apart (q .phi) (64 * (Q .r * Q .n)) (q .a) (64 * T Q) × (Q .r ≤ 64) × (Q .n ≤ 64))
+      (sym (h .ready .same)) (
+        witness-fits,
+        omega (arith, φ-end J p q S (h .ready), a-room, h .ready .room),
+        omega (arith, a-room, h .ready .room),
+        inl (φ-end J p q S (h .ready)),
+        omega (arith, h .ready .sound .within .r .1),
+        h .ready .sound .within .n .1,
+      )
+
+  pub h-made : (R S′ : List ℕ) → Holds S (q .phi) (φ-words J R) → S′ ≡ splice S (q .a) (flat (triangle (p .multiplicity) (h-of S (q .phi) W 1 (p .rank)))) → S′ ≡ splice S (q .a) (h-words J R W)
+  h-made R S′ φ w =
+      w
+      ∙ ap (splice S (q .a))
+      (ap (λ Q. flat (triangle (Q .r) (h-of S (q .phi) W 1 (Q .n)))) (h .ready .same)
+      ∙ ap (λ k. flat (triangle (P .r) (h-of S (q .phi) W k (P .n)))) (sym (witness-start P))
+      ∙ ap flat (h-formula J R W S (q .phi) (vectors-held S (q .phi) (P .r) (P .n) (F.φ-sum (X J R)) φ)))
+
+  -- b'': what `b_double_prime` needs, and what it stores from a'', g and φ''
+  pub b″-fits : (q .a2 + 64 * (p .«const_agg_length» * triangular (p .multiplicity)) ≤ q .b2) × (q .g + 64 * triangular (p .multiplicity) ≤ q .b2) × (q .phi2 + 64 * (p .«const_agg_length» * (p .multiplicity * p .rank)) ≤ q .b2)
+      × (q .b2 + 64 * p .«const_agg_length» ≤ length S) × (1 + 64 * (p .multiplicity * p .rank) ≤ length W) × (p .multiplicity ≤ 64) × (p .rank ≤ 64)
+  b″-fits =
+      let k = h .ready in
+      let gb : q .g + 64 * T P ≤ q .b2 = omega (arith, g-end J p q S k, c-end J p q S k, t-end J p q S k, u-end J p q S k) in
+      let ag : q .a2 + 64 * (P .L * T P) ≤ q .g = omega (arith, a″-end J p q S k, φ-end J p q S k, a-end J p q S k) in
+      let φa : q .phi2 + 64 * (P .L * (P .r * P .n)) ≤ q .a2 = φ″-end J p q S k in
+      subst (λ Q. (q .a2 + 64 * (Q .L * T Q) ≤ q .b2) × (q .g + 64 * T Q ≤ q .b2) × (q .phi2 + 64 * (Q .L * (Q .r * Q .n)) ≤ q .b2) × (q .b2 + 64 * Q .L ≤ length S) × (1 + 64 * (Q .r * Q .n) ≤ length W) × (Q .r ≤ 64) × (Q .n ≤ 64))
+      (sym (k .same)) (
+        omega (arith, ag, gb),
+        gb,
+        omega (arith, φa, ag, gb),
+        omega (arith, b″-end J p q S k, k .sound .aggregated .1),
+        witness-fits,
+        omega (arith, k .sound .within .r .1),
+        k .sound .within .n .1,
+      )
+
+  -- g, whatever the randomness
+  g-stands : (R : List ℕ) → Holds S (q .g) (g-words J W) → Triangle S (q .g) (P .r) (F.g (X J R) (s J W))
+  unfolding F.g
+  g-stands R g = triangle-held S (q .g) (P .r) (F.g (X J R) (s J W)) (g-symmetric (X J R) (s J W)) g
+
+  pub b″-made : (R S′ : List ℕ) → Holds S (q .phi2) (φ″-words J R) → Holds S (q .a2) (a″-words J R) → Holds S (q .g) (g-words J W)
+      → S′ ≡ splice S (q .b2) (flat (table (p .«const_agg_length») (λ k. formed S (q .a2 + 64 * (k * triangular (p .multiplicity))) (q .g) (q .phi2 + 64 * (k * (p .multiplicity * p .rank))) (p .multiplicity) (p .rank) W 1))) → S′ ≡ splice S (q .b2) (b″-words J R W)
+  b″-made R S′ φ a g w =
+      w
+      ∙ ap (splice S (q .b2))
+      (ap (λ Q. flat (table (Q .L) (λ k. formed S (q .a2 + 64 * (k * T Q)) (q .g) (q .phi2 + 64 * (k * (Q .r * Q .n))) (Q .r) (Q .n) W 1))) (h .ready .same)
+      ∙ ap (λ x. flat (table (P .L) (λ k. formed S (q .a2 + 64 * (k * T P)) (q .g) (q .phi2 + 64 * (k * (P .r * P .n))) (P .r) (P .n) W x))) (sym (witness-start P))
+      ∙ ap flat (table-ext (P .L) (λ k. formed S (q .a2 + 64 * (k * T P)) (q .g) (q .phi2 + 64 * (k * (P .r * P .n))) (P .r) (P .n) W (start (witness-sections P) 0)) (F.b″ (X J R) (s J W)) (λ k l. one k l))
+      ∙ ap (λ k. flat (table k (F.b″ (X J R) (s J W)))) (sym (h .ready .sound .kappa)))
+    where
+      one : (k : ℕ) → k < P .L → formed S (q .a2 + 64 * (k * T P)) (q .g) (q .phi2 + 64 * (k * (P .r * P .n))) (P .r) (P .n) W (start (witness-sections P) 0) ≡ F.b″ (X J R) (s J W) k
+      one k l =
+          b″-is J R W S (q .a2 + 64 * (k * T P)) (q .g) (q .phi2 + 64 * (k * (P .r * P .n))) k
+          (triangle-list-held S (q .a2) (P .L) (P .r) (F.a″ (X J R)) (a″-symmetric J R) a k l)
+          (g-stands R g)
+          (vectors-list-held S (q .phi2) (P .L) (P .r) (P .n) (F.φ″ (X J R)) φ k l)
+
+  -- the norm tests of the cells of t, g and h are those of the formulas
+  pub t-checked : Holds S (q .t) (t-words J W) → t-check p q S ≡ t-refusal J W
+  unfolding t-refusal
+  t-checked t =
+      ap (λ Q. require (decLe (norm-of (digits-at S (digits (q .t) (Q .r * Q .κ) (Q .t₁)) (Q .b))) (Q .bound-B)) (refused 14 0)) (h .ready .same)
+      ∙ require-leb (norm-of (digits-at S (digits (q .t) (P .r * P .κ) (P .t₁)) (P .b))) (P .bound-B) (refused 14 0)
+      ∙ sym (t-norm-is J [] S (q .t) (F.t (statement J) (s J W)) (vectors-held S (q .t) (P .r) (P .κ) (F.t (statement J) (s J W)) t))
+
+  pub g-checked : Holds S (q .g) (g-words J W) → g-check p q S ≡ g-refusal J W
+  unfolding g-refusal
+  g-checked g =
+      ap (λ Q. require (decLe (norm-of (digits-at S (digits (q .g) (T Q) (Q .t₂)) (Q .b))) (Q .bound-C)) (refused 15 0)) (h .ready .same)
+      ∙ require-leb (norm-of (digits-at S (digits (q .g) (T P) (P .t₂)) (P .b))) (P .bound-C) (refused 15 0)
+      ∙ sym (g-norm-is J [] S (q .g) (F.g (statement J) (s J W)) (triangle-held S (q .g) (P .r) (F.g (statement J) (s J W)) (g-symmetric (statement J) (s J W)) g))
+
+  pub h-checked : (R : List ℕ) → Holds S (q .a) (h-words J R W) → h-check p q S ≡ h-refusal J R W
+  unfolding h-refusal
+  h-checked R d =
+      ap (λ Q. require (decLe (norm-of (digits-at S (digits (q .a) (T Q) (Q .t₁)) (Q .b))) (Q .bound-D)) (refused 16 0)) (h .ready .same)
+      ∙ require-leb (norm-of (digits-at S (digits (q .a) (T P) (P .t₁)) (P .b))) (P .bound-D) (refused 16 0)
+      ∙ sym (h-norm-is J R S (q .a) (F.h (X J R) (s J W)) (triangle-held S (q .a) (P .r) (F.h (X J R) (s J W)) (h-symmetric (X J R) (s J W)) d))
+
+  -- a scratch into which t was stored
+  module _ (S₁ : List ℕ) (e : S₁ ≡ splice S (q .t) (t-words J W)) where
+    pub given-t : Given J W p q S₁
+    given-t = given-changed S₁ (ap length e ∙ length-splice S (q .t) (t-words J W))
+
+    pub held-t : Holds S₁ (q .t) (t-words J W)
+    held-t = held-stored S S₁ (q .t) (t-words J W) e (omega (arith, length-t J W, t-room, h .ready .room))
+
+    pub kept-t : Kept (scratch-need P) S S₁
+    kept-t = kept-stored (scratch-need P) S S S₁ (q .t) (t-words J W) (kept-refl (scratch-need P) S) e (omega (arith, length-t J W, t-room))
+
+    -- and then g
+    module _ (S₂ : List ℕ) (e′ : S₂ ≡ splice S₁ (q .g) (g-words J W)) where
+      pub given-g : Given J W p q S₂
+      given-g = given-changed S₂ (ap length e′ ∙ length-splice S₁ (q .g) (g-words J W) ∙ ap length e ∙ length-splice S (q .t) (t-words J W))
+
+      pub held-g : Holds S₂ (q .g) (g-words J W)
+      held-g = held-stored S₁ S₂ (q .g) (g-words J W) e′ (omega (arith, length-g J W, g-room, h .ready .room, ap length e, length-splice S (q .t) (t-words J W)))
+
+      pub kept-g : Kept (scratch-need P) S S₂
+      kept-g = kept-stored (scratch-need P) S S₁ S₂ (q .g) (g-words J W) kept-t e′ (omega (arith, length-g J W, g-room))
+
+      pub committed : Committed J W q S₂
+      committed =
+          record {
+            t = held-after S₁ S₂ (q .g) (g-words J W) e′ (q .t) (t-words J W) (omega (arith, length-g J W, g-end J p q S (h .ready), c-end J p q S (h .ready))) held-t;
+            g = held-g;
+          }

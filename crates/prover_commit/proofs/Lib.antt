@@ -1,0 +1,6 @@
+pub mod Lengths
+pub mod Room
+pub mod Answers
+pub mod Commitments
+mod WithH
+mod Scratch

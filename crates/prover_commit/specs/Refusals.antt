@@ -1,0 +1,54 @@
+-- What the prover's work refuses, and what a call makes, of a job, a randomness and a witness.
+use mathlib.Core.List.{List}
+use Prim.Native.Nat.{ℕ, _*_}
+use native.Mathlib.Decide.{decLe}
+use Rattle.definitions.specs.Answer.{Answer, refused, value128, _then_}
+use Rattle.protocol.specs.Checks.{require}
+use Rattle.protocol.specs.Parameters.{triangular}
+use Rattle.protocol.specs.Formulas as F
+use Rattle.protocol.specs.Formulas.{norm-of}
+use Rattle.protocol.specs.Prover as P
+use Rattle.protocol.specs.Prover.{Call, witness-norm, t-norm, g-norm, h-norm}
+use Rattle.commitments.specs.declared.outer_commitments.Digits.{Digits}
+use Rattle.commitments.specs.Cells.{digits-at}
+use Rattle.regions.specs.declared.Regions.{Regions}
+use Rattle.relation.specs.declared.env_params.EnvironmentParameters.{EnvironmentParameters}
+use Rattle.prover_commit.specs.Words.{statement, X, s}
+
+-- "14 digits of t above B's bound, 15 of g above C's"
+module _ (J W : List ℕ) where
+  unfoldable pub t-refusal : Answer
+  t-refusal = t-norm (statement J) (F.t (statement J) (s J W))
+
+  unfoldable pub g-refusal : Answer
+  g-refusal = g-norm (statement J) (F.g (statement J) (s J W))
+
+  -- "Prover: 13, 14, 15": the refusals that no randomness is in
+  unfoldable pub first-refusal : Answer
+  first-refusal = witness-norm (statement J) (s J W) then t-refusal then g-refusal
+
+module _ (J R W : List ℕ) where
+  -- "16 of h above D's"
+  unfoldable pub h-refusal : Answer
+  h-refusal = h-norm (X J R) (F.h (X J R) (s J W))
+
+  -- what the work of a call answers, and the words that it makes
+  abbrev pub work : Call → Answer
+  work call = P.work-refusal (X J R) call (s J W)
+
+  abbrev pub makes : Call → List ℕ
+  makes call = P.made (X J R) call (s J W)
+
+-- 14, 15 and 16 of the cells that stand in a region
+module _ (p : EnvironmentParameters) (q : Regions) (scratch : List ℕ) where
+  abbrev above : ℕ → Digits → ℕ → Answer
+  above number d bound = require (decLe (norm-of (digits-at scratch d (p .b))) bound) (refused number 0)
+
+  abbrev pub t-check : Answer
+  t-check = above 14 (record { at = q .t; cells = p .multiplicity * p .kappa; parts = p .«t_1» }) (value128 (p .«bound_b»))
+
+  abbrev pub g-check : Answer
+  g-check = above 15 (record { at = q .g; cells = triangular (p .multiplicity); parts = p .«t_2» }) (value128 (p .«bound_c»))
+
+  abbrev pub h-check : Answer
+  h-check = above 16 (record { at = q .a; cells = triangular (p .multiplicity); parts = p .«t_1» }) (value128 (p .«bound_d»))

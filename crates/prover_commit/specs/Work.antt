@@ -1,0 +1,59 @@
+-- What the steps of the prover's work stand on, and what they leave in the scratch.
+use mathlib.Core.List.{List}
+use Prim.Native.Nat.{ℕ, _+_, _*_, _≤_}
+use lib.ListN.{length}
+use Rattle.definitions.specs.declared.answers.Proved.{Proved}
+use Rattle.definitions.specs.declared.answers.Proved.the-variants as P
+use Rattle.protocol.specs.Parameters.{parameters, triangular}
+use Rattle.protocol.specs.Layout.{start, witness-sections}
+use Rattle.admission.specs.declared.calls.Call.{Call}
+use Rattle.admission.specs.declared.calls.Call.the-variants as C
+use Rattle.regions.specs.declared.Regions.{Regions}
+use Rattle.relation.specs.declared.env_params.EnvironmentParameters.{EnvironmentParameters}
+use Rattle.relation.specs.Parameters.{parametersOf}
+use Rattle.sizes.specs.Sizes.{Sized}
+use Rattle.workspace.specs.Ready.{Ready}
+use Rattle.workspace.specs.Holds.{Holds}
+use Rattle.workspace.specs.Aggregated.{a″-words, φ″-words, c-words}
+use Rattle.prover_commit.specs.Words.{t-words, g-words, b″-words, h-words}
+
+-- a job that is refused nothing, and a witness of the job's size
+pub record Given (J W : List ℕ) (p : EnvironmentParameters) (q : Regions) (scratch : List ℕ) : Type 0 where
+  pub ready : Ready J p q scratch
+  pub witness : start (witness-sections (parameters J)) 0 + 64 * (parameters J .r * parameters J .n) ≤ length W
+
+-- parameters within their limits, and regions within a scratch
+pub record Placed (p : EnvironmentParameters) (q : Regions) (scratch : List ℕ) : Type 0 where
+  pub sized : Sized (parametersOf p)
+  pub t : q .t + 64 * (p .multiplicity * p .kappa) ≤ length scratch
+  pub g : q .g + 64 * triangular (p .multiplicity) ≤ length scratch
+  pub h : q .a + 64 * triangular (p .multiplicity) ≤ length scratch
+  pub b″ : q .b2 + 64 * p .kappa ≤ length scratch
+  pub challenges : q .challenges + 64 * p .multiplicity ≤ length scratch
+
+-- a fact that holds where something was made
+abbrev pub Where-made : Proved → Type 0 → Type 0
+Where-made P.Made fact = fact
+Where-made (P.Refused r) fact = Unit {0}
+
+-- t and g stand in their regions
+pub record Committed (J W : List ℕ) (q : Regions) (scratch : List ℕ) : Type 0 where
+  pub t : Holds scratch (q .t) (t-words J W)
+  pub g : Holds scratch (q .g) (g-words J W)
+
+module _ (J R W : List ℕ) (q : Regions) (scratch : List ℕ) where
+  -- φ'', a'' and h too
+  pub record Aggregated : Type 0 where
+    pub committed : Committed J W q scratch
+    pub phi2 : Holds scratch (q .phi2) (φ″-words J R)
+    pub a2 : Holds scratch (q .a2) (a″-words J R)
+    pub h : Holds scratch (q .a) (h-words J R W)
+
+  -- what the sections of a call are made of stands in its regions
+  abbrev pub Filled : Call → Type 0
+  Filled C.Whole = Aggregated × (Holds scratch (q .b2) (b″-words J R W) × Holds scratch (q .challenges) (c-words J R))
+  Filled C.Round1 = Committed J W q scratch
+  Filled C.Round2 = Committed J W q scratch
+  Filled C.Round3 = Holds scratch (q .b2) (b″-words J R W)
+  Filled C.Round4 = Aggregated
+  Filled C.Round5 = Aggregated × Holds scratch (q .challenges) (c-words J R)

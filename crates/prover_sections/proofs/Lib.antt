@@ -1,0 +1,4 @@
+pub mod TranscriptSections
+mod SectionRoom
+mod SectionMade
+mod Calls

@@ -1,0 +1,243 @@
+// The transcript's sections in the lent output, each after its count. Each function writes from a place on and answers the place after it.
+use admission::calls::Call;
+use commitments::outer_commitments;
+use commitments::outer_commitments::Digits;
+use jl::projection;
+use regions::Regions;
+use relation::env_params::EnvironmentParameters;
+use sizes::offsets;
+use sizes::slices;
+ghost use mathlib.Core.Path.{_≡_};
+ghost use mathlib.Core.List.{[], _∷_};
+ghost use Prim.Native.Nat.{_≤_};
+ghost use lib.ListN.{length};
+ghost use Rattle.lists.specs.Part.{splice};
+ghost use Rattle.protocol.specs.Parameters.{parameters};
+ghost use Rattle.protocol.specs.Layout.{span};
+ghost use Rattle.protocol.specs.Prover.{made-sections};
+ghost use Rattle.admission.specs.Admission.{callOf};
+ghost use Rattle.relation.specs.Parameters.{parametersOf};
+ghost use Rattle.workspace.specs.Ready.{Ready, Drawn};
+ghost use Rattle.prover_commit.specs.Refusals.{makes};
+ghost use Rattle.prover_commit.specs.Work.{Given, Placed, Filled};
+ghost use Rattle.prover_sections.specs.Sections.{u₁-in, p-in, b″-in, u₂-in, z-in, t-g-h-in, last-in, all-in, Room, Put, Vectors, Projects};
+
+// "u1 = B·digits(t) + C·digits(g)"
+fn compute_u1(
+    job: &[u32],
+    p: EnvironmentParameters,
+    q: Regions,
+    scratch: &[u32],
+    output: &mut [u32],
+    at: usize,
+) -> usize
+    requires { ⌜ Ready (now job) p q (now scratch) × Room at (u₁-in (parametersOf p) q (now scratch) (now job) ∷ []) (now output) ⌝ }
+    ensures { λ next. ⌜ Put at next (now (output .entry)) (now (output .exit)) (u₁-in (parametersOf p) q (now (scratch .entry)) (now (job .entry)) ∷ []) ⌝ }
+{
+    let t = Digits {
+        at: q.t,
+        cells: p.multiplicity * p.kappa,
+        parts: p.t_1,
+    };
+    let g = Digits {
+        at: q.g,
+        cells: slices::triangle(p.multiplicity),
+        parts: p.t_2,
+    };
+    let b_at = offsets::of_job(p, 7);
+    let c_at = offsets::of_job(p, 8);
+    let count = 64 * p.kappa_1;
+    output[at] = count as u32;
+    outer_commitments::compute_u1(
+        job,
+        b_at,
+        c_at,
+        p.kappa_1,
+        scratch,
+        t,
+        g,
+        p.b,
+        output,
+        at + 1,
+    );
+    at + 1 + count
+}
+
+// "p = Σ Π_i·s_i over coefficients"
+fn compute_p(
+    randomness: &[u32],
+    witness: &[u32],
+    p: EnvironmentParameters,
+    output: &mut [u32],
+    at: usize,
+) -> usize
+    requires { ⌜ Projects p (now randomness) (now witness) × Room at (p-in (parametersOf p) (now randomness) (now witness) ∷ []) (now output) ⌝ }
+    ensures { λ next. ⌜ Put at next (now (output .entry)) (now (output .exit)) (p-in (parametersOf p) (now (randomness .entry)) (now (witness .entry)) ∷ []) ⌝ }
+{
+    let pi_at = offsets::of_randomness(p, 0);
+    output[at] = 256;
+    projection::project_run(
+        randomness,
+        pi_at,
+        witness,
+        1,
+        p.rank,
+        0,
+        p.multiplicity,
+        output,
+        at + 1,
+    );
+    at + 257
+}
+
+// b'' from its region.
+fn put_b_double_prime(
+    p: EnvironmentParameters,
+    q: Regions,
+    scratch: &[u32],
+    output: &mut [u32],
+    at: usize,
+) -> usize
+    requires { ⌜ Placed p q (now scratch) × Room at (b″-in (parametersOf p) q (now scratch) ∷ []) (now output) ⌝ }
+    ensures { λ next. ⌜ Put at next (now (output .entry)) (now (output .exit)) (b″-in (parametersOf p) q (now (scratch .entry)) ∷ []) ⌝ }
+{
+    let count = 64 * p.kappa;
+    words::put_section(output, at, scratch, q.b2, count);
+    at + 1 + count
+}
+
+// "u2 = D·digits(h)"
+fn compute_u2(
+    job: &[u32],
+    p: EnvironmentParameters,
+    q: Regions,
+    scratch: &[u32],
+    output: &mut [u32],
+    at: usize,
+) -> usize
+    requires { ⌜ Ready (now job) p q (now scratch) × Room at (u₂-in (parametersOf p) q (now scratch) (now job) ∷ []) (now output) ⌝ }
+    ensures { λ next. ⌜ Put at next (now (output .entry)) (now (output .exit)) (u₂-in (parametersOf p) q (now (scratch .entry)) (now (job .entry)) ∷ []) ⌝ }
+{
+    let parts = p.t_1;
+    let h = Digits {
+        at: q.a,
+        cells: slices::triangle(p.multiplicity),
+        parts,
+    };
+    let d_at = offsets::of_job(p, 9);
+    let count = 64 * p.kappa_2;
+    output[at] = count as u32;
+    outer_commitments::compute_u2(job, d_at, p.kappa_2, scratch, h, p.b, output, at + 1);
+    at + 1 + count
+}
+
+// "z = Σ s_i·c_i"
+fn compute_z(
+    witness: &[u32],
+    p: EnvironmentParameters,
+    q: Regions,
+    scratch: &[u32],
+    output: &mut [u32],
+    at: usize,
+) -> usize
+    requires { ⌜ Placed p q (now scratch) × Vectors p (now witness) × Room at (z-in (parametersOf p) q (now scratch) (now witness) ∷ []) (now output) ⌝ }
+    ensures { λ next. ⌜ Put at next (now (output .entry)) (now (output .exit)) (z-in (parametersOf p) q (now (scratch .entry)) (now (witness .entry)) ∷ []) ⌝ }
+{
+    let vectors = p.multiplicity;
+    let count = 64 * p.rank;
+    output[at] = count as u32;
+    challenges::compute_z(
+        witness,
+        1,
+        scratch,
+        q.challenges,
+        vectors,
+        p.rank,
+        output,
+        at + 1,
+    );
+    at + 1 + count
+}
+
+// t, g and h from their regions.
+fn put_t_g_h(
+    p: EnvironmentParameters,
+    q: Regions,
+    scratch: &[u32],
+    output: &mut [u32],
+    at: usize,
+) -> usize
+    requires { ⌜ Placed p q (now scratch) × Room at (t-g-h-in (parametersOf p) q (now scratch)) (now output) ⌝ }
+    ensures { λ next. ⌜ Put at next (now (output .entry)) (now (output .exit)) (t-g-h-in (parametersOf p) q (now (scratch .entry))) ⌝ }
+{
+    let cells = 64 * (p.multiplicity * p.kappa);
+    let count = 64 * slices::triangle(p.multiplicity);
+    let g_at = at + 1 + cells;
+    let h_at = g_at + 1 + count;
+    words::put_section(output, at, scratch, q.t, cells);
+    words::put_section(output, g_at, scratch, q.g, count);
+    words::put_section(output, h_at, scratch, q.a, count);
+    h_at + 1 + count
+}
+
+// Round 5: z, t, g, h.
+fn put_z_t_g_h(
+    witness: &[u32],
+    p: EnvironmentParameters,
+    q: Regions,
+    scratch: &[u32],
+    output: &mut [u32],
+    at: usize,
+) -> usize
+    requires { ⌜ Placed p q (now scratch) × Vectors p (now witness) × Room at (last-in (parametersOf p) q (now scratch) (now witness)) (now output) ⌝ }
+    ensures { λ next. ⌜ Put at next (now (output .entry)) (now (output .exit)) (last-in (parametersOf p) q (now (scratch .entry)) (now (witness .entry))) ⌝ }
+{
+    let t_at = compute_z(witness, p, q, scratch, output, at);
+    put_t_g_h(p, q, scratch, output, t_at)
+}
+
+// The whole transcript: u1, p, b'', u2, then z, t, g, h.
+fn put_all(
+    job: &[u32],
+    randomness: &[u32],
+    witness: &[u32],
+    p: EnvironmentParameters,
+    q: Regions,
+    scratch: &[u32],
+    output: &mut [u32],
+) -> usize
+    requires { ⌜ Ready (now job) p q (now scratch) × Projects p (now randomness) (now witness) ⌝ }
+    requires { ⌜ Room 0 (all-in (parametersOf p) q (now scratch) (now job) (now randomness) (now witness)) (now output) ⌝ }
+    ensures { λ next. ⌜ Put 0 next (now (output .entry)) (now (output .exit)) (all-in (parametersOf p) q (now (scratch .entry)) (now (job .entry)) (now (randomness .entry)) (now (witness .entry))) ⌝ }
+{
+    let p_at = compute_u1(job, p, q, scratch, output, 0);
+    let b_at = compute_p(randomness, witness, p, output, p_at);
+    let u_at = put_b_double_prime(p, q, scratch, output, b_at);
+    let z_at = compute_u2(job, p, q, scratch, output, u_at);
+    put_z_t_g_h(witness, p, q, scratch, output, z_at)
+}
+
+// The sections of a call, from what stands in the scratch.
+pub fn put(
+    call: Call,
+    job: &[u32],
+    randomness: &[u32],
+    witness: &[u32],
+    p: EnvironmentParameters,
+    q: Regions,
+    scratch: &[u32],
+    output: &mut [u32],
+) -> usize
+    requires { ⌜ Given (now job) (now witness) p q (now scratch) × Drawn (callOf call .handed) (now job) (now randomness) ⌝ }
+    requires { ⌜ Filled (now job) (now randomness) (now witness) q (now scratch) call × (span (made-sections (callOf call) (parameters (now job))) ≤ length (now output)) ⌝ }
+    ensures { λ _. ⌜ now (output .exit) ≡ splice (now (output .entry)) 0 (makes (now (job .entry)) (now (randomness .entry)) (now (witness .entry)) (callOf call)) ⌝ }
+{
+    match call {
+        Call::Whole => put_all(job, randomness, witness, p, q, scratch, output),
+        Call::Round1 => compute_u1(job, p, q, scratch, output, 0),
+        Call::Round2 => compute_p(randomness, witness, p, output, 0),
+        Call::Round3 => put_b_double_prime(p, q, scratch, output, 0),
+        Call::Round4 => compute_u2(job, p, q, scratch, output, 0),
+        Call::Round5 => put_z_t_g_h(witness, p, q, scratch, output, 0),
+    }
+}

@@ -1,0 +1,62 @@
+// The digits of an element (`Rq::decompose` of ring/rq.rs), row after row: row k has digit k of each coefficient.
+use rq::rq::Rq;
+use zq::digits;
+use zq::zq::Zq;
+ghost use mathlib.Core.Path.{_≡_};
+ghost use Prim.Native.Nat.{_≤_, _<_};
+ghost use Rattle.lists.specs.Table.{table};
+ghost use Rattle.definitions.specs.Zq.{size};
+ghost use Rattle.definitions.specs.Digits.{nextSize};
+ghost use Rattle.definitions.specs.Rq.{coeff, digitRows};
+ghost use Rattle.rq_digits.specs.Digits.{digitOf};
+
+// The sizes of the coefficients' centres.
+pub fn sizes_of(a: [u32; 64]) -> [u32; 64]
+    ensures { λ r. ⌜ r ≡ table 64 (λ j. size (coeff a j)) ⌝ }
+{
+    let mut sizes = [0u32; Rq::DEGREE];
+    for j in 0..Rq::DEGREE {
+        sizes[j] = Zq(a[j]).size();
+    }
+    sizes
+}
+
+// A row of digits, and the sizes that go on.
+pub struct Taken {
+    pub row: [u32; 64],
+    pub sizes: [u32; 64],
+}
+
+// The row of digits that the sizes give, with the coefficients' signs: one division a digit.
+pub fn take_row(a: [u32; 64], base: u32, sizes: [u32; 64]) -> Taken
+    requires { ⌜ 1 < base ⌝ }
+    ensures { λ r. ⌜ (r .row ≡ table 64 (λ j. digitOf base (coeff a j) (coeff sizes j))) × (r .sizes ≡ table 64 (λ j. nextSize base (coeff sizes j))) ⌝ }
+{
+    let mut row = [0u32; Rq::DEGREE];
+    let mut next = [0u32; Rq::DEGREE];
+    for j in 0..Rq::DEGREE {
+        row[j] = digits::digit(Zq(a[j]).is_larger_than_half(), base, sizes[j]);
+        next[j] = digits::next_size(base, sizes[j]);
+    }
+    Taken { row, sizes: next }
+}
+
+// Document 01: "the digits of one element are 32 rows of 64, rows past the parts zero".
+pub fn decompose(a: Rq, base: u32, parts: usize) -> [[u32; 64]; 32]
+    requires { ⌜ (1 < base) × (parts ≤ 32) ⌝ }
+    ensures { λ r. ⌜ r ≡ digitRows base parts (a .coeffs) ⌝ }
+{
+    let coeffs = a.coeffs;
+    let mut sizes = sizes_of(coeffs);
+    let mut rows = [[0u32; Rq::DEGREE]; 32];
+    let mut k = 0;
+    while k < parts {
+        let taken = take_row(coeffs, base, sizes);
+        let row = taken.row;
+        let next = taken.sizes;
+        rows[k] = row;
+        sizes = next;
+        k += 1;
+    }
+    rows
+}

@@ -1,0 +1,2 @@
+// The digits of ring elements (ring/rq.rs).
+pub mod digits;

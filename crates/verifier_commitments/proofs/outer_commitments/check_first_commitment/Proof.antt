@@ -1,0 +1,43 @@
+-- `check_first_commitment` meets its contract.
+use mathlib.Core.Path.{_≡_, ap, _∙_}
+use borrow.Author.Needs.{needs}
+use Rattle.definitions.specs.Answer.{ofVerdict}
+use Rattle.protocol.specs.Parameters.{Parameters, parameters}
+use Rattle.workspace.proofs.Kept.{kept-refl}
+use Rattle.verifier_common.specs.Answers.{t-and-g-bounds, u1-differs}
+use Rattle.verifier_common.proofs.Sent.{received}
+use Rattle.verifier_common.proofs.Verdicts.{goes-on, stops}
+use Rattle.verifier_commitments.proofs.outer_commitments.check_first_commitment.Statement.{statement}
+use Rattle.verifier_commitments.proofs.outer_commitments.check_first_commitment.Tie as tie
+
+-- 14 and 15, of the job's parameters
+bounded : (c : tie.After-check-t-and-g)
+    → let s = c .before .before .before .before .args in
+    ofVerdict (c .check-t-and-g .result) ≡ t-and-g-bounds (parameters (s .job .now)) (s .transcript .now)
+bounded c =
+    let s = c .before .before .before .before in
+    c .check-t-and-g .ensures ∙ ap (λ (P : Parameters). t-and-g-bounds P (s .args .transcript .now)) (s .pre .0 .same)
+
+returns : tie.Need-returns
+returns c =
+    let s = c .before .before .before .before .before .args in
+    (stops (c .before .check-t-and-g .result) (bounded (c .before)) (c .match .keys2) (u1-differs (s .job .now) (s .transcript .now)), kept-refl _ _)
+
+returns-2 : tie.Need-returns-2
+returns-2 c =
+    let e = c .before .before .check-u1 .ensures in
+    let t = c .before .before .before .before in
+    let b = t .before .before in
+    let s = b .before .before .before .before .args in
+    (e .0 ∙ goes-on (b .check-t-and-g .result) (bounded b) (t .enum-told .given .1) (u1-differs (s .job .now) (s .transcript .now)), e .1)
+
+pub check-first-commitment-spec : {M : Type 1} → statement M
+check-first-commitment-spec =
+    tie.close
+    (tie.spec
+    (λ c κs. received (c .before .before .before .pre .0))
+    (λ c. search needs)
+    returns
+    (λ c κs. c .before .before .before .before .before .before .before .pre)
+    (λ c. c .before .before .check-u1 .ensures .1 .size)
+    returns-2)

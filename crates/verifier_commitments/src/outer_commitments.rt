@@ -1,0 +1,192 @@
+// The outer commitments to what the prover sends: 14, 15 and 28; 16 and 29.
+use commitments::common_instances;
+use commitments::outer_commitments;
+use commitments::outer_commitments::Digits;
+use definitions::answers::FailedCheck;
+use definitions::answers::Refusal;
+use definitions::answers::Verdict;
+use regions::Regions;
+use relation::env_params::EnvironmentParameters;
+use sizes::offsets;
+use sizes::slices;
+use verifier_common::equal;
+ghost use mathlib.Core.Path.{_≡_};
+ghost use Rattle.definitions.specs.Answer.{ofVerdict};
+ghost use Rattle.protocol.specs.Parameters.{parameters};
+ghost use Rattle.protocol.specs.Layout.{scratch-need};
+ghost use Rattle.workspace.specs.Ready.{Ready};
+ghost use Rattle.workspace.specs.Holds.{Kept};
+ghost use Rattle.relation.specs.Parameters.{parametersOf};
+ghost use Rattle.verifier_common.specs.Work.{Received, Posed};
+ghost use Rattle.verifier_common.specs.Answers.{t-and-g-bounds, h-bound, u1-differs, u2-differs};
+ghost use Rattle.verifier_commitments.specs.Order.{first-commitment, second-commitment, commitments};
+
+// "28 u1 differs"
+pub fn check_u1(
+    job: &[u32],
+    transcript: &[u32],
+    p: EnvironmentParameters,
+    q: Regions,
+    scratch: &mut [u32],
+) -> Verdict
+    requires { ⌜ Posed (now job) (now transcript) p × Ready (now job) p q (now scratch) ⌝ }
+    ensures { λ v. ⌜ ofVerdict v ≡ u1-differs (now (job .entry)) (now (transcript .entry)) ⌝ }
+    ensures { λ v. ⌜ Kept (scratch-need (parameters (now (job .entry)))) (now (scratch .entry)) (now (scratch .exit)) ⌝ }
+{
+    let t = Digits {
+        at: offsets::of_transcript(p, 5),
+        cells: p.multiplicity * p.kappa,
+        parts: p.t_1,
+    };
+    let g = Digits {
+        at: offsets::of_transcript(p, 6),
+        cells: slices::triangle(p.multiplicity),
+        parts: p.t_2,
+    };
+    let b_at = offsets::of_job(p, 7);
+    let c_at = offsets::of_job(p, 8);
+    let rows = p.kappa_1;
+    outer_commitments::compute_u1(job, b_at, c_at, rows, transcript, t, g, p.b, scratch, q.u);
+    if equal::same_words(
+        transcript,
+        offsets::of_transcript(p, 0),
+        scratch,
+        q.u,
+        64 * rows,
+    ) {
+        Verdict::Accepted
+    } else {
+        Verdict::Failed(FailedCheck::OuterCommitU1)
+    }
+}
+
+// "29 u2 differs"
+pub fn check_u2(
+    job: &[u32],
+    transcript: &[u32],
+    p: EnvironmentParameters,
+    q: Regions,
+    scratch: &mut [u32],
+) -> Verdict
+    requires { ⌜ Posed (now job) (now transcript) p × Ready (now job) p q (now scratch) ⌝ }
+    ensures { λ v. ⌜ ofVerdict v ≡ u2-differs (now (job .entry)) (now (transcript .entry)) ⌝ }
+    ensures { λ v. ⌜ Kept (scratch-need (parameters (now (job .entry)))) (now (scratch .entry)) (now (scratch .exit)) ⌝ }
+{
+    let h = Digits {
+        at: offsets::of_transcript(p, 7),
+        cells: slices::triangle(p.multiplicity),
+        parts: p.t_1,
+    };
+    let d_at = offsets::of_job(p, 9);
+    let rows = p.kappa_2;
+    outer_commitments::compute_u2(job, d_at, rows, transcript, h, p.b, scratch, q.u);
+    if equal::same_words(
+        transcript,
+        offsets::of_transcript(p, 3),
+        scratch,
+        q.u,
+        64 * rows,
+    ) {
+        Verdict::Accepted
+    } else {
+        Verdict::Failed(FailedCheck::OuterCommitU2)
+    }
+}
+
+// "14 digits of t above B's bound, 15 of g above C's"
+pub fn check_t_and_g(transcript: &[u32], p: EnvironmentParameters) -> Verdict
+    requires { ⌜ Received (now transcript) p ⌝ }
+    ensures { λ v. ⌜ ofVerdict v ≡ t-and-g-bounds (parametersOf p) (now (transcript .entry)) ⌝ }
+{
+    let t = Digits {
+        at: offsets::of_transcript(p, 5),
+        cells: p.multiplicity * p.kappa,
+        parts: p.t_1,
+    };
+    let g = Digits {
+        at: offsets::of_transcript(p, 6),
+        cells: slices::triangle(p.multiplicity),
+        parts: p.t_2,
+    };
+    if !common_instances::digits_within(transcript, t, p.b, p.bound_b) {
+        return Verdict::Refused(Refusal::DigitsOfT);
+    }
+    if !common_instances::digits_within(transcript, g, p.b, p.bound_c) {
+        return Verdict::Refused(Refusal::DigitsOfG);
+    }
+    Verdict::Accepted
+}
+
+// "16 of h above D's"
+pub fn check_h(transcript: &[u32], p: EnvironmentParameters) -> Verdict
+    requires { ⌜ Received (now transcript) p ⌝ }
+    ensures { λ v. ⌜ ofVerdict v ≡ h-bound (parametersOf p) (now (transcript .entry)) ⌝ }
+{
+    let h = Digits {
+        at: offsets::of_transcript(p, 7),
+        cells: slices::triangle(p.multiplicity),
+        parts: p.t_1,
+    };
+    if common_instances::digits_within(transcript, h, p.b, p.bound_d) {
+        Verdict::Accepted
+    } else {
+        Verdict::Refused(Refusal::DigitsOfH)
+    }
+}
+
+// 14, 15 and 28, in order.
+pub fn check_first_commitment(
+    job: &[u32],
+    transcript: &[u32],
+    p: EnvironmentParameters,
+    q: Regions,
+    scratch: &mut [u32],
+) -> Verdict
+    requires { ⌜ Posed (now job) (now transcript) p × Ready (now job) p q (now scratch) ⌝ }
+    ensures { λ v. ⌜ ofVerdict v ≡ first-commitment (now (job .entry)) (now (transcript .entry)) ⌝ }
+    ensures { λ v. ⌜ Kept (scratch-need (parameters (now (job .entry)))) (now (scratch .entry)) (now (scratch .exit)) ⌝ }
+{
+    let bounds = check_t_and_g(transcript, p);
+    let Verdict::Accepted = bounds else {
+        return bounds;
+    };
+    check_u1(job, transcript, p, q, scratch)
+}
+
+// 16 and 29, in order.
+pub fn check_second_commitment(
+    job: &[u32],
+    transcript: &[u32],
+    p: EnvironmentParameters,
+    q: Regions,
+    scratch: &mut [u32],
+) -> Verdict
+    requires { ⌜ Posed (now job) (now transcript) p × Ready (now job) p q (now scratch) ⌝ }
+    ensures { λ v. ⌜ ofVerdict v ≡ second-commitment (now (job .entry)) (now (transcript .entry)) ⌝ }
+    ensures { λ v. ⌜ Kept (scratch-need (parameters (now (job .entry)))) (now (scratch .entry)) (now (scratch .exit)) ⌝ }
+{
+    let bound = check_h(transcript, p);
+    let Verdict::Accepted = bound else {
+        return bound;
+    };
+    check_u2(job, transcript, p, q, scratch)
+}
+
+// 14, 15, 28, 16 and 29, in order.
+pub fn check_commitments(
+    job: &[u32],
+    transcript: &[u32],
+    p: EnvironmentParameters,
+    q: Regions,
+    scratch: &mut [u32],
+) -> Verdict
+    requires { ⌜ Posed (now job) (now transcript) p × Ready (now job) p q (now scratch) ⌝ }
+    ensures { λ v. ⌜ ofVerdict v ≡ commitments (now (job .entry)) (now (transcript .entry)) ⌝ }
+    ensures { λ v. ⌜ Kept (scratch-need (parameters (now (job .entry)))) (now (scratch .entry)) (now (scratch .exit)) ⌝ }
+{
+    let first = check_first_commitment(job, transcript, p, q, scratch);
+    let Verdict::Accepted = first else {
+        return first;
+    };
+    check_second_commitment(job, transcript, p, q, scratch)
+}

@@ -1,0 +1,35 @@
+-- What the verifier's checks stand on.
+use mathlib.Core.Path.{_≡_}
+use mathlib.Core.Bool.{Bool, decide}
+use mathlib.Core.List.{List, List-discrete}
+use Prim.Native.Nat.{ℕ}
+use native.Mathlib.Decide.{ℕ-discrete}
+use Rattle.protocol.specs.Parameters.{parameters}
+use Rattle.protocol.specs.Layout.{job-sections, transcript-sections}
+use Rattle.layout.specs.Laid.{Laid}
+use Rattle.relation.specs.declared.env_params.EnvironmentParameters.{EnvironmentParameters}
+use Rattle.relation.specs.Parameters.{parametersOf}
+use Rattle.relation.specs.SectionOne.{Sound}
+use Rattle.sizes.specs.Sizes.{Sized}
+use Rattle.workspace.specs.Ready.{Drawn}
+
+-- parameters within their limits and a transcript of theirs
+pub record Received (T : List ℕ) (p : EnvironmentParameters) : Type 0 where
+  pub sized : Sized (parametersOf p)
+  pub transcript : Laid T 0 (transcript-sections (parametersOf p))
+
+-- a job and a transcript that are refused nothing
+pub record Posed (J T : List ℕ) (p : EnvironmentParameters) : Type 0 where
+  pub same : parametersOf p ≡ parameters J
+  pub sound : Sound J
+  pub job : Laid J 30 (job-sections (parameters J))
+  pub transcript : Laid T 0 (transcript-sections (parameters J))
+
+-- with a randomness
+pub record Sent (J R T : List ℕ) (p : EnvironmentParameters) : Type 0 where
+  pub posed : Posed J T p
+  pub drawn : Drawn 7 J R
+
+-- whether two lists of words are the same
+abbrev pub equal : List ℕ → List ℕ → Bool
+equal a b = decide (List-discrete ℕ-discrete a b)

@@ -1,0 +1,3 @@
+// What the verifier's checks (verifier.rs) have in common: equality of elements and of runs of words.
+// specs/ says what a check stands on and what it answers, proofs/ how one goes on after another.
+pub mod equal;

@@ -1,0 +1,156 @@
+-- `check_norm_sum` meets its contract.
+use mathlib.Core.Path.{_≡_, refl, sym, ap, subst, _∙_}
+use mathlib.Core.Bool.{cond}
+use mathlib.Core.List.{[], _∷_}
+use Prim.Native.Nat.{ℕ, _+_, _*_, _≤_, _<_, _^_}
+use native.Mathlib.Omega.{arith}
+use lib.ListN.{length}
+use Rattle.definitions.specs.Answer.{fine, failed, value128}
+use Rattle.relation.specs.Parameters.{parametersOf}
+use Rattle.verifier_common.specs.Answers.{norm-sum}
+use Rattle.verifier_common.proofs.Sent.{received-room, product-small}
+use Rattle.verifier_norms.proofs.Norms.{check-23-is}
+use Rattle.verifier_norms.proofs.norm_checks.check_norm_sum.Statement.{statement}
+use Rattle.verifier_norms.proofs.norm_checks.check_norm_sum.Tie as tie
+
+-- few cells
+few : (n m : ℕ) → n ≤ m → m ≤ 256 → n ≤ 2 ^ 20
+few n m h h′ = omega arith
+
+-- the upper halves of two norms can be added
+small : (x y a b : ℕ) → x ≤ a → y ≤ b → a + b ≤ 2 ^ 40 → x + y + 1 < 2 ^ 64
+small x y a b h h′ e = omega arith
+
+-- the upper half of a norm of few cells
+norm-hi : (x n m : ℕ) → x ≤ 2048 * n → n ≤ m → m ≤ 256 → x ≤ 524288
+norm-hi x n m h h′ e = omega arith
+
+-- the upper half of a sum
+sum-hi : (r x y a b : ℕ) → r ≤ x + y + 1 → x ≤ a → y ≤ b → r ≤ a + b + 1
+sum-hi r x y a b h h′ e = omega arith
+
+digits-norm-requires : tie.Need-digits-norm-requires
+digits-norm-requires c κs =
+    let w = c .before .before .before .pre in
+    (received-room w 4 (c .of-transcript .result) (omega arith) (c .of-transcript .ensures), w .sized .within .b .0, omega arith, few _ 64 (w .sized .within .n .1) (omega arith))
+
+mul-digits-norm : tie.Need-mul-digits-norm
+mul-digits-norm c =
+    let s = c .before .before .before .before .before .before .args in
+    let w = c .before .before .before .before .before .before .pre in
+    omega (arith, product-small (s .p .multiplicity) (s .p .kappa) (w .sized .within .r .1) (w .sized .within .κ .1))
+
+digits-norm-requires-2 : tie.Need-digits-norm-requires-2
+digits-norm-requires-2 c κs =
+    let s = c .before .before .before .before .before .before .args in
+    let w = c .before .before .before .before .before .before .pre in
+    let o = c .before .of-transcript2 in
+    (received-room w 5 (o .result) (omega arith) (o .ensures), w .sized .within .b .0, w .sized .within .t₁ .1, few _ 256 (product-small (s .p .multiplicity) (s .p .kappa) (w .sized .within .r .1) (w .sized .within .κ .1)) (omega arith))
+
+digits-norm-requires-3 : tie.Need-digits-norm-requires-3
+digits-norm-requires-3 c κs =
+    let s = c .before .before .before .before .before .before .before .before .args in
+    let w = c .before .before .before .before .before .before .before .before .pre in
+    let t = c .before .before .before .before .before .before .triangle in
+    let o = c .of-transcript3 in
+    (subst (λ n. o .result + 64 * n ≤ length (s .transcript .now)) (sym (t .ensures .0)) (received-room w 6 (o .result) (omega arith) (o .ensures)), w .sized .within .b .0, w .sized .within .t₂ .1, few (t .result) 136 (t .ensures .1) (omega arith))
+
+digits-norm-requires-4 : tie.Need-digits-norm-requires-4
+digits-norm-requires-4 c κs =
+    let s = c .before .before .before .before .before .before .before .before .before .before .args in
+    let w = c .before .before .before .before .before .before .before .before .before .before .pre in
+    let t = c .before .before .before .before .before .before .before .before .triangle in
+    let o = c .of-transcript4 in
+    (subst (λ n. o .result + 64 * n ≤ length (s .transcript .now)) (sym (t .ensures .0)) (received-room w 7 (o .result) (omega arith) (o .ensures)), w .sized .within .b .0, w .sized .within .t₁ .1, few (t .result) 136 (t .ensures .1) (omega arith))
+
+-- the upper halves of the four norms
+z-hi : (c : tie.After-digits-norm4) → c .before .before .before .before .before .before .before .digits-norm .result .hi ≤ 524288
+z-hi c = norm-hi _ _ 64 (c .before .before .before .before .before .before .before .digits-norm .ensures .1) (c .before .before .before .before .before .before .before .before .before .before .before .pre .sized .within .n .1) (omega arith)
+
+t-hi : (c : tie.After-digits-norm4) → c .before .before .before .before .digits-norm2 .result .hi ≤ 524288
+t-hi c =
+    let s = c .before .before .before .before .before .before .before .before .before .before .before .args in
+    let w = c .before .before .before .before .before .before .before .before .before .before .before .pre in
+    norm-hi _ _ 256 (c .before .before .before .before .digits-norm2 .ensures .1) (product-small (s .p .multiplicity) (s .p .kappa) (w .sized .within .r .1) (w .sized .within .κ .1)) (omega arith)
+
+g-hi : (c : tie.After-digits-norm4) → c .before .before .digits-norm3 .result .hi ≤ 524288
+g-hi c = norm-hi _ _ 136 (c .before .before .digits-norm3 .ensures .1) (c .before .before .before .before .before .before .before .before .before .triangle .ensures .1) (omega arith)
+
+h-hi : (c : tie.After-digits-norm4) → c .digits-norm4 .result .hi ≤ 524288
+h-hi c = norm-hi _ _ 136 (c .digits-norm4 .ensures .1) (c .before .before .before .before .before .before .before .before .before .triangle .ensures .1) (omega arith)
+
+-- the upper halves of the sums
+add-hi : (c : tie.After-add) → c .add .result .hi ≤ 1048577
+add-hi c = sum-hi (c .add .result .hi) (c .before .before .before .before .before .before .before .before .digits-norm .result .hi) (c .before .before .before .before .before .digits-norm2 .result .hi) 524288 524288 (c .add .ensures .1) (z-hi (c .before)) (t-hi (c .before))
+
+add2-hi : (c : tie.After-add2) → c .add2 .result .hi ≤ 1572866
+add2-hi c = sum-hi (c .add2 .result .hi) (c .before .add .result .hi) (c .before .before .before .before .digits-norm3 .result .hi) 1048577 524288 (c .add2 .ensures .1) (add-hi (c .before)) (g-hi (c .before .before))
+
+add-requires : tie.Need-add-requires
+add-requires c κs = small (c .before .before .before .before .before .before .before .digits-norm .result .hi) (c .before .before .before .before .digits-norm2 .result .hi) 524288 524288 (z-hi c) (t-hi c) (omega arith)
+
+add-requires-2 : tie.Need-add-requires-2
+add-requires-2 c κs = small (c .add .result .hi) (c .before .before .before .digits-norm3 .result .hi) 1048577 524288 (add-hi c) (g-hi (c .before)) (omega arith)
+
+add-requires-3 : tie.Need-add-requires-3
+add-requires-3 c κs = small (c .add2 .result .hi) (c .before .before .digits-norm4 .result .hi) 1572866 524288 (add2-hi c) (h-hi (c .before .before)) (omega arith)
+
+-- 23, by what `at_most` answers
+found : (c : tie.After-at-most)
+    → let s = c .before .before .before .before .before .before .before .before .before .before .before .before .before .before .before .before .args in
+    norm-sum (parametersOf (s .p)) (s .transcript .now)
+    ≡ cond (c .at-most .result) fine (failed 23 (value128 (c .before .before .add3 .result) ∷ value128 (s .p .«beta_prime_sq») ∷ []))
+found c =
+    let s = c .before .before .before .before .before .before .before .before .before .before .before .before .before .before .before .before .args in
+    check-23-is (s .transcript .now) (s .p) (c .before .before .before .before .before .before .before .before .before .before .before .before .before .before .triangle .result) (c .before .before .before .before .before .before .before .before .before .before .before .before .before .of-transcript .result) (c .before .before .before .before .before .before .before .before .before .before .before .of-transcript2 .result) (c .before .before .before .before .before .before .before .before .of-transcript3 .result) (c .before .before .before .before .before .before .of-transcript4 .result)
+    (value128 (c .before .before .before .before .before .before .before .before .before .before .before .before .digits-norm .result)) (value128 (c .before .before .before .before .before .before .before .before .before .digits-norm2 .result)) (value128 (c .before .before .before .before .before .before .before .digits-norm3 .result)) (value128 (c .before .before .before .before .before .digits-norm4 .result))
+    (record {
+      size = c .before .before .before .before .before .before .before .before .before .before .before .before .before .before .triangle .ensures .0;
+      z-place = c .before .before .before .before .before .before .before .before .before .before .before .before .before .of-transcript .ensures;
+      t-place = c .before .before .before .before .before .before .before .before .before .before .before .of-transcript2 .ensures;
+      g-place = c .before .before .before .before .before .before .before .before .of-transcript3 .ensures;
+      h-place = c .before .before .before .before .before .before .of-transcript4 .ensures;
+      z-is = c .before .before .before .before .before .before .before .before .before .before .before .before .digits-norm .ensures .0;
+      t-is = c .before .before .before .before .before .before .before .before .before .digits-norm2 .ensures .0;
+      g-is = c .before .before .before .before .before .before .before .digits-norm3 .ensures .0;
+      h-is = c .before .before .before .before .before .digits-norm4 .ensures .0;
+    })
+    (value128 (c .before .before .before .before .add .result)) (value128 (c .before .before .before .add2 .result)) (value128 (c .before .before .add3 .result)) (value128 (s .p .«beta_prime_sq»)) (c .at-most .result)
+    (c .before .before .before .before .add .ensures .0)
+    (c .before .before .before .add2 .ensures .0)
+    (c .before .before .add3 .ensures .0)
+    refl
+    (c .at-most .ensures)
+
+returns : tie.Need-returns
+returns c =
+    let x = value128 (c .before .before .before .add3 .result) in
+    let y = value128 (c .before .before .before .before .before .before .before .before .before .before .before .before .before .before .before .before .before .args .p .«beta_prime_sq») in
+    sym (found (c .before) ∙ ap (λ t. cond t fine (failed 23 (x ∷ y ∷ []))) (c .if1 .taken))
+
+returns-2 : tie.Need-returns-2
+returns-2 c =
+    let x = value128 (c .before .before .before .add3 .result) in
+    let y = value128 (c .before .before .before .before .before .before .before .before .before .before .before .before .before .before .before .before .before .args .p .«beta_prime_sq») in
+    sym (found (c .before) ∙ ap (λ t. cond t fine (failed 23 (x ∷ y ∷ []))) (c .if1 .left))
+
+pub check-norm-sum-spec : {M : Type 1} → statement M
+check-norm-sum-spec =
+    tie.close
+    (tie.spec
+    (λ c κs. c .before .pre .sized .within .r .1)
+    (λ c κs. (c .before .before .pre .sized, omega arith))
+    digits-norm-requires
+    (λ c κs. (c .before .before .before .before .pre .sized, omega arith))
+    mul-digits-norm
+    digits-norm-requires-2
+    (λ c κs. (c .before .before .before .before .before .before .before .pre .sized, omega arith))
+    digits-norm-requires-3
+    (λ c κs. (c .before .before .before .before .before .before .before .before .before .pre .sized, omega arith))
+    digits-norm-requires-4
+    add-requires
+    add-requires-2
+    add-requires-3
+    (λ c κs. tt)
+    returns
+    returns-2)

@@ -1,0 +1,219 @@
+// The relations between what the prover sends and the statement: checks 24 to 27.
+use aggregate;
+use definitions::answers::FailedCheck;
+use definitions::answers::Verdict;
+use inner_product;
+use regions::Regions;
+use relation::env_params::EnvironmentParameters;
+use rq_matrix;
+use sizes::offsets;
+use verifier_common::equal;
+use workspace;
+ghost use mathlib.Core.Path.{_≡_};
+ghost use Rattle.definitions.specs.Answer.{ofVerdict};
+ghost use Rattle.protocol.specs.Parameters.{parameters};
+ghost use Rattle.protocol.specs.Layout.{scratch-need};
+ghost use Rattle.workspace.specs.Ready.{Ready};
+ghost use Rattle.workspace.specs.Holds.{Kept};
+ghost use Rattle.verifier_common.specs.Work.{Sent};
+ghost use Rattle.verifier_common.specs.Answers.{az, z-inner, phi, relation};
+ghost use Rattle.verifier_relations.specs.Order.{openings, aggregated, relations};
+ghost use Rattle.verifier_relations.specs.Held.{Challenged, Lined, Multiplied};
+
+// "24 A·z is not Σ t_i·c_i."
+pub fn check_az(
+    job: &[u32],
+    randomness: &[u32],
+    transcript: &[u32],
+    p: EnvironmentParameters,
+    q: Regions,
+    scratch: &[u32],
+) -> Verdict
+    requires { ⌜ Sent (now job) (now randomness) (now transcript) p × Ready (now job) p q (now scratch) × Challenged (now job) (now randomness) q (now scratch) ⌝ }
+    ensures { λ v. ⌜ ofVerdict v ≡ az (now (job .entry)) (now (randomness .entry)) (now (transcript .entry)) ⌝ }
+{
+    let a_at = offsets::of_job(p, 6);
+    let z_at = offsets::of_transcript(p, 4);
+    let t_at = offsets::of_transcript(p, 5);
+    let n = p.rank;
+    let kappa = p.kappa;
+    let mut k = 0;
+    while k < kappa {
+        let row = a_at + 64 * (k * n);
+        let left = inner_product::inner_product(job, row, 64, transcript, z_at, 64, n);
+        let right = rq_matrix::column_sum(
+            transcript,
+            t_at,
+            kappa,
+            k,
+            scratch,
+            q.challenges,
+            p.multiplicity,
+        );
+        if !equal::same(left, right) {
+            return Verdict::Failed(FailedCheck::Az);
+        }
+        k += 1;
+    }
+    Verdict::Accepted
+}
+
+// "25 ⟨z,z⟩ is not Σ g_ij·c_i·c_j."
+pub fn check_z_inner(
+    job: &[u32],
+    randomness: &[u32],
+    transcript: &[u32],
+    p: EnvironmentParameters,
+    q: Regions,
+    scratch: &[u32],
+) -> Verdict
+    requires { ⌜ Sent (now job) (now randomness) (now transcript) p × Ready (now job) p q (now scratch) × Challenged (now job) (now randomness) q (now scratch) ⌝ }
+    ensures { λ v. ⌜ ofVerdict v ≡ z-inner (now (job .entry)) (now (randomness .entry)) (now (transcript .entry)) ⌝ }
+{
+    let z_at = offsets::of_transcript(p, 4);
+    let g_at = offsets::of_transcript(p, 6);
+    let left = inner_product::inner_product(transcript, z_at, 64, transcript, z_at, 64, p.rank);
+    let right = rq_matrix::sum_of_weighted(transcript, g_at, scratch, q.challenges, p.multiplicity);
+    if equal::same(left, right) {
+        Verdict::Accepted
+    } else {
+        Verdict::Failed(FailedCheck::ZInner)
+    }
+}
+
+// "26 twice Σ⟨φ_i,z⟩·c_i is not Σ h_ij·c_i·c_j."
+pub fn check_phi(
+    job: &[u32],
+    randomness: &[u32],
+    transcript: &[u32],
+    p: EnvironmentParameters,
+    q: Regions,
+    scratch: &[u32],
+) -> Verdict
+    requires { ⌜ Sent (now job) (now randomness) (now transcript) p × Ready (now job) p q (now scratch) × Lined (now job) (now randomness) q (now scratch) ⌝ }
+    ensures { λ v. ⌜ ofVerdict v ≡ phi (now (job .entry)) (now (randomness .entry)) (now (transcript .entry)) ⌝ }
+{
+    let z_at = offsets::of_transcript(p, 4);
+    let h_at = offsets::of_transcript(p, 7);
+    let lines = rq_matrix::sum_of_lines(
+        scratch,
+        q.phi,
+        transcript,
+        z_at,
+        scratch,
+        q.challenges,
+        p.multiplicity,
+        p.rank,
+    );
+    let right = rq_matrix::sum_of_weighted(transcript, h_at, scratch, q.challenges, p.multiplicity);
+    let twice = lines.add(lines);
+    if equal::same(twice, right) {
+        Verdict::Accepted
+    } else {
+        Verdict::Failed(FailedCheck::Phi)
+    }
+}
+
+// "27 twice Σ a_ij·g_ij plus Σ h_ii is not twice the aggregated b."
+pub fn check_relation(
+    job: &[u32],
+    randomness: &[u32],
+    transcript: &[u32],
+    p: EnvironmentParameters,
+    q: Regions,
+    scratch: &[u32],
+) -> Verdict
+    requires { ⌜ Sent (now job) (now randomness) (now transcript) p × Ready (now job) p q (now scratch) × Multiplied (now job) (now randomness) q (now scratch) ⌝ }
+    ensures { λ v. ⌜ ofVerdict v ≡ relation (now (job .entry)) (now (randomness .entry)) (now (transcript .entry)) ⌝ }
+{
+    let g_at = offsets::of_transcript(p, 6);
+    let h_at = offsets::of_transcript(p, 7);
+    let r = p.multiplicity;
+    let products = rq_matrix::sum_of_products(scratch, q.a, transcript, g_at, r);
+    let diagonal = rq_matrix::diagonal_sum(transcript, h_at, r);
+    let b = aggregate::mix(
+        job,
+        offsets::of_job(p, 5),
+        64,
+        p.constraint_k,
+        randomness,
+        offsets::of_randomness(p, 3),
+        offsets::of_randomness(p, 4),
+        transcript,
+        offsets::of_transcript(p, 2),
+        64,
+        p.const_agg_length,
+    );
+    let twice = products.add(products);
+    let left = twice.add(diagonal);
+    if equal::same(left, b.add(b)) {
+        Verdict::Accepted
+    } else {
+        Verdict::Failed(FailedCheck::Relation)
+    }
+}
+
+// 24 and 25, in order, of the challenges.
+pub fn check_openings(
+    job: &[u32],
+    randomness: &[u32],
+    transcript: &[u32],
+    p: EnvironmentParameters,
+    q: Regions,
+    scratch: &mut [u32],
+) -> Verdict
+    requires { ⌜ Sent (now job) (now randomness) (now transcript) p × Ready (now job) p q (now scratch) ⌝ }
+    ensures { λ v. ⌜ ofVerdict v ≡ openings (now (job .entry)) (now (randomness .entry)) (now (transcript .entry)) ⌝ }
+    ensures { λ v. ⌜ Kept (scratch-need (parameters (now (job .entry)))) (now (scratch .entry)) (now (scratch .exit)) ⌝ }
+    ensures { λ v. ⌜ Challenged (now (job .entry)) (now (randomness .entry)) q (now (scratch .exit)) ⌝ }
+{
+    workspace::generate_challenges(job, randomness, p, q, scratch);
+    let first = check_az(job, randomness, transcript, p, q, scratch);
+    let Verdict::Accepted = first else {
+        return first;
+    };
+    check_z_inner(job, randomness, transcript, p, q, scratch)
+}
+
+// 26 and 27, in order, of the aggregated constraints.
+pub fn check_aggregated(
+    job: &[u32],
+    randomness: &[u32],
+    transcript: &[u32],
+    p: EnvironmentParameters,
+    q: Regions,
+    scratch: &mut [u32],
+) -> Verdict
+    requires { ⌜ Sent (now job) (now randomness) (now transcript) p × Ready (now job) p q (now scratch) × Challenged (now job) (now randomness) q (now scratch) ⌝ }
+    ensures { λ v. ⌜ ofVerdict v ≡ aggregated (now (job .entry)) (now (randomness .entry)) (now (transcript .entry)) ⌝ }
+    ensures { λ v. ⌜ Kept (scratch-need (parameters (now (job .entry)))) (now (scratch .entry)) (now (scratch .exit)) ⌝ }
+{
+    workspace::double_prime(job, randomness, p, q, scratch);
+    workspace::phi(job, randomness, p, q, scratch);
+    let first = check_phi(job, randomness, transcript, p, q, scratch);
+    let Verdict::Accepted = first else {
+        return first;
+    };
+    workspace::a(job, randomness, p, q, scratch);
+    check_relation(job, randomness, transcript, p, q, scratch)
+}
+
+// 24 to 27, in order.
+pub fn check_relations(
+    job: &[u32],
+    randomness: &[u32],
+    transcript: &[u32],
+    p: EnvironmentParameters,
+    q: Regions,
+    scratch: &mut [u32],
+) -> Verdict
+    requires { ⌜ Sent (now job) (now randomness) (now transcript) p × Ready (now job) p q (now scratch) ⌝ }
+    ensures { λ v. ⌜ ofVerdict v ≡ relations (now (job .entry)) (now (randomness .entry)) (now (transcript .entry)) ⌝ }
+    ensures { λ v. ⌜ Kept (scratch-need (parameters (now (job .entry)))) (now (scratch .entry)) (now (scratch .exit)) ⌝ }
+{
+    let first = check_openings(job, randomness, transcript, p, q, scratch);
+    let Verdict::Accepted = first else {
+        return first;
+    };
+    check_aggregated(job, randomness, transcript, p, q, scratch)
+}
