@@ -118,8 +118,9 @@ labrador_element_answer labrador_challenge(labrador_challenge_words words);
 
 /* The calls on whole slices. Each slice is a pointer, which is not null, and a length in words; no two overlap.
    Refusals before the work touch nothing: 1 scratch too short, 2 output too short (place: the length needed); 3 the job's layout,
-   4 a parameter outside its limits, 5 kappa is not L, 6 a job word; 7, 8 the randomness's layout and words; 9, 10 the transcript's;
-   11, 12 the witness's. In the work: 13 norm of a witness vector (place: its index), 14, 15, 16 digits of t, g, h above their bound.
+   4 a parameter outside its limits (K and l are from 0 to 64, not both 0), 5 kappa is not L, 6 a job word; 7, 8 the randomness's
+   layout and words; 9, 10 the transcript's; 11, 12 the witness's. In the work: 13 norm of a witness vector (place: its index), 14,
+   15, 16 digits of t, g, h above their bound.
    After the work scratch is zero to the length needed, and so is the output after 13 to 16. Words beyond never change. */
 
 /* number 0 and place 0 where something was made */

@@ -311,7 +311,7 @@ static void test_challenge(void) {
     CHECK(is_refused(labrador_challenge(w), 8, 0));
 }
 
-/* A small fit job (n 2, r 2, kappa and L 4, one constraint of each kind that every witness meets), its randomness and a short witness. */
+/* A small fit job (n 2, r 2, kappa and L 4, constraints that every witness meets), its randomness and a short witness. */
 enum { JOB = 8192, RANDOMNESS = 131072, WITNESS = 512, SCRATCH = 65536, OUTPUT = 4096, MARK = 0x5a5a5a5a };
 
 static uint32_t job[JOB], randomness[RANDOMNESS], witness[WITNESS], scratch[SCRATCH], output[OUTPUT], joined[OUTPUT];
@@ -324,20 +324,20 @@ static size_t section(uint32_t *words, size_t length, uint32_t count, uint32_t l
     return length + 1 + count;
 }
 
-static void make_job(void) {
+static void make_job(uint32_t ring, uint32_t constant) {
     const uint32_t n = 2, r = 2, kappa = 4, t = 3, parts = 4;
-    const uint32_t one[11] = {n, r, kappa, 1, 1, 1, 1, 32, 256, parts, parts};
+    const uint32_t one[11] = {n, r, kappa, 1, 1, ring, constant, 32, 256, parts, parts};
     job[0] = 29;
     memcpy(job + 1, one, sizeof one);
     for (int k = 12; k < 30; k++) job[k] = 0xffffffffu;
     size_t at = 30;
-    const uint32_t statement[6] = {64 * t, 64 * r * n, 1, 64 * t, 64 * r * n, 64};
+    const uint32_t statement[6] = {64 * t * constant, 64 * r * n * constant, constant, 64 * t * ring, 64 * r * n * ring, 64 * ring};
     for (int k = 0; k < 6; k++) at = section(job, at, statement[k], 0);
     at = section(job, at, 64 * kappa * n, Q);
     at = section(job, at, 64 * r * kappa * parts, Q);
     at = section(job, at, 64 * t * parts, Q);
     job_length = section(job, at, 64 * t * parts, Q);
-    const uint32_t counts[7] = {16384 * n * r, kappa, kappa * 256, 64, 64 * kappa, 41 * r, 63 * r};
+    const uint32_t counts[7] = {16384 * n * r, kappa * constant, kappa * 256, 64 * ring, 64 * kappa, 41 * r, 63 * r};
     const uint32_t limits[7] = {Q, Q, Q, Q, Q, 2, Q};
     ends[0] = 0;
     for (int k = 0; k < 7; k++) ends[k + 1] = section(randomness, ends[k], counts[k], limits[k]);
@@ -391,7 +391,7 @@ static uint32_t next(uint32_t word) { return word == Q - 1 ? 0 : word + 1; }
 
 static void test_calls(void) {
     size_t scratch_need, output_need;
-    make_job();
+    make_job(1, 1);
     test_needs(&scratch_need, &output_need);
     labrador_answer a = labrador_prove(job, job_length, randomness, randomness_length, witness, witness_length, scratch,
                                        scratch_need - 1, output, OUTPUT);
@@ -429,6 +429,25 @@ static void test_calls(void) {
     CHECK(a.number == 13 && a.place == 0 && all_zero(output, output_need) && output[output_need] == MARK);
 }
 
+/* Statements of one kind only: proved and accepted, and both numbers 0 refused at l's place. */
+static void test_one_kind(void) {
+    for (uint32_t ring = 0; ring < 2; ring++) {
+        make_job(ring, 1 - ring);
+        size_t scratch_need = labrador_scratch_need(job, job_length).words;
+        size_t output_need = labrador_output_need(job, job_length).words;
+        labrador_answer a = labrador_prove(job, job_length, randomness, randomness_length, witness, witness_length, scratch,
+                                           scratch_need, output, output_need);
+        CHECK(a.number == 0 && a.place == 0 && output_need > 0 && output[output_need] == MARK);
+        CHECK(is_verdict(verdict_on(output, output_need, scratch_need), 0, 0));
+        test_rounds(scratch_need, output_need);
+        job[6] = job[7] = 0;
+        labrador_need s = labrador_scratch_need(job, job_length);
+        CHECK(s.number == 4 && s.place == 7 && s.words == 0);
+        job[8] = 15;
+        CHECK(labrador_scratch_need(job, job_length).place == 7);
+    }
+}
+
 int main(void) {
     test_numbers();
     test_digits();
@@ -438,6 +457,7 @@ int main(void) {
     test_rows();
     test_challenge();
     test_calls();
+    test_one_kind();
     if (failures > 0) {
         printf("%d of %d checks failed\n", failures, checks);
         return EXIT_FAILURE;

@@ -23,6 +23,13 @@ section-one = 29 ∷ 1 ∷ 1 ∷ 4 ∷ 1 ∷ 1 ∷ 1 ∷ 1 ∷ 32 ∷ 2 ∷ 1 �
 abbrev pub job : List ℕ
 job = section-one ++ sections (zeros 64 ∷ zeros 64 ∷ zeros 1 ∷ zeros 64 ∷ zeros 64 ∷ zeros 64 ∷ zeros 256 ∷ zeros 256 ∷ zeros 64 ∷ zeros 64 ∷ [])
 
+-- the jobs of ring constraints only and of constant-term constraints only: an empty section is its count, 0
+abbrev pub rings-only : List ℕ
+rings-only = set section-one 7 0 ++ sections ([] ∷ [] ∷ [] ∷ zeros 64 ∷ zeros 64 ∷ zeros 64 ∷ zeros 256 ∷ zeros 256 ∷ zeros 64 ∷ zeros 64 ∷ [])
+
+abbrev pub constants-only : List ℕ
+constants-only = set section-one 6 0 ++ sections (zeros 64 ∷ zeros 64 ∷ zeros 1 ∷ [] ∷ [] ∷ [] ∷ zeros 256 ∷ zeros 256 ∷ zeros 64 ∷ zeros 64 ∷ [])
+
 -- its witness of zeros
 abbrev pub zero-witness : List ℕ
 zero-witness = sections (zeros 64 ∷ [])
@@ -61,6 +68,11 @@ examples =
     ∷ ((section-one-with 1 65 ∷ section-one-with 1 64 ∷ []) is (refused 4 1 ∷ refused 3 30 ∷ []))
     -- κ₂ = 17 and K = 65: the first is named
     ∷ (job-refusal (set (set section-one 5 17) 6 65) is refused 4 5)
+    -- K = 0 and l = 0: both, both with log_q = 15, and both with K = 65 in place of 0
+    ∷ ((job-refusal (set (set section-one 6 0) 7 0) ∷ job-refusal (set (set (set section-one 6 0) 7 0) 8 15) ∷ job-refusal (set (set section-one 6 65) 7 0) ∷ [])
+    is (refused 4 7 ∷ refused 4 7 ∷ refused 4 6 ∷ []))
+    -- whole jobs of one kind only; one with a word in an empty section
+    ∷ ((job-refusal rings-only ∷ job-refusal constants-only ∷ job-refusal (set rings-only 30 1) ∷ []) is (fine ∷ fine ∷ refused 3 30 ∷ []))
     -- log_q = 15, 33, and 31, at which L is 5 and κ is not
     ∷ ((section-one-with 8 15 ∷ section-one-with 8 33 ∷ section-one-with 8 31 ∷ []) is (refused 4 8 ∷ refused 4 8 ∷ refused 5 3 ∷ []))
     -- b = 1, b = 4294967295
@@ -89,4 +101,4 @@ examples =
 -- each row of the table holds
 pub examples-hold : Holds examples
 unfolding job-refusal randomness-refusal witness-refusal transcript-refusal prove-refusal counted limits kappa-is-L layout ranged span sections below decLe ℕ-discrete
-examples-hold = (refl, (refl, (refl, (refl, (refl, (refl, (refl, (refl, (refl, (refl, (refl, (refl, (refl, tt)))))))))))))
+examples-hold = (refl, (refl, (refl, (refl, (refl, (refl, (refl, (refl, (refl, (refl, (refl, (refl, (refl, (refl, (refl, tt)))))))))))))))

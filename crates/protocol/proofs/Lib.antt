@@ -20,6 +20,7 @@ pub mod Rounds
 pub mod Total
 pub mod Demand3
 pub mod Stated
+pub mod OneKind
 pub mod Stored
 pub mod Region
 pub mod Examples

@@ -1,7 +1,7 @@
 -- The parameters: section one of the job (document 01, "What a call is handed").
 use mathlib.Core.List.{List}
 use Prim.Native.Nat.{ℕ, _+_, _*_, _/_, _^_}
-use native.Mathlib.Decide.{ℕ-discrete}
+use native.Mathlib.Decide.{decLe, ℕ-discrete}
 use lib.ListN.{getD}
 use Rattle.definitions.specs.Answer.{Answer, refused, _then_}
 use Rattle.definitions.specs.Leaf.{limited}
@@ -66,7 +66,11 @@ triangular n = n * (n + 1) / 2
 abbrev pub T : Parameters → ℕ
 T P = triangular (P .r)
 
--- "4 a parameter outside its limits (place of the first)"; "n 1 to 64; r, κ, κ1, κ2 1 to 16; K, l 1 to 64; log_q 16 to 32; b 2 to 4294967294; t1, t2 1 to 32"
+-- document 02, Item 4: "K or l may be 0, though not both […] Both zero is a 4 at l's place."
+abbrev pub some-constraint : Parameters → Answer
+some-constraint P = require (decLe 1 (P .K + P .l)) (refused 4 7)
+
+-- "4 a parameter outside its limits (place of the first)"; "n 1 to 64; r, κ, κ1, κ2 1 to 16; K, l" 0 "to 64; log_q 16 to 32; b 2 to 4294967294; t1, t2 1 to 32"
 unfoldable pub limits : Parameters → Answer
 limits P =
     limited 1 64 1 (P .n)
@@ -74,8 +78,9 @@ limits P =
     then limited 1 16 3 (P .κ)
     then limited 1 16 4 (P .κ₁)
     then limited 1 16 5 (P .κ₂)
-    then limited 1 64 6 (P .K)
-    then limited 1 64 7 (P .l)
+    then limited 0 64 6 (P .K)
+    then limited 0 64 7 (P .l)
+    then some-constraint P
     then limited 16 32 8 (P .log-q)
     then limited 2 4294967294 9 (P .b)
     then limited 1 32 10 (P .t₁)

@@ -1,7 +1,9 @@
 -- What section one is found to be.
 use mathlib.Core.Path.{_≡_}
+use mathlib.Core.Bool.{cond}
 use mathlib.Core.List.{List}
 use Prim.Native.Nat.{ℕ, _+_, _≤_}
+use lib.Dec.{ltb}
 use lib.ListN.{length, getD}
 use Rattle.definitions.specs.Answer.{Answer, fine, ofRefusal, _then_}
 use Rattle.definitions.specs.Leaf.{limited}
@@ -19,6 +21,10 @@ section-one J = counted 3 J 0 first-section then limits (parameters J) then kapp
 abbrev pub limit-at : List ℕ → List ℕ → List ℕ → ℕ → Answer
 limit-at least greatest J k = let place = k + 1 in limited (getD least place 0) (getD greatest place 0) place (getD J place 0)
 
+-- the least l by the number of ring constraints: not both are 0
+abbrev pub least-l : ℕ → ℕ
+least-l K = cond (ltb 0 K) 0 1
+
 abbrev pub ofSectionOne : SectionOne → Answer
 ofSectionOne (S.Refused r) = ofRefusal r
 ofSectionOne (S.Read p) = fine
@@ -35,8 +41,8 @@ pub record Within (P : Parameters) : Type 0 where
   pub κ : (1 ≤ P .κ) × (P .κ ≤ 16)
   pub κ₁ : (1 ≤ P .κ₁) × (P .κ₁ ≤ 16)
   pub κ₂ : (1 ≤ P .κ₂) × (P .κ₂ ≤ 16)
-  pub K : (1 ≤ P .K) × (P .K ≤ 64)
-  pub l : (1 ≤ P .l) × (P .l ≤ 64)
+  pub K : (0 ≤ P .K) × (P .K ≤ 64)
+  pub l : (0 ≤ P .l) × (P .l ≤ 64)
   pub log-q : (16 ≤ P .log-q) × (P .log-q ≤ 32)
   pub b : (2 ≤ P .b) × (P .b ≤ 4294967294)
   pub t₁ : (1 ≤ P .t₁) × (P .t₁ ≤ 32)

@@ -7,13 +7,13 @@ use layout::counts::Found;
 use layout::sections::Sections;
 ghost use mathlib.Core.Path.{_≡_};
 ghost use Prim.Native.Nat.{_≤_};
-ghost use lib.ListN.{length};
+ghost use lib.ListN.{length, getD};
 ghost use Rattle.definitions.specs.Answer.{fine, _then_};
 ghost use Rattle.protocol.specs.Checks.{first};
 ghost use Rattle.protocol.specs.Parameters.{parameters, limits, kappa-is-L};
 ghost use Rattle.protocol.specs.Layout.{first-section};
 ghost use Rattle.layout.specs.Sections.{listed, ofFound};
-ghost use Rattle.relation.specs.SectionOne.{limit-at, section-one, ofSectionOne, Reads};
+ghost use Rattle.relation.specs.SectionOne.{limit-at, least-l, section-one, ofSectionOne, Reads};
 
 // A refusal, or the parameters.
 pub enum SectionOne {
@@ -63,12 +63,20 @@ fn kappa_is_l(job: &[u32]) -> SectionOne
     }
 }
 
+// The least number of constant-term constraints: 1 where there is no ring constraint, since K and l are not both 0.
+fn least_l(job: &[u32]) -> u32
+    requires { ⌜ 30 ≤ length (now job) ⌝ }
+    ensures { λ r. ⌜ r ≡ least-l (getD (now (job .entry)) 6 0) ⌝ }
+{
+    if 0 < job[6] { 0 } else { 1 }
+}
+
 // The limits, then κ against L.
 fn within_limits(job: &[u32]) -> SectionOne
     requires { ⌜ 30 ≤ length (now job) ⌝ }
     ensures { λ r. ⌜ (ofSectionOne r ≡ limits (parameters (now (job .entry))) then kappa-is-L (parameters (now (job .entry)))) × Reads (now (job .entry)) r ⌝ }
 {
-    let least = [29, 1, 1, 1, 1, 1, 1, 1, 16, 2, 1, 1];
+    let least = [29, 1, 1, 1, 1, 1, 0, least_l(job), 16, 2, 1, 1];
     let greatest = [29, 64, 16, 16, 16, 16, 64, 64, 32, 4294967294, 32, 32];
     match first_out_of_limits(job, least, greatest) {
         Found::At(place) => SectionOne::Refused(Refusal::ParameterOutOfLimits(place)),

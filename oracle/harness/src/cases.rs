@@ -39,9 +39,14 @@ impl Case {
         format!("{} ({}) {parameters:?}", self.call.name(), self.purpose)
     }
 
+    /// The parameters of a case that is refused nothing before the work.
+    fn parameters(&self) -> Parameters {
+        Parameters::read(&self.job[1..30])
+    }
+
     /// The scratch that the work needs.
     pub fn scratch_need(&self) -> usize {
-        Parameters::read(&self.job[1..30]).scratch_need()
+        self.parameters().scratch_need()
     }
 }
 
@@ -58,6 +63,9 @@ pub const VERIFIER: &str = "model: the verifier's answer with the Rust's";
 pub const FOUR: &str = "model: the four conditions with the Rust's verdict";
 pub const FOUR_OURS: &str = "library: prove then verify with the four conditions";
 pub const WORKED: &str = "library: calls on whole slices with the Rust's";
+/// Where the Rust panics: statements of one kind only.
+pub const MODELLED: &str = "library: calls on whole slices with the model's, constraints of one kind only";
+pub const FOUR_MODELLED: &str = "model: the four conditions with its verdict, constraints of one kind only";
 pub const REFUSED: &str = "library: refusals 1 to 12 with the model's";
 pub const JUDGED: &str = "library: the tests before the work with the model's";
 
@@ -88,7 +96,7 @@ impl Context {
             tally.must_occur(CONDITIONS, format!("{number:>2}"));
         }
         tally.must_compare(&[PLANTED, PROVER, TRANSCRIPT, VERIFIER, FOUR, FOUR_OURS, WORKED, REFUSED]);
-        tally.must_compare(&[BROKEN, JUDGED]);
+        tally.must_compare(&[BROKEN, JUDGED, MODELLED, FOUR_MODELLED]);
         Leaves::must_occur(&mut tally);
         Context { tally, recorder }
     }
@@ -126,30 +134,28 @@ impl Context {
         self.take(Case { expected, ..case });
     }
 
-    /// The prover's whole call and its rounds on an instance, by one run of the Rust. Gives the transcript back where
-    /// it is made.
+    /// The prover's whole call and its rounds on an instance, by one run of the Rust, or by the model where the Rust
+    /// panics. Gives the transcript back where it is made.
     pub fn prover(&mut self, purpose: &'static str, instance: &Instance, spare: usize) -> Option<Vec<u32>> {
         let p = &instance.parameters;
         let job = instance.job_words();
         let randomness = instance.randomness_words();
         let witness = instance.witness_words();
-        let (answer, mut sections) = rust::prove(&rust::Job::new(&job), &randomness, &witness);
-        if answer.number == 16 {
-            // rounds 1 to 3 do not reach D
-            let lifted = rust::Job::with_bound_d(&job, u128::MAX);
-            sections = rust::prove(&lifted, &randomness, &witness).1;
-        }
-
         let described = || format!("prove ({purpose}) {p:?}");
         let values = Job::read(&job);
         let drawn = Randomness::read(p, &randomness);
         let s = read_witness(p, &witness);
         let (made, modelled) = formulas::transcript(&values, &drawn, &s);
-        self.tally.compare(PROVER, &modelled, &answer, described);
-        if !sections.is_empty() {
-            let ours = made.sections();
-            self.tally.compare(TRANSCRIPT, &ours, &sections, described);
-        }
+        let (answer, sections) = if p.has_both_kinds() {
+            let (answer, sections) = by_the_rust(&job, &randomness, &witness);
+            self.tally.compare(PROVER, &modelled, &answer, described);
+            if !sections.is_empty() {
+                self.tally.compare(TRANSCRIPT, &made.sections(), &sections, described);
+            }
+            (answer, sections)
+        } else {
+            (modelled, made.sections())
+        };
 
         for call in Call::ALL {
             let (Call::Prove | Call::Round(_)) = call else {
@@ -187,26 +193,32 @@ impl Context {
         let transcript = join(&sections);
         let verdict = self.verifier(purpose, instance, &transcript, spare);
         let breach = conditions::first_breach(&values, &drawn, &s);
-        self.tally.compare(FOUR, &breach, &verdict, described);
+        let kind = if p.has_both_kinds() { FOUR } else { FOUR_MODELLED };
+        self.tally.compare(kind, &breach, &verdict, described);
         let ours = prove_then_verify(&job, &randomness, &witness, p.scratch_need(), transcript.len());
         self.tally.compare(FOUR_OURS, &ours, &breach, described);
         self.tally.occurred(CONDITIONS, format!("{:>2}", breach.number));
         Some(transcript)
     }
 
-    /// The verifier on a transcript: the Rust's verdict.
+    /// The verifier on a transcript: the Rust's verdict, or the model's where the Rust panics.
     pub fn verifier(&mut self, purpose: &'static str, instance: &Instance, transcript: &[u32], spare: usize) -> Answer {
         let p = &instance.parameters;
         let job = instance.job_words();
         let randomness = instance.randomness_words();
-        let answer = rust::verify(&rust::Job::new(&job), &randomness, transcript);
         let modelled = checks::verdict(
             &Job::read(&job),
             &Randomness::read(p, &randomness),
             &Transcript::read(p, transcript),
         );
-        self.tally
-            .compare(VERIFIER, &modelled, &answer, || format!("verify ({purpose}) {p:?}"));
+        let answer = if p.has_both_kinds() {
+            let answer = rust::verify(&rust::Job::new(&job), &randomness, transcript);
+            self.tally
+                .compare(VERIFIER, &modelled, &answer, || format!("verify ({purpose}) {p:?}"));
+            answer
+        } else {
+            modelled
+        };
         self.take(Case {
             purpose,
             call: Call::Verify,
@@ -224,6 +236,16 @@ impl Context {
     }
 }
 
+/// The Rust's answer and sections. Where it is 16, those of a run with D's bound lifted: rounds 1 to 3 do not reach D.
+fn by_the_rust(job: &[u32], randomness: &[u32], witness: &[u32]) -> (Answer, Vec<Vec<u32>>) {
+    let (answer, sections) = rust::prove(&rust::Job::new(job), randomness, witness);
+    if answer.number != 16 {
+        return (answer, sections);
+    }
+    let lifted = rust::Job::with_bound_d(job, u128::MAX);
+    (answer, rust::prove(&lifted, randomness, witness).1)
+}
+
 impl Tally {
     /// Compares the library's answer with the expected one.
     pub fn library(&mut self, case: &Case) {
@@ -231,10 +253,10 @@ impl Tally {
             answer: case.expected.answer,
             ..Seen::default()
         };
-        let kind = if case.expected.worked.is_some() {
-            WORKED
-        } else {
-            REFUSED
+        let kind = match case.expected.worked {
+            Some(_) if case.parameters().has_both_kinds() => WORKED,
+            Some(_) => MODELLED,
+            None => REFUSED,
         };
         self.compare(kind, &ours(case), &expected, || case.describe());
         if case.call == Call::Prove {

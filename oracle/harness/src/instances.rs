@@ -134,13 +134,13 @@ impl Instance {
         let mut ring_off = vec![];
         match off {
             Off::Met => {}
-            Off::OneConstant => constant_off.push(error() as usize % constant),
+            Off::OneConstant => constant_off.extend((0..constant.min(1)).map(|_| error() as usize % constant)),
             Off::AllConstant => constant_off.extend(0..constant),
-            Off::OneRing => ring_off.push(error() as usize % ring),
+            Off::OneRing => ring_off.extend((0..ring.min(1)).map(|_| error() as usize % ring)),
             Off::AllRing | Off::RingConstantTerm => ring_off.extend(0..ring),
             Off::OneOfBoth => {
-                constant_off.push(error() as usize % constant);
-                ring_off.push(error() as usize % ring);
+                constant_off.extend((0..constant.min(1)).map(|_| error() as usize % constant));
+                ring_off.extend((0..ring.min(1)).map(|_| error() as usize % ring));
             }
             Off::All => {
                 constant_off.extend(0..constant);
@@ -211,5 +211,14 @@ pub fn small(random: &mut Random, i: usize) -> Parameters {
         beta_sq: LOOSE,
         beta_prime_sq: LOOSE,
         bounds: [LOOSE; 4],
+    }
+}
+
+/// Those of `small` with constraints of one kind only, the ring's in turn with the constant-term ones.
+pub fn one_kind(random: &mut Random, i: usize) -> Parameters {
+    let p = small(random, i);
+    match i % 2 {
+        0 => Parameters { ring: 0, ..p },
+        _ => Parameters { constant: 0, ..p },
     }
 }

@@ -6,7 +6,7 @@
 //! Each prints a tally, and fails where anything differs, an answer never occurs or a comparison is never made.
 
 use harness::cases::Context;
-use harness::instances::{small, Instance};
+use harness::instances::{one_kind, small, Instance};
 use harness::random::Random;
 use harness::record::Recorder;
 use harness::{recompose, replay, rust, slices, unfit, whole};
@@ -65,9 +65,15 @@ fn compare(seed: u64, count: u64, largest: bool) -> bool {
         .stage("one instance, with every fault and every check broken");
     whole::limits(&mut context, &mut random);
     context.tally.stage("sizes at their limits");
+    whole::one_kind(&mut context, &mut random, 2);
+    context.tally.stage("constraints of one kind only");
     for i in 0..count as usize {
         let parameters = small(&mut random, i);
         whole::random_instance(&mut context, &mut random, parameters);
+        if i % 4 == 0 {
+            let parameters = one_kind(&mut random, i / 4);
+            whole::random_instance(&mut context, &mut random, parameters);
+        }
         if i % 20 == 0 {
             let base = whole::base(&mut random, parameters);
             unfit::unfit(&mut context, &mut random, &base, Call::ALL[i / 20 % 7], 1);
@@ -90,6 +96,7 @@ fn record(folder: &Path) -> bool {
     let base = whole::base(&mut random, whole::pair_parameters());
     families(&mut context, &mut random, &base, 1);
     whole::few(&mut context, &mut random);
+    whole::one_kind(&mut context, &mut random, 0);
     context.tally.stage("recorded answers, made again");
     let recorder = context.recorder.take().expect("a recorder");
     recorder.write(folder).expect("the folder can be written");

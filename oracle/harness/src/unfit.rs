@@ -30,6 +30,8 @@ enum Kind {
     Surplus(Slice),
     Scratch(usize),
     Output(usize),
+    /// K and l are 0.
+    NoConstraint,
 }
 
 #[derive(Clone, Copy, PartialEq, Eq)]
@@ -61,6 +63,7 @@ impl Fault {
             Kind::Surplus(slice) => slice.of(case).push(0),
             Kind::Scratch(length) => case.scratch = length,
             Kind::Output(length) => case.output = length,
+            Kind::NoConstraint => case.job[6..8].fill(0),
         }
     }
 
@@ -112,13 +115,22 @@ fn layout_faults(slice: Slice, stage: usize, number: u32, counts: &[usize], from
 }
 
 /// The first and the last word of a section out of range.
-fn word_faults(slice: Slice, stage: usize, number: u32, start: usize, count: usize, word: u32) -> [Fault; 2] {
-    [start + 1, start + count].map(|at| Fault {
+fn word_faults(slice: Slice, stage: usize, number: u32, start: usize, count: usize, word: u32) -> Vec<Fault> {
+    let ends = if count > 0 {
+        vec![start + 1, start + count]
+    } else {
+        vec![]
+    };
+    let fault = |at: usize| Fault {
         stage,
         aim: (number, at),
         kind: Kind::Word(slice, at, word),
-    })
+    };
+    ends.into_iter().map(fault).collect()
 }
+
+/// The stage of a fault that is made alone.
+const ALONE: usize = usize::MAX;
 
 /// Every fault of a call on a fit input, by stages in document 01's order.
 fn faults(p: &Parameters, call: Call) -> Vec<Fault> {
@@ -126,7 +138,11 @@ fn faults(p: &Parameters, call: Call) -> Vec<Fault> {
     // 0: section one's layout; 1: a parameter outside its limits; 2: κ is not L
     faults.extend(layout_faults(Slice::Job, 0, 3, &[PARAMETERS], 0).into_iter().skip(1));
     for (k, (least, greatest)) in LIMITS.iter().enumerate() {
-        for word in [least - 1, greatest + 1, 0, Q] {
+        for word in [least.wrapping_sub(1), greatest + 1, 0, Q] {
+            if (least..=greatest).contains(&&word) {
+                // 0 constraints of one kind: not refused where there are some of the other
+                continue;
+            }
             faults.push(Fault {
                 stage: 1,
                 aim: (4, 1 + k),
@@ -134,6 +150,12 @@ fn faults(p: &Parameters, call: Call) -> Vec<Fault> {
             });
         }
     }
+    // both kinds empty: no stage of its own, so that no other fault sets these words
+    faults.push(Fault {
+        stage: ALONE,
+        aim: (4, 7),
+        kind: Kind::NoConstraint,
+    });
     for kappa in [p.kappa - 1, p.kappa + 1, 1, 16] {
         faults.push(Fault {
             stage: 2,

@@ -3,9 +3,11 @@
 use crate::cases::Context;
 use crate::instances::*;
 use crate::random::Random;
+use crate::unfit::unfit;
 use model::formulas::{outer_u1, outer_u2};
 use model::leaves::{add, Q};
 use model::words::*;
+use model::Call;
 
 /// Which bound stands just at its figure or just below.
 #[derive(Clone, Copy, Debug, PartialEq, Eq)]
@@ -298,6 +300,30 @@ pub fn few(context: &mut Context, random: &mut Random) {
             parameters,
             size,
         );
+    }
+}
+
+/// Statements of one kind only: met and not met, with every bound at its figure and just below, damaged transcripts
+/// and, with pairs as often as asked, unfit slices of each call.
+pub fn one_kind(context: &mut Context, random: &mut Random, pairs: usize) {
+    for (ring, constant) in [(0, 2), (2, 0)] {
+        let parameters = Parameters {
+            ring,
+            constant,
+            ..pair_parameters()
+        };
+        let instance = base(random, parameters);
+        bounds(context, &instance);
+        for off in Off::ALL {
+            let mut unmet = instance.clone();
+            unmet.put_off(random, off);
+            context.prover(off.name(), &unmet, 0);
+        }
+        damaged_sections(context, &instance);
+        free_words(context, &instance);
+        for call in Call::ALL {
+            unfit(context, random, &instance, call, pairs);
+        }
     }
 }
 

@@ -39,8 +39,8 @@ pub const LIMITS: [(u32, u32); 11] = [
     (1, 16),
     (1, 16),
     (1, 16),
-    (1, 64),
-    (1, 64),
+    (0, 64),
+    (0, 64),
     (16, 32),
     (2, 4294967294),
     (1, 32),
@@ -53,6 +53,10 @@ fn section_one(job: &[u32]) -> Result<Parameters, Answer> {
     for (k, (least, greatest)) in LIMITS.iter().enumerate() {
         if !(least..=greatest).contains(&&words[1 + k]) {
             return Err(Answer::refused(4, 1 + k));
+        }
+        // document 02, Item 4: K and l are not both 0
+        if k == 6 && words[6] == 0 && words[7] == 0 {
+            return Err(Answer::refused(4, 7));
         }
     }
     let p = Parameters::read(&words[1..]);

@@ -82,6 +82,11 @@ impl Parameters {
         128_usize.div_ceil(self.log_q)
     }
 
+    /// Whether there are constraints of both kinds (document 02, Item 4). The Rust panics where there are not.
+    pub fn has_both_kinds(&self) -> bool {
+        self.ring > 0 && self.constant > 0
+    }
+
     /// T.
     pub fn cells(&self) -> usize {
         self.r * (self.r + 1) / 2
@@ -254,7 +259,9 @@ impl Randomness {
                 .iter()
                 .map(|rows| parts(rows, DEGREE * p.n))
                 .collect(),
-            psi: parts(&s[1], p.constant),
+            psi: (0..p.aggregations())
+                .map(|k| s[1][k * p.constant..(k + 1) * p.constant].to_vec())
+                .collect(),
             omega: parts(&s[2], ROWS),
             alpha: elements(&s[3]),
             beta: elements(&s[4]),
