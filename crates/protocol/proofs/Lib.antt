@@ -23,3 +23,4 @@ pub mod Stated
 pub mod Stored
 pub mod Region
 pub mod Examples
+pub mod Ranges
