@@ -4,3 +4,4 @@ pub mod digits;
 pub mod elements;
 pub mod needs;
 pub mod numbers;
+pub mod ranges_call;
