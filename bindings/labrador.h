@@ -176,6 +176,29 @@ labrador_verdict labrador_verify(const uint32_t *job, size_t job_length, const u
                                  const uint32_t *transcript, size_t transcript_length, uint32_t *scratch,
                                  size_t scratch_length);
 
+/* What is told of one witness vector. meets: 0 unused, 1 its norm meets A's bound for every choice, 2 for some but not every, 3 for none.
+   least and greatest are the smallest and the largest norm, each hi * 2^64 + lo. */
+typedef struct {
+    uint32_t meets;
+    uint64_t least_hi;
+    uint64_t least_lo;
+    uint64_t greatest_hi;
+    uint64_t greatest_lo;
+} labrador_range_norms;
+
+/* number 0: the first r entries are the witness vectors', the others are unused and zero. Else a refusal, and all sixteen are zero. */
+typedef struct {
+    uint32_t number;
+    uint64_t place;
+    labrador_range_norms vectors[16];
+} labrador_ranges_answer;
+
+/* A witness known within ranges: 64 * r * n lows and as many highs without counts, centred numbers in the witness's order, of which a choice takes
+   one from each low to its high. Refused: the job's refusals; 11 another number of lows, then of highs (place: the length where it is shorter, else
+   64 * r * n); 37 a number beyond +-2147483647, over all pairs, then 36 a low above its high (place: the pair's index). */
+labrador_ranges_answer labrador_ranges(const uint32_t *job, size_t job_length, const int64_t *lows, size_t lows_length,
+                                       const int64_t *highs, size_t highs_length);
+
 #ifdef __cplusplus
 }
 #endif

@@ -448,6 +448,76 @@ static void test_one_kind(void) {
     }
 }
 
+/* Ranges for the job above: 256 numbers, vectors of 128. */
+enum { NUMBERS = 256 };
+static int64_t lows[NUMBERS + 64], highs[NUMBERS + 64];
+
+static labrador_ranges_answer ranges(size_t lows_length, size_t highs_length) {
+    return labrador_ranges(job, job_length, lows, lows_length, highs, highs_length);
+}
+
+static void set_bound(uint64_t bound) {
+    job[18] = (uint32_t)bound;
+    job[19] = (uint32_t)(bound >> 32);
+    job[20] = 0;
+}
+
+static int is_range(labrador_range_norms v, uint32_t meets, uint64_t least, uint64_t greatest) {
+    return v.meets == meets && v.least_hi == 0 && v.least_lo == least && v.greatest_hi == 0 && v.greatest_lo == greatest;
+}
+
+static int are_unused(const labrador_range_norms *v, int count) {
+    for (int k = 0; k < count; k++)
+        if (!is_range(v[k], 0, 0, 0)) return 0;
+    return 1;
+}
+
+static int is_refused_range(labrador_ranges_answer a, uint32_t number, uint64_t place) {
+    return a.number == number && a.place == place && are_unused(a.vectors, 16);
+}
+
+static void test_ranges(void) {
+    /* the first vector's ranges cross zero, the second's lie below it */
+    for (int k = 0; k < NUMBERS; k++) {
+        lows[k] = k < 128 ? -2 : -5;
+        highs[k] = k < 128 ? 3 : -4;
+    }
+    const uint64_t bounds[4] = {0, 1151, 1152, 2047};
+    const uint32_t meets[4][2] = {{2, 3}, {2, 3}, {1, 3}, {1, 3}};
+    for (int k = 0; k < 4; k++) {
+        set_bound(bounds[k]);
+        labrador_ranges_answer a = ranges(NUMBERS, NUMBERS);
+        CHECK(a.number == 0 && a.place == 0 && are_unused(a.vectors + 2, 14));
+        CHECK(is_range(a.vectors[0], meets[k][0], 0, 1152) && is_range(a.vectors[1], meets[k][1], 2048, 3200));
+    }
+    set_bound(2048);
+    CHECK(is_range(ranges(NUMBERS, NUMBERS).vectors[1], 2, 2048, 3200));
+    set_bound(3200);
+    CHECK(is_range(ranges(NUMBERS, NUMBERS).vectors[1], 1, 2048, 3200));
+    CHECK(is_refused_range(ranges(NUMBERS - 1, 0), 11, NUMBERS - 1));
+    CHECK(is_refused_range(ranges(NUMBERS + 1, 0), 11, NUMBERS));
+    CHECK(is_refused_range(ranges(NUMBERS, NUMBERS - 64), 11, NUMBERS - 64));
+    CHECK(is_refused_range(ranges(NUMBERS, NUMBERS + 64), 11, NUMBERS));
+    lows[0] = 4;
+    CHECK(is_refused_range(ranges(NUMBERS, NUMBERS), 36, 0));
+    const int64_t beyond[4] = {INT64_MIN, INT64_MAX, -2147483648, 2147483648};
+    for (int k = 0; k < 4; k++) {
+        highs[NUMBERS - 1] = beyond[k];
+        CHECK(is_refused_range(ranges(NUMBERS, NUMBERS), 37, NUMBERS - 1));
+    }
+    /* the whole of the centred numbers: 128 squares of 2147483647 */
+    for (int k = 0; k < NUMBERS; k++) {
+        lows[k] = -2147483647;
+        highs[k] = 2147483647;
+    }
+    labrador_ranges_answer a = ranges(NUMBERS, NUMBERS);
+    CHECK(a.number == 0 && a.vectors[1].meets == 2 && a.vectors[1].least_hi == 0 && a.vectors[1].least_lo == 0);
+    CHECK(a.vectors[1].greatest_hi == 31 && a.vectors[1].greatest_lo == 18446743523953737856u);
+    job[3] = 3;
+    CHECK(is_refused_range(ranges(0, 0), 5, 3));
+    job[3] = 4;
+}
+
 int main(void) {
     test_numbers();
     test_digits();
@@ -458,6 +528,7 @@ int main(void) {
     test_challenge();
     test_calls();
     test_one_kind();
+    test_ranges();
     if (failures > 0) {
         printf("%d of %d checks failed\n", failures, checks);
         return EXIT_FAILURE;

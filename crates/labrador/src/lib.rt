@@ -4,4 +4,5 @@ pub mod digits;
 pub mod elements;
 pub mod needs;
 pub mod numbers;
+pub mod ranges_call;
 pub mod recomposed;

@@ -24,3 +24,4 @@ pub mod OneKind
 pub mod Stored
 pub mod Region
 pub mod Examples
+pub mod Ranges

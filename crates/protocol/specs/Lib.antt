@@ -8,3 +8,4 @@ pub mod Prover
 pub mod Verifier
 pub mod Conditions
 pub mod Kept
+pub mod Ranges

@@ -1,7 +1,8 @@
 //! Document 01, "Who can cause which refusal": refusals 1 to 12 in their order.
 
 use crate::leaves::{below, Q};
-use crate::words::{Parameters, PARAMETERS};
+pub use crate::words::Parameters;
+use crate::words::PARAMETERS;
 use crate::{Answer, Call};
 
 /// Walks sections against their counts: the place of the wrong count or the first surplus word, or the length where
@@ -66,7 +67,7 @@ fn section_one(job: &[u32]) -> Result<Parameters, Answer> {
     Ok(p)
 }
 
-fn job(words: &[u32]) -> Result<Parameters, Answer> {
+pub fn job(words: &[u32]) -> Result<Parameters, Answer> {
     let p = section_one(words)?;
     layout(3, words, &p.job_counts())?;
     fine(below(Q, 6, 1 + PARAMETERS, &words[1 + PARAMETERS..]))?;

@@ -1,0 +1,4 @@
+pub mod Ready
+mod Refused
+pub mod Determined
+pub mod Exact
