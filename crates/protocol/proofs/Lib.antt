@@ -18,6 +18,8 @@ pub mod Handed
 pub mod Rounds
 pub mod Total
 pub mod Demand3
+pub mod LoadSections
+pub mod LoadJob
 pub mod Stored
 pub mod Region
 pub mod Examples

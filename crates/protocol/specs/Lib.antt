@@ -7,3 +7,4 @@ pub mod Formulas
 pub mod Prover
 pub mod Verifier
 pub mod Conditions
+pub mod Load
