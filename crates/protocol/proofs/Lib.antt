@@ -20,6 +20,8 @@ pub mod Total
 pub mod Demand3
 pub mod LoadSections
 pub mod LoadJob
+pub mod LoadNorms
+pub mod Load
 pub mod Stored
 pub mod Region
 pub mod Examples

@@ -1,5 +1,5 @@
 -- The job, witness and randomness of a load are refused nothing, and each of its constraints is met.
-use mathlib.Core.Path.{_≡_, refl, sym, ap, _∙_}
+use mathlib.Core.Path.{_≡_, refl, sym, ap, subst, _∙_}
 use mathlib.Core.Bool.{true}
 use mathlib.Core.List.{List, [], _∷_}
 use Prim.Native.Nat.{ℕ, zero, suc, _+_, _*_, _≤_, _<_, _^_}
@@ -15,14 +15,16 @@ use Rattle.lists.proofs.Part.{part-of-part}
 use Rattle.algebra.proofs.Form.{form-ext}
 use Rattle.definitions.specs.Zq.{Q}
 use Rattle.definitions.specs.Answer.{fine, refused, _then_}
-use Rattle.definitions.specs.Rq.{Element, coeff, AllCanonical, rzero}
+use Rattle.definitions.specs.Rq.{Element, coeff, AllCanonical, rzero, rsub}
 use Rattle.definitions.specs.Ring.{RqOps, words, element}
-use Rattle.definitions.proofs.Bridge.{coeff-canonical, element-rsub}
+use Rattle.definitions.proofs.Bridge.{coeff-canonical, element-rsub, words-nil}
+use Rattle.definitions.proofs.RqRing.{rq-ring}
 use Rattle.definitions.proofs.ZqRing.{zsub-zero}
 use Rattle.protocol.specs.Parameters.{Parameters, parameters, T, limits, kappa-is-L}
 use Rattle.protocol.specs.Layout.{Section, canonical, part, span, start, sections, counted, layout, ranged, first-section, job-sections, randomness-sections, witness-sections, job-refusal, randomness-refusal, witness-refusal}
 use Rattle.protocol.specs.Views.{Public, public, witness, element-at, cell}
 use Rattle.protocol.specs.Formulas.{left, flat}
+use Rattle.protocol.specs.Conditions.{constant-error, ring-error}
 use Rattle.protocol.specs.Load.{Given, section-one, load-parameters, load-job-sections, job-rules, witness-rules, randomness-rules, drawn, job-drawn, after-job, after-witness, load-witness, load-randomness, blank-job, blank, load-vectors, b₀-words, b-words, load-job}
 use Rattle.protocol.proofs.Fine.{require-holds, then-both-fine}
 use Rattle.protocol.proofs.Sections.{Filled, none, more, length-sections, section-part, section-word, counted-fine, ranged-at, layout-fine, ranged-fine}
@@ -172,3 +174,35 @@ module _ (G : Given) (seed : ℕ) (fits : seed < 2 ^ 32) where
       (λ i j hi hj. element-alike made bare 4 refl (K * T (load-parameters G)) (k * T (load-parameters G) + cell i j) refl (cell-inside k K i j h hi hj))
       (λ i m hi hm. element-alike made bare 5 refl (K * r * n) ((k * r + i) * n + m) refl (line-inside k K i m h hi hm))
       (λ i m hi hm. refl)
+
+  -- what stands for b0 and b
+  b₀-read : (R : List ℕ) (x : ℕ) → x < l
+      → public (load-job G seed) R .b₀ x ≡ coeff (words (left (load-parameters G) (blank G seed .a′ x) (blank G seed .φ′ x) (load-vectors G seed))) 0
+  unfolding load-job sections start drawn b₀-words
+  b₀-read R x h =
+      let f : ℕ → ℕ = λ x. coeff (words (left (load-parameters G) (blank G seed .a′ x) (blank G seed .φ′ x) (load-vectors G seed))) 0 in
+      section-word (whole-filled G job-made job-made-filled) 3 x (rw (length-table l f) h) ∙ getD-table l f x 0 h
+
+  b-read : (R : List ℕ) (k : ℕ) → k < K → public (load-job G seed) R .b k ≡ left (load-parameters G) (blank G seed .a k) (blank G seed .φ k) (load-vectors G seed)
+  unfolding load-job sections start drawn b-words
+  b-read R k h =
+      let f : ℕ → Element = λ k. left (load-parameters G) (blank G seed .a k) (blank G seed .φ k) (load-vectors G seed) in
+      element-of-flat (load-job G seed) (30 + start (job-sections (load-parameters G)) 5) (table K f) k (RqOps .nil) (section-part (whole-filled G job-made job-made-filled) 6) (rw (length-table K f) h)
+      ∙ getD-table K f k (RqOps .nil) h
+
+  -- "so that each constraint is met"
+  pub load-constant-met : (R : List ℕ) (x : ℕ) → x < l → constant-error (public (load-job G seed) R) (load-vectors G seed) x ≡ 0
+  unfolding constant-error load-job sections
+  load-constant-met R x h =
+      let f = left (load-parameters G) (public (load-job G seed) R .a′ x) (public (load-job G seed) R .φ′ x) (load-vectors G seed) in
+      let same : coeff (words f) 0 ≡ public (load-job G seed) R .b₀ x = ap (λ e. coeff (words e) 0) (constant-left-same R x h) ∙ sym (b₀-read R x h) in
+      zsub-zero (coeff (words f) 0) (public (load-job G seed) R .b₀ x) (coeff-canonical f 0) (subst (λ w. w < Q) same (coeff-canonical f 0)) .1 same
+
+  pub load-ring-met : (R : List ℕ) (k : ℕ) → k < K → words (ring-error (public (load-job G seed) R) (load-vectors G seed) k) ≡ rzero
+  unfolding ring-error load-job sections
+  load-ring-met R k h =
+      let f = left (load-parameters G) (public (load-job G seed) R .a k) (public (load-job G seed) R .φ k) (load-vectors G seed) in
+      let same : public (load-job G seed) R .b k ≡ f = b-read R k h ∙ sym (ring-left-same R k h) in
+      ap (λ e. words (element (rsub (words f) (words e)))) same
+      ∙ ap words (element-rsub (words f) (words f) ∙ rq-ring .add-neg (element (words f)))
+      ∙ words-nil
