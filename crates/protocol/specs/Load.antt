@@ -40,10 +40,14 @@ section-one G =
 abbrev pub load-parameters : Given → Parameters
 load-parameters G = parameters (29 ∷ section-one G)
 
--- "Its state starts at the seed and becomes state·1664525+1013904223 modulo 2^32 before each word": the state after so many words
+-- "state·1664525+1013904223 modulo 2^32"
+abbrev pub next : ℕ → ℕ
+next x = (x * 1664525 + 1013904223) % 2 ^ 32
+
+-- "Its state starts at the seed and becomes […] before each word": the state after so many words
 unfoldable pub state : ℕ → ℕ → ℕ
 state seed zero = seed
-state seed (suc k) = (state seed k * 1664525 + 1013904223) % 2 ^ 32
+state seed (suc k) = next (state seed k)
 
 -- "a word equal to Q is written as 0 while the state keeps it"
 unfoldable pub word : ℕ → ℕ
@@ -62,19 +66,25 @@ pub data Rule : Type 0 where
   by : (ℕ → ℕ) → Rule
   later : Rule
 
--- the words of sections that are drawn one after the other from a state on; those that are not drawn are zero
+-- so many words from a state on, and the state after them; zeros where they are not drawn
+abbrev pub words-by : Rule → ℕ → ℕ → List ℕ
+words-by (by f) x count = table count (λ k. f (state x (k + 1)))
+words-by later x count = replicate count 0
+
+abbrev pub state-by : Rule → ℕ → ℕ → ℕ
+state-by (by f) x count = state x count
+state-by later x count = x
+
+-- the words of sections that are drawn one after the other from a state on, and the state after them
 unfoldable pub drawn : ℕ → List Rule → List Section → List (List ℕ)
 drawn x [] ss = []
 drawn x (rule ∷ rules) [] = []
-drawn x (by f ∷ rules) (s ∷ ss) = table (s .count) (λ k. f (state x (k + 1))) ∷ drawn (state x (s .count)) rules ss
-drawn x (later ∷ rules) (s ∷ ss) = replicate (s .count) 0 ∷ drawn x rules ss
+drawn x (rule ∷ rules) (s ∷ ss) = words-by rule x (s .count) ∷ drawn (state-by rule x (s .count)) rules ss
 
--- the state after those draws
 unfoldable pub after : ℕ → List Rule → List Section → ℕ
 after x [] ss = x
 after x (rule ∷ rules) [] = x
-after x (by f ∷ rules) (s ∷ ss) = after (state x (s .count)) rules ss
-after x (later ∷ rules) (s ∷ ss) = after x rules ss
+after x (rule ∷ rules) (s ∷ ss) = after (state-by rule x (s .count)) rules ss
 
 -- "Counts and section one aren't drawn." "b0 and b are not drawn": a', φ', b0, a, φ, b, A, B, C, D
 abbrev pub job-rules : List Rule
