@@ -1,6 +1,6 @@
 -- Laws of sums that are added up where they stand.
 use mathlib.Core.Path.{_≡_, refl, sym, ap, ap₂, _∙_}
-use mathlib.Core.List.{List, [], _∷_, _++_}
+use mathlib.Core.List.{List, [], _∷_, _++_, flatMap}
 use Prim.Native.Nat.{ℕ, zero, suc, _+_, _*_, _%_, _≤_, _<_}
 use native.Mathlib.Nat.{mod-eq-of-lt}
 use native.Mathlib.Omega.{arith}
@@ -40,7 +40,7 @@ splice-swap l at new to more h = swapped l at new to more h
 
 -- elements read from canonical words are those words
 flat-read : (J : List ℕ) (at n : ℕ) → at + 64 * n ≤ length J → ((x : ℕ) → x < 64 * n → getD J (at + x) 0 < Q) → flat (table n (element-at J at)) ≡ part J at (64 * n)
-unfolding table
+unfolding table flat flatMap
 flat-read J at zero h canonical = refl
 flat-read J at (suc n) h canonical =
     let place : at + 64 * n + 64 ≤ length J = omega arith in
@@ -77,10 +77,10 @@ module _ (J : List ℕ) (t : Target) (base₀ base m : ℕ) (placed : Placed J t
   open Target t using («b0_at», l, «b_at», k)
 
   module _ (F G : ℕ → Element) where
-    numbers : List ℕ
+    abbrev numbers : List ℕ
     numbers = table l (λ x. zadd (getD J («b0_at» + x) 0) (coeff (words (F x)) 0))
 
-    elements : List Element
+    abbrev elements : List Element
     elements = table k (λ x. element-at J «b_at» x ⊕ G x)
 
     size₀ : length numbers ≡ l
