@@ -1,6 +1,7 @@
 //! What is timed: for each kernel a batch of calls of the proved library and the same batch of the published Rust.
 
-use harness::instances::{Instance, Size, LOOSE};
+use crate::loads;
+use harness::instances::{Instance, LOOSE};
 use harness::random::Random;
 use harness::rust;
 use harness::slices::{inputs, lengths, u1_sizes, Operands};
@@ -232,7 +233,7 @@ fn failing(random: &mut Random, number: u32) -> Kernel {
         23 => p.beta_prime_sq = 0,
         _ => {}
     }
-    let instance = Instance::random(random, p, Size::Bits(8));
+    let instance = loads::instance(p, random.word());
     let (job, randomness) = (instance.job_words(), instance.randomness_words());
     let rust_job = rust::Job::new(&job);
     let mut sections = rust::prove(&rust_job, &randomness, &instance.witness_words()).1;
@@ -259,7 +260,7 @@ fn failing(random: &mut Random, number: u32) -> Kernel {
 /// A whole call on a statement that is met. A round is timed against the Rust's whole prover.
 fn whole(random: &mut Random, call: Call, n: usize, r: usize) -> Kernel {
     let p = parameters(n, r);
-    let instance = Instance::random(random, p, Size::Bits(8));
+    let instance = loads::instance(p, random.word());
     let (job, randomness) = (instance.job_words(), instance.randomness_words());
     let rust_job = rust::Job::new(&job);
     let witness = instance.witness_words();
@@ -288,7 +289,7 @@ fn judged(random: &mut Random) -> Kernel {
         constant: 64,
         ..parameters(16, 4)
     };
-    let instance = Instance::random(random, p, Size::Bits(8));
+    let instance = loads::instance(p, random.word());
     let slices = [
         instance.job_words(),
         instance.randomness_words(),
@@ -346,7 +347,14 @@ pub fn kernels() -> Vec<Entry> {
         ]);
     }
     if library::HAS_WHOLE_CALLS {
-        let rows: [Entry; 32] = [
+        let rows: [Entry; 33] = [
+            ("load, n 64, r 16, K = l = 64, against our prove of it", |_| {
+                loads::against_prove(Parameters {
+                    ring: 64,
+                    constant: 64,
+                    ..parameters(64, 16)
+                })
+            }),
             ("prove, n 4, r 3", |random| whole(random, Call::Prove, 4, 3)),
             ("verify, n 4, r 3", |random| whole(random, Call::Verify, 4, 3)),
             ("prove, n 16, r 4", |random| whole(random, Call::Prove, 16, 4)),

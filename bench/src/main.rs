@@ -6,6 +6,8 @@
 #[cfg(leaf_calls)]
 mod kernels;
 #[cfg(leaf_calls)]
+mod loads;
+#[cfg(leaf_calls)]
 mod table;
 
 #[cfg(leaf_calls)]

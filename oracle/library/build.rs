@@ -18,7 +18,7 @@ fn linked(variable: &str) -> Option<Vec<u8>> {
 }
 
 fn main() {
-    println!("cargo:rustc-check-cfg=cfg(leaf_calls, whole_calls, slice_calls)");
+    println!("cargo:rustc-check-cfg=cfg(leaf_calls, whole_calls, slice_calls, load_calls)");
     let slices = ["SLICE_CALLS_ARCHIVE", "SLICE_SUMS_ARCHIVE"].map(linked);
     if slices.iter().all(Option::is_some) {
         println!("cargo:rustc-cfg=slice_calls");
@@ -27,8 +27,11 @@ fn main() {
         return;
     };
     println!("cargo:rustc-cfg=leaf_calls");
-    let symbol = b"labrador_verify\0";
-    if bytes.windows(symbol.len()).any(|w| w == symbol) {
+    let has = |symbol: &[u8]| bytes.windows(symbol.len()).any(|w| w == symbol);
+    if has(b"labrador_verify\0") {
         println!("cargo:rustc-cfg=whole_calls");
+    }
+    if has(b"labrador_load_needs\0") {
+        println!("cargo:rustc-cfg=load_calls");
     }
 }

@@ -2,3 +2,4 @@ mod Result
 mod Owned
 pub mod Rows
 mod Lengths
+pub mod LoadNeeds

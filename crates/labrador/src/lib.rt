@@ -3,6 +3,7 @@ pub mod answers;
 pub mod calls;
 pub mod digits;
 pub mod elements;
+pub mod loads;
 pub mod needs;
 pub mod numbers;
 pub mod verdicts;

@@ -13,11 +13,12 @@ ghost use lib.ListN.{length};
 ghost use Rattle.lists.specs.Part.{splice};
 ghost use Rattle.definitions.specs.Answer.{ofProved};
 ghost use Rattle.protocol.specs.Layout.{span, sections, witness-sections, randomness-sections};
-ghost use Rattle.protocol.specs.Load.{load-refusal, load-job, load-witness, load-randomness, blank-job, after-job, loaded, drawn, after, witness-rules, randomness-rules, job-need, witness-need, randomness-need};
+ghost use Rattle.protocol.specs.Load.{load-refusal, load-job, load-witness, load-randomness, blank-job, after-job, drawn, after, witness-rules, randomness-rules, job-need, witness-need, randomness-need};
 ghost use Rattle.relation.specs.Parameters.{parametersOf};
 ghost use Rattle.sizes.specs.Sizes.{Sized};
 ghost use Rattle.load_needs.specs.Given.{given, Ready};
 ghost use Rattle.load.specs.Sums.{Blank, sums-of};
+ghost use Rattle.load.specs.Exit.{job-exit, witness-exit, randomness-exit};
 
 // Section one, then the sections as they are drawn; b0 and b are zero.
 fn draw_job(g: LabradorParameters, p: EnvironmentParameters, seed: u32, job: &mut [u32]) -> u32
@@ -55,7 +56,13 @@ fn draw_randomness(p: EnvironmentParameters, state: u32, randomness: &mut [u32])
 {
     let w = Rule::Word;
     let rules = [w, w, w, w, w, Rule::Sign, w, w, w, w];
-    load_draw::sections(randomness, 0, slices::randomness_sections(p, 7), rules, state);
+    load_draw::sections(
+        randomness,
+        0,
+        slices::randomness_sections(p, 7),
+        rules,
+        state,
+    );
 }
 
 // b0 and b of a job that has everything else.
@@ -107,9 +114,9 @@ pub fn load(
     randomness: &mut [u32],
 ) -> Proved
     ensures { λ r. ⌜ ofProved r ≡ load-refusal (given g) (length (now (job .entry))) (length (now (witness .entry))) (length (now (randomness .entry))) ⌝ }
-    ensures { λ r. ⌜ now (job .exit) ≡ loaded (ofProved r) (load-job (given g) seed) (now (job .entry)) ⌝ }
-    ensures { λ r. ⌜ now (witness .exit) ≡ loaded (ofProved r) (load-witness (given g) seed) (now (witness .entry)) ⌝ }
-    ensures { λ r. ⌜ now (randomness .exit) ≡ loaded (ofProved r) (load-randomness (given g) seed) (now (randomness .entry)) ⌝ }
+    ensures { λ r. ⌜ now (job .exit) ≡ job-exit (given g) seed (now (job .entry)) (now (witness .entry)) (now (randomness .entry)) ⌝ }
+    ensures { λ r. ⌜ now (witness .exit) ≡ witness-exit (given g) seed (now (job .entry)) (now (witness .entry)) (now (randomness .entry)) ⌝ }
+    ensures { λ r. ⌜ now (randomness .exit) ≡ randomness-exit (given g) seed (now (job .entry)) (now (witness .entry)) (now (randomness .entry)) ⌝ }
 {
     match load_needs::admit(g, job.len(), witness.len(), randomness.len()) {
         Admitted::Refused(refusal) => Proved::Refused(refusal),

@@ -19,11 +19,7 @@ fn weight(s: &[u32], s_at: usize, r: usize, n: usize, i: usize, j: usize) -> Rq
     let s_i = vector_at(s_at, n, i);
     let s_j = vector_at(s_at, n, j);
     let product = inner_product::inner_product(s, s_i, 64, s, s_j, 64, n);
-    if j < i {
-        product.add(product)
-    } else {
-        product
-    }
+    if j < i { product.add(product) } else { product }
 }
 
 // Row i of every triangle of m cells, from cell `row` on.
@@ -76,15 +72,7 @@ fn add_triangle(
 }
 
 // Every vector's elements, m of them, with the witness's.
-fn add_line(
-    job: &mut [u32],
-    t: Target,
-    base0: usize,
-    base: usize,
-    m: usize,
-    s: &[u32],
-    s_at: usize,
-)
+fn add_line(job: &mut [u32], t: Target, base0: usize, base: usize, m: usize, s: &[u32], s_at: usize)
     requires { ⌜ Placed (now job) t base0 base m × Reduced (now job) t × («s_at» + 64 * m ≤ length (now s)) ⌝ }
     ensures { λ _. ⌜ now (job .exit) ≡ plus (now (job .entry)) t (terms (now (job .entry)) base0 m 0 m (run (now (s .entry)) «s_at» 64)) (terms (now (job .entry)) base m 0 m (run (now (s .entry)) «s_at» 64)) ⌝ }
 {

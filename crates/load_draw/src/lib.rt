@@ -46,11 +46,7 @@ fn advance(rule: Rule, state: u32) -> u32
 fn word(state: u32) -> u32
     ensures { λ r. ⌜ r ≡ S.word state ⌝ }
 {
-    if state == 4294967295 {
-        0
-    } else {
-        state
-    }
+    if state == 4294967295 { 0 } else { state }
 }
 
 // "sign words take the state's top bit"

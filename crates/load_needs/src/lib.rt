@@ -45,8 +45,36 @@ pub fn section_one_words(g: LabradorParameters) -> [u32; 30]
 {
     let q = 4294967295;
     [
-        29, g.n, g.r, g.kappa, g.kappa_1, g.kappa_2, g.constraint_k, g.constraint_l, g.log_q, g.b,
-        g.t_1, g.t_2, q, q, q, q, q, q, q, q, q, q, q, q, q, q, q, q, q, q,
+        29,
+        g.n,
+        g.r,
+        g.kappa,
+        g.kappa_1,
+        g.kappa_2,
+        g.constraint_k,
+        g.constraint_l,
+        g.log_q,
+        g.b,
+        g.t_1,
+        g.t_2,
+        q,
+        q,
+        q,
+        q,
+        q,
+        q,
+        q,
+        q,
+        q,
+        q,
+        q,
+        q,
+        q,
+        q,
+        q,
+        q,
+        q,
+        q,
     ]
 }
 

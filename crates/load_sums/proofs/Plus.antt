@@ -47,9 +47,11 @@ flat-read J at (suc n) h canonical =
     flat-append (table n (element-at J at)) (element-at J at n ∷ [])
     ∙ ap₂ _++_ (flat-read J at n (omega arith) (λ x l. canonical x (omega arith)))
     (flat-one (element-at J at n)
-    ∙ words-element (part J (at + 64 * n) 64)
-    (length-part J (at + 64 * n) 64 place, λ k l. rw (getD-part 0 J (at + 64 * n) 64 k (omega (arith, length-part J (at + 64 * n) 64 place)))
-    (rw (deeper n k) (canonical (64 * n + k) (omega (arith, length-part J (at + 64 * n) 64 place))))))
+    ∙ words-element (part J (at + 64 * n) 64) (
+      length-part J (at + 64 * n) 64 place,
+      λ k l. rw (getD-part 0 J (at + 64 * n) 64 k (omega (arith, length-part J (at + 64 * n) 64 place)))
+          (rw (deeper n k) (canonical (64 * n + k) (omega (arith, length-part J (at + 64 * n) 64 place)))),
+    ))
     ∙ ap (λ l. part J at (64 * n) ++ take 64 l) (sym (drop-drop (64 * n) at J))
     ∙ sym (take-add (64 * n) 64 (drop at J))
     ∙ ap (λ k. take k (drop at J)) (more n)

@@ -119,8 +119,12 @@ module _ (G : Given) (seed : ℕ) (fits : seed < 2 ^ 32) where
   abbrev pub job-made : List (List ℕ)
   job-made = set (set (job-drawn G seed) 2 (b₀-words G seed)) 5 (b-words G seed)
 
+  -- with b0, and with both
+  pub job-half-filled : Filled (job-sections (load-parameters G)) (set (job-drawn G seed) 2 (b₀-words G seed))
+  job-half-filled = filled-set job-drawn-filled 2 (b₀-words G seed) length-b₀ b₀-canonical
+
   pub job-made-filled : Filled (job-sections (load-parameters G)) job-made
-  job-made-filled = filled-set (filled-set job-drawn-filled 2 (b₀-words G seed) length-b₀ b₀-canonical) 5 (b-words G seed) length-b b-canonical
+  job-made-filled = filled-set job-half-filled 5 (b-words G seed) length-b b-canonical
 
   -- the parameters of the job's words
   pub load-job-parameters : parameters (load-job G seed) ≡ load-parameters G
@@ -141,13 +145,13 @@ module _ (G : Given) (seed : ℕ) (fits : seed < 2 ^ 32) where
   load-witness-fine = then-both-fine (layout-fine witness-filled 11) (ranged-fine witness-filled 12)
 
   -- a cell of constraint x
-  cell-inside : (x count i j : ℕ) → x < count → i < r → j < r → x * T (load-parameters G) + cell i j < count * T (load-parameters G)
+  pub cell-inside : (x count i j : ℕ) → x < count → i < r → j < r → x * T (load-parameters G) + cell i j < count * T (load-parameters G)
   cell-inside x count i j h hi hj =
       let f : ℕ → ℕ → Element = λ a b. RqOps .nil in
       omega (arith, mul-le-mul-right (T (load-parameters G)) h, cell-within r f i j hi hj, length-triangle r f)
 
   -- an element of its vectors
-  line-inside : (x count i m : ℕ) → x < count → i < r → m < n → (x * r + i) * n + m < count * r * n
+  pub line-inside : (x count i m : ℕ) → x < count → i < r → m < n → (x * r + i) * n + m < count * r * n
   line-inside x count i m h hi hm =
       let row : x * r + i + 1 ≤ count * r = omega (arith, mul-le-mul-right r h) in
       omega (arith, mul-le-mul-right n row)

@@ -62,7 +62,7 @@ in-range free n f h = tt
 in-range (under limit) n f h = λ k l. rw (getD-table n f k 0 (rw length-table at l)) (h k)
 
 -- a zero among zeros
-getD-zeros : (n k : ℕ) → _≡_ {A = ℕ} (getD (replicate n 0) k 0) 0
+pub getD-zeros : (n k : ℕ) → _≡_ {A = ℕ} (getD (replicate n 0) k 0) 0
 getD-zeros zero k = refl
 getD-zeros (suc n) zero = refl
 getD-zeros (suc n) (suc k) = getD-zeros n k

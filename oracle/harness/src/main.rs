@@ -1,6 +1,7 @@
 //! Runs the published Rust, the model of document 01 and the proved library on the same cases.
 //!
 //! `harness compare SEED COUNT [largest]` compares, on COUNT random instances beside the fixed families.
+//! `harness loads SEED COUNT` compares test loads of COUNT parameter sets alone.
 //! `harness record FOLDER` writes the recorded answers. `harness replay FOLDER` reads them back and compares them with
 //! the model, and with the library where it is linked.
 //! Each prints a tally, and fails where anything differs or a row is empty.
@@ -9,7 +10,7 @@ use harness::cases::Context;
 use harness::instances::{small, Instance};
 use harness::random::Random;
 use harness::record::Recorder;
-use harness::{replay, rust, slices, unfit, whole};
+use harness::{loads, replay, rust, slices, unfit, whole};
 use model::Call;
 use std::path::Path;
 use std::process::ExitCode;
@@ -21,9 +22,10 @@ fn main() -> ExitCode {
     let good = match words[..] {
         ["compare", seed, count] => compare(number(seed), number(count), false),
         ["compare", seed, count, "largest"] => compare(number(seed), number(count), true),
+        ["loads", seed, count] => loads(number(seed), number(count)),
         ["record", folder] => record(Path::new(folder)),
         ["replay", folder] => replay::replay(Path::new(folder)),
-        _ => panic!("usage: harness compare SEED COUNT [largest] | record FOLDER | replay FOLDER"),
+        _ => panic!("usage: harness compare SEED COUNT [largest] | loads SEED COUNT | record FOLDER | replay FOLDER"),
     };
     if good {
         ExitCode::SUCCESS
@@ -54,6 +56,7 @@ fn compare(seed: u64, count: u64, largest: bool) -> bool {
     let leaf_cases = 500.max(count as usize);
     context.leaves().all(&mut random, leaf_cases, 1);
     slices::all(&mut context.tally, &mut Random::new(seed), count as usize / 4);
+    loads::all(&mut context, &mut Random::new(seed), 300.max(count as usize));
     let base = whole::base(&mut random, whole::pair_parameters());
     families(&mut context, &mut random, &base, 10);
     whole::limits(&mut context, &mut random);
@@ -76,6 +79,13 @@ fn compare(seed: u64, count: u64, largest: bool) -> bool {
     } else if !library::HAS_WHOLE_CALLS {
         println!("not compared: the library has no calls on whole slices yet");
     }
+    context.tally.report()
+}
+
+/// The test loads alone.
+fn loads(seed: u64, count: u64) -> bool {
+    let mut context = Context::new(None);
+    loads::all(&mut context, &mut Random::new(seed), count as usize);
     context.tally.report()
 }
 

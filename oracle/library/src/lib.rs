@@ -3,6 +3,7 @@
 use model::calls::{Leaf, LeafAnswer};
 use model::{Answer, Call};
 
+pub mod load;
 pub mod slices;
 
 /// The exported functions as C has them.

@@ -74,8 +74,7 @@ returns c =
     let l = c .before .loop in
     let ρ = rule-at (s .t4) in
     let same = drawn-counts (s .state) ρ (counted (s .s .counts)) (section-at (s .s)) (λ i. refl) (s .s .len) in
-    let done : l .m ≡ s .s .len = omega arith in
-    (
+    let done : l .m ≡ s .s .len = omega arith in (
       l .inv .1 ∙ ap (λ m. splice (s .out .now) (s .at) (sections (drawn-to (s .state) ρ (counted (s .s .counts)) m))) done ∙ ap (λ d. splice (s .out .now) (s .at) (sections d)) (same .0),
       l .inv .3 ∙ ap (reached (s .state) ρ (counted (s .s .counts))) done ∙ same .1,
     )

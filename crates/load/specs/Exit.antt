@@ -1,0 +1,14 @@
+-- The three buffers of a load at exit: its words, then the words beyond; a refusal touches nothing.
+use mathlib.Core.List.{List}
+use Prim.Native.Nat.{ℕ}
+use lib.ListN.{length}
+use Rattle.protocol.specs.Load.{Given, load-refusal, load-job, load-witness, load-randomness, loaded}
+
+unfoldable pub job-exit : Given → ℕ → (job witness randomness : List ℕ) → List ℕ
+job-exit G seed job witness randomness = loaded (load-refusal G (length job) (length witness) (length randomness)) (load-job G seed) job
+
+unfoldable pub witness-exit : Given → ℕ → (job witness randomness : List ℕ) → List ℕ
+witness-exit G seed job witness randomness = loaded (load-refusal G (length job) (length witness) (length randomness)) (load-witness G seed) witness
+
+unfoldable pub randomness-exit : Given → ℕ → (job witness randomness : List ℕ) → List ℕ
+randomness-exit G seed job witness randomness = loaded (load-refusal G (length job) (length witness) (length randomness)) (load-randomness G seed) randomness
