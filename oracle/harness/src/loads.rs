@@ -1,7 +1,7 @@
 //! The call that makes a test load, compared with the model word for word.
 
-use crate::cases::Context;
 use crate::random::Random;
+use crate::tally::Tally;
 use model::load::{load, needs};
 use model::refusals::LIMITS;
 use model::Answer;
@@ -30,7 +30,7 @@ fn eleven(random: &mut Random, i: usize) -> [u32; 11] {
 }
 
 /// One call with buffers of these lengths: answer, every word, and guard words on both sides.
-fn one(context: &mut Context, words: [u32; 11], seed: u32, lengths: [usize; 3]) {
+fn one(tally: &mut Tally, words: [u32; 11], seed: u32, lengths: [usize; 3]) {
     let expected = load(words, seed, lengths);
     let mut kept: [Vec<u32>; 3] = lengths.map(|length| vec![MARK; length + 2 * GUARD]);
     let [a, b, c] = &mut kept;
@@ -47,16 +47,16 @@ fn one(context: &mut Context, words: [u32; 11], seed: u32, lengths: [usize; 3]) 
         Err(refusal) => (*refusal, [&[][..]; 3]),
     };
     let case = || format!("{words:?} seed {seed} lengths {lengths:?}");
-    context.tally.occurred("answers of loads", number.number);
-    context.tally.compare("load: answer", &number, &answer, case);
+    tally.occurred("answers of loads", number.number);
+    tally.compare("load: answer", &number, &answer, case);
     for (k, (made, buffer)) in filled.into_iter().zip(&kept).enumerate() {
         let mut words = vec![MARK; buffer.len()];
         words[GUARD..GUARD + made.len()].copy_from_slice(made);
-        context.tally.compare("load: words of a buffer", &words, buffer, || format!("buffer {k} of {}", case()));
+        tally.compare("load: words of a buffer", &words, buffer, || format!("buffer {k} of {}", case()));
     }
 }
 
-fn lengths_of(context: &mut Context, words: [u32; 11]) {
+fn lengths_of(tally: &mut Tally, words: [u32; 11]) {
     let Some(found) = library::load::needs(words) else {
         return;
     };
@@ -64,14 +64,14 @@ fn lengths_of(context: &mut Context, words: [u32; 11]) {
         Ok(lengths) => (Answer::FINE, lengths.map(|n| n as u64)),
         Err(refusal) => (refusal, [0; 3]),
     };
-    context.tally.compare("load: lengths needed", &expected, &found, || format!("{words:?}"));
+    tally.compare("load: lengths needed", &expected, &found, || format!("{words:?}"));
 }
 
 /// `count` parameter sets, each whole, with longer buffers, with each buffer one word short, and with parameters outside their limits.
-pub fn all(context: &mut Context, random: &mut Random, count: usize) {
+pub fn all(tally: &mut Tally, random: &mut Random, count: usize) {
     if library::load::HAS_LOAD_CALLS {
         for number in [0, 2, 4, 5] {
-            context.tally.must_occur("answers of loads", number);
+            tally.must_occur("answers of loads", number);
         }
     }
     for i in 0..count {
@@ -79,21 +79,21 @@ pub fn all(context: &mut Context, random: &mut Random, count: usize) {
         let word = random.word();
         let seed = random.pick(&[0, 1, 4294967295, word]);
         let exact = needs(words).expect("parameters within their limits");
-        lengths_of(context, words);
-        one(context, words, seed, exact);
-        one(context, words, seed, exact.map(|n| n + random.below(5)));
+        lengths_of(tally, words);
+        one(tally, words, seed, exact);
+        one(tally, words, seed, exact.map(|n| n + random.below(5)));
         let mut short = exact;
         short[i % 3] -= 1 + random.below(exact[i % 3]);
-        one(context, words, seed, short);
-        one(context, words, seed, exact.map(|n| n - 1));
+        one(tally, words, seed, short);
+        one(tally, words, seed, exact.map(|n| n - 1));
         let mut wrong = words;
         let k = i % 11;
         wrong[k] = random.pick(&[LIMITS[k].0.wrapping_sub(1), LIMITS[k].1.wrapping_add(1), 4294967295]);
-        lengths_of(context, wrong);
-        one(context, wrong, seed, exact);
+        lengths_of(tally, wrong);
+        one(tally, wrong, seed, exact);
         wrong = words;
         wrong[2] = 1 + words[2] % 16;
-        lengths_of(context, wrong);
-        one(context, wrong, seed, [0; 3]);
+        lengths_of(tally, wrong);
+        one(tally, wrong, seed, [0; 3]);
     }
 }

@@ -10,6 +10,7 @@ use harness::cases::Context;
 use harness::instances::{small, Instance};
 use harness::random::Random;
 use harness::record::Recorder;
+use harness::tally::Tally;
 use harness::{loads, replay, rust, slices, unfit, whole};
 use model::Call;
 use std::path::Path;
@@ -56,7 +57,7 @@ fn compare(seed: u64, count: u64, largest: bool) -> bool {
     let leaf_cases = 500.max(count as usize);
     context.leaves().all(&mut random, leaf_cases, 1);
     slices::all(&mut context.tally, &mut Random::new(seed), count as usize / 4);
-    loads::all(&mut context, &mut Random::new(seed), 300.max(count as usize));
+    loads::all(&mut context.tally, &mut Random::new(seed), 300.max(count as usize));
     let base = whole::base(&mut random, whole::pair_parameters());
     families(&mut context, &mut random, &base, 10);
     whole::limits(&mut context, &mut random);
@@ -84,9 +85,9 @@ fn compare(seed: u64, count: u64, largest: bool) -> bool {
 
 /// The test loads alone.
 fn loads(seed: u64, count: u64) -> bool {
-    let mut context = Context::new(None);
-    loads::all(&mut context, &mut Random::new(seed), count as usize);
-    context.tally.report()
+    let mut tally = Tally::default();
+    loads::all(&mut tally, &mut Random::new(seed), count as usize);
+    tally.report()
 }
 
 fn record(folder: &Path) -> bool {
