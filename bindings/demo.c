@@ -1,4 +1,4 @@
-/* Generates a small job with a witness that meets its constraints, proves it whole and in rounds, verifies it, then damages the transcript and the
+/* Makes a small test load, proves it whole and in rounds, verifies it, then damages the transcript and the
    statement and tells each verdict in words. */
 #include <inttypes.h>
 #include <stdio.h>
@@ -16,87 +16,22 @@ enum { N = 4, R = 3, T = R * (R + 1) / 2, K = 2, KAPPA = 4, KAPPA_1 = 4, KAPPA_2
 static uint32_t job[MOST], randomness[MOST], witness[MOST], scratch[MOST], transcript[MOST], joined[MOST];
 static size_t job_length, randomness_length, witness_length, transcript_length, scratch_length, ends[8];
 
-/* where the words of a section start */
-static size_t a_prime, phi_prime, b_0, a, phi, b;
-
-static uint64_t seed = 20261115;
-
-static uint32_t draw(uint32_t limit) {
-    seed = seed * 6364136223846793005u + 1442695040888963407u;
-    return (uint32_t)(seed >> 32) % limit;
-}
-
-/* A section of drawn words behind the others; answers where its words start. */
-static size_t section(uint32_t *words, size_t *length, uint32_t count, uint32_t limit) {
-    size_t start = *length + 1;
-    words[*length] = count;
-    for (uint32_t k = 0; k < count; k++) words[start + k] = draw(limit);
-    *length = start + count;
-    return start;
-}
-
-static labrador_element at(const uint32_t *words, size_t start, size_t m) {
-    labrador_element e;
-    memcpy(e.coeffs, words + start + 64 * m, sizeof e.coeffs);
-    return e;
-}
-
-static labrador_element taken(labrador_element_answer answer) {
-    labrador_element e;
-    memcpy(e.coeffs, answer.coeffs, sizeof e.coeffs);
-    return e;
-}
-
-static labrador_element plus_product(labrador_element sum, labrador_element x, labrador_element y) {
-    return taken(labrador_rq_add(sum, taken(labrador_rq_mul(x, y))));
-}
-
-static labrador_element inner(const uint32_t *x, size_t x_start, const uint32_t *y, size_t y_start) {
-    labrador_element sum = {{0}};
-    for (size_t m = 0; m < N; m++) sum = plus_product(sum, at(x, x_start, m), at(y, y_start, m));
-    return sum;
-}
-
-/* The left side of constraint k of the triangles and vectors that start at two places. */
-static labrador_element left(size_t triangles, size_t vectors, size_t k) {
-    labrador_element sum = {{0}};
-    for (size_t i = 0; i < R; i++)
-        for (size_t j = 0; j < R; j++) {
-            size_t cell = i >= j ? i * (i + 1) / 2 + j : j * (j + 1) / 2 + i;
-            sum = plus_product(sum, at(job, triangles, k * T + cell), inner(witness, 1 + 64 * N * i, witness, 1 + 64 * N * j));
-        }
-    for (size_t i = 0; i < R; i++)
-        sum = taken(labrador_rq_add(sum, inner(job, vectors + 64 * N * (k * R + i), witness, 1 + 64 * N * i)));
-    return sum;
-}
+/* where the words of b0 and b start */
+static size_t b_0, b;
 
 static void generate(void) {
-    const uint32_t sizes[11] = {N, R, KAPPA, KAPPA_1, KAPPA_2, K, K, 32, 256, PARTS, PARTS};
-    job[0] = 29;
-    memcpy(job + 1, sizes, sizeof sizes);
-    for (int k = 12; k < 30; k++) job[k] = k % 3 == 2 ? 0 : Q; /* each limit 2^64 and about Q */
-    job_length = 30;
-    section(witness, &witness_length, 64 * R * N, 2);
-    a_prime = section(job, &job_length, 64 * K * T, Q);
-    phi_prime = section(job, &job_length, 64 * K * R * N, Q);
-    b_0 = section(job, &job_length, K, Q);
-    a = section(job, &job_length, 64 * K * T, Q);
-    phi = section(job, &job_length, 64 * K * R * N, Q);
-    b = section(job, &job_length, 64 * K, Q);
-    for (size_t k = 0; k < K; k++) {
-        job[b_0 + k] = left(a_prime, phi_prime, k).coeffs[0];
-        labrador_element side = left(a, phi, k);
-        memcpy(job + b + 64 * k, side.coeffs, sizeof side.coeffs);
-    }
-    section(job, &job_length, 64 * KAPPA * N, Q);
-    section(job, &job_length, 64 * KAPPA_1 * R * KAPPA * PARTS, Q);
-    section(job, &job_length, 64 * KAPPA_1 * T * PARTS, Q);
-    section(job, &job_length, 64 * KAPPA_2 * T * PARTS, Q);
-    const uint32_t counts[7] = {16384 * N * R, KAPPA * K, KAPPA * 256, 64 * K, 64 * KAPPA, 41 * R, 63 * R};
-    for (int k = 0; k < 7; k++) {
-        section(randomness, &randomness_length, counts[k], k == 5 ? 2 : Q);
-        ends[k + 1] = randomness_length;
-    }
+    const labrador_parameters sizes = {N, R, KAPPA, KAPPA_1, KAPPA_2, K, K, 32, 256, PARTS, PARTS};
+    const uint32_t seed = 20261115;
+    labrador_load_need need = labrador_load_needs(sizes);
+    labrador_answer answer = labrador_load(sizes, seed, job, MOST, witness, MOST, randomness, MOST);
+    if (need.number != 0 || answer.number != 0) exit(EXIT_FAILURE);
+    printf("a load of n %d, r %d, K = l = %d and seed %" PRIu32 "\n", N, R, K, seed);
+    job_length = need.job;
+    witness_length = need.witness;
+    randomness_length = need.randomness;
+    b_0 = 30 + 64 * K * T + 1 + 64 * K * R * N + 1 + 1;
+    b = b_0 + K + 64 * K * T + 1 + 64 * K * R * N + 1 + 1;
+    for (int k = 0; k < 7; k++) ends[k + 1] = ends[k] + 1 + randomness[ends[k]];
 }
 
 static double milliseconds(void) {

@@ -155,6 +155,38 @@ labrador_need labrador_scratch_need(const uint32_t *job, size_t job_length);
 /* The words of output that labrador_prove needs with this job, which are the transcript's, or the job's refusal. */
 labrador_need labrador_output_need(const uint32_t *job, size_t job_length);
 
+/* The eleven parameters of a test load, in the order of section one. */
+typedef struct {
+    uint32_t n;
+    uint32_t r;
+    uint32_t kappa;
+    uint32_t kappa_1;
+    uint32_t kappa_2;
+    uint32_t K;
+    uint32_t l;
+    uint32_t log_q;
+    uint32_t b;
+    uint32_t t_1;
+    uint32_t t_2;
+} labrador_parameters;
+
+/* The lengths that a load needs, or the refusal of its parameters with zeros. */
+typedef struct {
+    uint32_t number;
+    uint64_t place;
+    uint64_t job;
+    uint64_t witness;
+    uint64_t randomness;
+} labrador_load_need;
+
+labrador_load_need labrador_load_needs(labrador_parameters parameters);
+
+/* A test load that anyone can repeat: a job, a witness that meets it and randomness, from eleven parameters and a seed. 4 and 5 are of the parameters, at
+   section one's places; then 2 of the first buffer that is too short, job, witness, randomness in this order, its place the length needed. Words beyond stay, and a
+   refusal touches nothing. The witness stands before the randomness here, as they are drawn; labrador_prove takes the randomness first. */
+labrador_answer labrador_load(labrador_parameters parameters, uint32_t seed, uint32_t *job, size_t job_length, uint32_t *witness, size_t witness_length,
+                              uint32_t *randomness, size_t randomness_length);
+
 #define LABRADOR_PROVER(name)                                                                                          \
     labrador_answer name(const uint32_t *job, size_t job_length, const uint32_t *randomness, size_t randomness_length, \
                          const uint32_t *witness, size_t witness_length, uint32_t *scratch, size_t scratch_length,     \

@@ -311,40 +311,80 @@ static void test_challenge(void) {
     CHECK(is_refused(labrador_challenge(w), 8, 0));
 }
 
-/* A small fit job (n 2, r 2, kappa and L 4, constraints that every witness meets), its randomness and a short witness. */
-enum { JOB = 8192, RANDOMNESS = 131072, WITNESS = 512, SCRATCH = 65536, OUTPUT = 4096, MARK = 0x5a5a5a5a };
+/* The buffers of a small load (n 2, r 2, kappa and L 4). */
+enum { JOB = 16384, RANDOMNESS = 131072, WITNESS = 512, SCRATCH = 65536, OUTPUT = 4096, MARK = 0x5a5a5a5a };
 
 static uint32_t job[JOB], randomness[RANDOMNESS], witness[WITNESS], scratch[SCRATCH], output[OUTPUT], joined[OUTPUT];
 static size_t job_length, randomness_length, witness_length, ends[8];
 
-/* A section after the first `length` words: its count, then words below a limit. */
-static size_t section(uint32_t *words, size_t length, uint32_t count, uint32_t limit) {
-    words[length] = count;
-    for (uint32_t k = 0; k < count; k++) words[length + 1 + k] = limit == 0 ? 0 : draw() % limit;
-    return length + 1 + count;
-}
-
 static void make_job(uint32_t ring, uint32_t constant) {
-    const uint32_t n = 2, r = 2, kappa = 4, t = 3, parts = 4;
-    const uint32_t one[11] = {n, r, kappa, 1, 1, ring, constant, 32, 256, parts, parts};
-    job[0] = 29;
-    memcpy(job + 1, one, sizeof one);
-    for (int k = 12; k < 30; k++) job[k] = 0xffffffffu;
-    size_t at = 30;
-    const uint32_t statement[6] = {64 * t * constant, 64 * r * n * constant, constant, 64 * t * ring, 64 * r * n * ring, 64 * ring};
-    for (int k = 0; k < 6; k++) at = section(job, at, statement[k], 0);
-    at = section(job, at, 64 * kappa * n, Q);
-    at = section(job, at, 64 * r * kappa * parts, Q);
-    at = section(job, at, 64 * t * parts, Q);
-    job_length = section(job, at, 64 * t * parts, Q);
-    const uint32_t counts[7] = {16384 * n * r, kappa * constant, kappa * 256, 64 * ring, 64 * kappa, 41 * r, 63 * r};
-    const uint32_t limits[7] = {Q, Q, Q, Q, Q, 2, Q};
+    const labrador_parameters sizes = {2, 2, 4, 1, 1, ring, constant, 32, 256, 4, 4};
+    labrador_load_need need = labrador_load_needs(sizes);
+    job_length = need.job;
+    witness_length = need.witness;
+    randomness_length = need.randomness;
+    labrador_answer a = labrador_load(sizes, 1, job, JOB, witness, WITNESS, randomness, RANDOMNESS);
+    CHECK(need.number == 0 && need.place == 0 && a.number == 0 && a.place == 0);
     ends[0] = 0;
-    for (int k = 0; k < 7; k++) ends[k + 1] = section(randomness, ends[k], counts[k], limits[k]);
-    randomness_length = ends[7];
-    witness_length = section(witness, 0, 64 * r * n, 3);
+    for (int k = 0; k < 7; k++) ends[k + 1] = ends[k] + 1 + randomness[ends[k]];
+    CHECK(ends[7] == randomness_length);
     for (size_t k = 0; k < SCRATCH; k++) scratch[k] = MARK;
     for (size_t k = 0; k < OUTPUT; k++) output[k] = joined[k] = MARK;
+}
+
+/* First and last words of three loads, of their b0 and of their b. */
+typedef struct {
+    labrador_parameters sizes;
+    uint32_t seed;
+    size_t job, witness, randomness, b_0, b;
+    uint32_t job_words[4], b_0_word, b_word, witness_words[4], randomness_words[4];
+} load_vector;
+
+static const load_vector loads[3] = {
+    {{1, 1, 4, 1, 1, 1, 1, 32, 2, 1, 1}, 0, 1001, 65, 17843, 161, 293,
+     {1013904223u, 1196435762u, 251590501u, 3201352064u}, 175828025u, 3407199058u, {Q - 1, 0, 1, 0},
+     {415956767u, 1248543218u, 1274125329u, 2576066108u}},
+    {{2, 3, 5, 2, 1, 3, 2, 31, 16, 3, 2}, 1, 13162, 385, 100425, 1569, 3878,
+     {1015568748u, 1586005467u, 827939114u, 211367553u}, 1230392950u, 2664596849u, {Q - 1, 1, 0, 1},
+     {43359596u, 1514994139u, 2510895788u, 4264785435u}},
+    {{3, 2, 8, 1, 2, 1, 4, 16, 4294967294u, 1, 2}, 4294967295u, 6316, 385, 101175, 2337, 2920,
+     {1012239698u, 806866057u, 3693287520u, 3343740991u}, 1770543956u, 1837463797u, {1, 1, 1, 0},
+     {3055150098u, 308327497u, 4176324560u, 4105001199u}},
+};
+
+/* Two words from a place on, and the last two of so many. */
+static int has_words(const uint32_t *words, size_t first, size_t length, const uint32_t expected[4]) {
+    return same(words + first, expected, 2) && same(words + length - 2, expected + 2, 2);
+}
+
+static void test_loads(void) {
+    for (int k = 0; k < 3; k++) {
+        const load_vector *v = &loads[k];
+        for (size_t i = 0; i < JOB; i++) job[i] = MARK;
+        for (size_t i = 0; i < WITNESS; i++) witness[i] = MARK;
+        for (size_t i = 0; i < RANDOMNESS; i++) randomness[i] = MARK;
+        labrador_load_need need = labrador_load_needs(v->sizes);
+        CHECK(need.number == 0 && need.place == 0 && need.job == v->job && need.witness == v->witness && need.randomness == v->randomness);
+        labrador_answer a = labrador_load(v->sizes, v->seed, job, v->job - 1, witness, 0, randomness, 0);
+        CHECK(a.number == 2 && a.place == v->job && job[0] == MARK);
+        a = labrador_load(v->sizes, v->seed, job, JOB, witness, v->witness - 1, randomness, 0);
+        CHECK(a.number == 2 && a.place == v->witness && job[0] == MARK && witness[0] == MARK);
+        a = labrador_load(v->sizes, v->seed, job, JOB, witness, WITNESS, randomness, v->randomness - 1);
+        CHECK(a.number == 2 && a.place == v->randomness && job[0] == MARK && randomness[0] == MARK);
+        a = labrador_load(v->sizes, v->seed, job, JOB, witness, WITNESS, randomness, RANDOMNESS);
+        CHECK(a.number == 0 && a.place == 0);
+        CHECK(job[0] == 29 && same(job + 1, &v->sizes.n, 11) && job[12] == Q && job[29] == Q);
+        CHECK(has_words(job, 31, v->job, v->job_words) && job[v->b_0] == v->b_0_word && job[v->b] == v->b_word);
+        CHECK(has_words(witness, 1, v->witness, v->witness_words) && has_words(randomness, 1, v->randomness, v->randomness_words));
+        CHECK(job[v->job] == MARK && witness[v->witness] == MARK && randomness[v->randomness] == MARK);
+    }
+    labrador_parameters wrong = loads[0].sizes;
+    wrong.log_q = 33;
+    labrador_load_need need = labrador_load_needs(wrong);
+    CHECK(need.number == 4 && need.place == 8 && need.job == 0 && need.witness == 0 && need.randomness == 0);
+    wrong.log_q = 31;
+    labrador_answer a = labrador_load(wrong, 0, job, 0, witness, 0, randomness, 0);
+    CHECK(a.number == 5 && a.place == 3);
 }
 
 static void test_needs(size_t *scratch_need, size_t *output_need) {
@@ -526,6 +566,7 @@ int main(void) {
     test_random_elements();
     test_rows();
     test_challenge();
+    test_loads();
     test_calls();
     test_one_kind();
     test_ranges();

@@ -1,6 +1,7 @@
 //! What is timed: for each kernel a batch of calls of the proved library and the same batch of the published Rust.
 
-use harness::instances::{Instance, Size, LOOSE};
+use crate::loads;
+use harness::instances::{Instance, LOOSE};
 use harness::random::Random;
 use harness::rust;
 use harness::slices::{inputs, lengths, u1_sizes, Operands};
@@ -232,7 +233,7 @@ fn failing(random: &mut Random, number: u32) -> Kernel {
         23 => p.beta_prime_sq = 0,
         _ => {}
     }
-    let instance = Instance::random(random, p, Size::Bits(8));
+    let instance = loads::instance(p, random.word());
     let (job, randomness) = (instance.job_words(), instance.randomness_words());
     let rust_job = rust::Job::new(&job);
     let mut sections = rust::prove(&rust_job, &randomness, &instance.witness_words()).1;
@@ -259,7 +260,7 @@ fn failing(random: &mut Random, number: u32) -> Kernel {
 /// A whole call on a statement that is met. A round is timed against the Rust's whole prover.
 fn whole(random: &mut Random, call: Call, n: usize, r: usize) -> Kernel {
     let p = parameters(n, r);
-    let instance = Instance::random(random, p, Size::Bits(8));
+    let instance = loads::instance(p, random.word());
     let (job, randomness) = (instance.job_words(), instance.randomness_words());
     let rust_job = rust::Job::new(&job);
     let witness = instance.witness_words();
@@ -288,7 +289,7 @@ fn judged(random: &mut Random) -> Kernel {
         constant: 64,
         ..parameters(16, 4)
     };
-    let instance = Instance::random(random, p, Size::Bits(8));
+    let instance = loads::instance(p, random.word());
     let slices = [
         instance.job_words(),
         instance.randomness_words(),
@@ -318,7 +319,7 @@ pub type Entry = (&'static str, fn(&mut Random) -> Kernel);
 
 /// Every kernel.
 #[rustfmt::skip]
-pub const KERNELS: [Entry; 42] = [
+pub const KERNELS: [Entry; 43] = [
     ("element product", product),
     ("product with a number, added to an accumulator", multiply_add),
     ("digits of an element, base 16, 8 parts", |random| digits(random, 16, 8)),
@@ -329,6 +330,9 @@ pub const KERNELS: [Entry; 42] = [
     ("phi'', n 16, r 4, 5 constraints, 4 rows of psi", |random| slice(random, SliceCall::Phi, vec![4, 16, 5, 4])),
     ("u1, r 4, κ and κ1 4, base 256, 4 parts", |random| slice(random, SliceCall::U1, u1_sizes(4, 4, 4, 4, 4))),
     ("tests before the work, 1.7 million words, against a plain scan", judged),
+    ("load, n 64, r 16, K = l = 64, against our prove of it", |_| {
+        loads::against_prove(Parameters { ring: 64, constant: 64, ..parameters(64, 16) })
+    }),
     ("prove, n 4, r 3", |random| whole(random, Call::Prove, 4, 3)),
     ("verify, n 4, r 3", |random| whole(random, Call::Verify, 4, 3)),
     ("prove, n 16, r 4", |random| whole(random, Call::Prove, 16, 4)),

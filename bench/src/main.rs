@@ -4,6 +4,7 @@
 //! `bench count KERNEL SIDE` runs a batch of one side of a kernel, for callgrind.
 
 mod kernels;
+mod loads;
 mod table;
 
 fn main() {

@@ -1,2 +1,3 @@
 mod Lengths
 pub mod ValueBack
+pub mod LoadNeeds

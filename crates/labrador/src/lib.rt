@@ -2,6 +2,7 @@
 pub mod calls;
 pub mod digits;
 pub mod elements;
+pub mod loads;
 pub mod needs;
 pub mod numbers;
 pub mod ranges_call;

@@ -21,6 +21,10 @@ pub mod Total
 pub mod Demand3
 pub mod Stated
 pub mod OneKind
+pub mod LoadSections
+pub mod LoadJob
+pub mod LoadNorms
+pub mod Load
 pub mod Stored
 pub mod Region
 pub mod Examples

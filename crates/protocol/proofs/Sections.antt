@@ -89,7 +89,7 @@ module _ (s : Section) (ws : List ℕ) (wss : List (List ℕ)) (size : length ws
   rest-from = sym (drop-drop (s .count) (place + 1) words) ∙ ap (drop (s .count)) words-from ∙ drop-at ws (sections wss) (s .count) size
 
 -- the counts of filled sections that stand from a place on are as expected
-counted-fine : {ss : List Section} {wss : List (List ℕ)} → Filled ss wss → (number : ℕ) (words : List ℕ) (place : ℕ) → drop place words ≡ sections wss → counted number words place ss ≡ fine
+pub counted-fine : {ss : List Section} {wss : List (List ℕ)} → Filled ss wss → (number : ℕ) (words : List ℕ) (place : ℕ) → drop place words ≡ sections wss → counted number words place ss ≡ fine
 unfolding counted
 counted-fine none number words place from = refl
 counted-fine (more {s} {ws} {ss} {wss} e r f) number words place from =
@@ -108,7 +108,7 @@ layout-fine {ss} {wss} f number =
     (require-holds (decLe (length (sections wss)) (0 + span ss)) (refused number (0 + span ss)) (omega (arith, length-sections f)))
 
 -- the words of filled sections that stand from a place on are in range
-ranged-at : {ss : List Section} {wss : List (List ℕ)} → Filled ss wss → (number : ℕ) (words : List ℕ) (place : ℕ) → drop place words ≡ sections wss → ranged number words place ss ≡ fine
+pub ranged-at : {ss : List Section} {wss : List (List ℕ)} → Filled ss wss → (number : ℕ) (words : List ℕ) (place : ℕ) → drop place words ≡ sections wss → ranged number words place ss ≡ fine
 unfolding ranged
 ranged-at none number words place from = refl
 ranged-at (more {s} {ws} {ss} {wss} e r f) number words place from =

@@ -9,3 +9,4 @@ pub mod Verifier
 pub mod Conditions
 pub mod Kept
 pub mod Ranges
+pub mod Load

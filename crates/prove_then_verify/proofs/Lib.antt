@@ -1,2 +1,3 @@
 mod Lengths
 pub mod Demand3Calls
+pub mod LoadCalls

@@ -9,7 +9,7 @@ use harness::cases::Context;
 use harness::instances::{one_kind, small, Instance};
 use harness::random::Random;
 use harness::record::Recorder;
-use harness::{ranges, recompose, replay, rust, slices, unfit, whole};
+use harness::{loads, ranges, recompose, replay, rust, slices, unfit, whole};
 use model::Call;
 use std::path::Path;
 use std::process::ExitCode;
@@ -60,6 +60,8 @@ fn compare(seed: u64, count: u64, largest: bool) -> bool {
     context.tally.stage("calls of the slice layer");
     ranges::all(&mut context.tally, &mut Random::new(seed), 12.max(count as usize / 4));
     context.tally.stage("ranges");
+    loads::all(&mut context, &mut Random::new(seed), 300.max(count as usize));
+    context.tally.stage("test loads");
     let base = whole::base(&mut random, whole::pair_parameters());
     families(&mut context, &mut random, &base, 10);
     context

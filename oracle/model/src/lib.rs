@@ -6,6 +6,7 @@ pub mod checks;
 pub mod conditions;
 pub mod formulas;
 pub mod leaves;
+pub mod load;
 pub mod ranges;
 pub mod recompose;
 pub mod refusals;

@@ -48,23 +48,28 @@ pub const LIMITS: [(u32, u32); 11] = [
     (1, 32),
 ];
 
-fn section_one(job: &[u32]) -> Result<Parameters, Answer> {
-    let words = &job[..job.len().min(1 + PARAMETERS)];
-    layout(3, words, &[PARAMETERS])?;
+/// The parameters of section one's words, by 4 and 5.
+pub fn parameters(words: &[u32]) -> Result<Parameters, Answer> {
     for (k, (least, greatest)) in LIMITS.iter().enumerate() {
-        if !(least..=greatest).contains(&&words[1 + k]) {
+        if !(least..=greatest).contains(&&words[k]) {
             return Err(Answer::refused(4, 1 + k));
         }
         // document 02, Item 4: K and l are not both 0
-        if k == 6 && words[6] == 0 && words[7] == 0 {
+        if k == 6 && words[5] == 0 && words[6] == 0 {
             return Err(Answer::refused(4, 7));
         }
     }
-    let p = Parameters::read(&words[1..]);
+    let p = Parameters::read(words);
     if p.kappa != p.aggregations() {
         return Err(Answer::refused(5, 3));
     }
     Ok(p)
+}
+
+fn section_one(job: &[u32]) -> Result<Parameters, Answer> {
+    let words = &job[..job.len().min(1 + PARAMETERS)];
+    layout(3, words, &[PARAMETERS])?;
+    parameters(&words[1..])
 }
 
 pub fn job(words: &[u32]) -> Result<Parameters, Answer> {

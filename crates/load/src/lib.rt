@@ -1,0 +1,129 @@
+// A test load: job, witness and randomness from eleven parameters and a seed (document 02, Item 1).
+use admission::answers::Admitted;
+use definitions::answers::Proved;
+use load_draw::Rule;
+use load_needs::LabradorParameters;
+use load_sums::Target;
+use relation::env_params::EnvironmentParameters;
+use sizes::offsets;
+use sizes::slices;
+ghost use mathlib.Core.Path.{_≡_};
+ghost use Prim.Native.Nat.{_+_, _≤_};
+ghost use lib.ListN.{length};
+ghost use Rattle.lists.specs.Part.{splice};
+ghost use Rattle.definitions.specs.Answer.{ofProved};
+ghost use Rattle.protocol.specs.Layout.{span, sections, witness-sections, randomness-sections};
+ghost use Rattle.protocol.specs.Load.{load-refusal, load-job, load-witness, load-randomness, blank-job, after-job, drawn, after};
+ghost use Rattle.protocol.specs.Load.{witness-rules, randomness-rules, job-need, witness-need, randomness-need};
+ghost use Rattle.relation.specs.Parameters.{parametersOf};
+ghost use Rattle.sizes.specs.Sizes.{Sized};
+ghost use Rattle.load_needs.specs.Given.{given, Ready};
+ghost use Rattle.load.specs.Sums.{Blank, sums-of};
+ghost use Rattle.load.specs.Exit.{job-exit, witness-exit, randomness-exit, witness-drawn};
+
+// Section one, then the sections as they are drawn; b0 and b are zero.
+fn draw_job(g: LabradorParameters, p: EnvironmentParameters, seed: u32, job: &mut [u32]) -> u32
+    requires { ⌜ Ready (given g) p × (job-need (given g) ≤ length (now job)) ⌝ }
+    ensures { λ r. ⌜ (now (job .exit) ≡ splice (now (job .entry)) 0 (blank-job (given g) seed)) × (r ≡ after-job (given g) seed) ⌝ }
+{
+    let one = load_needs::section_one_words(g);
+    words::copy(job, 0, &one, 0, 30);
+    let rules = [
+        Rule::Word,
+        Rule::Word,
+        Rule::Later,
+        Rule::Word,
+        Rule::Word,
+        Rule::Later,
+        Rule::Word,
+        Rule::Word,
+        Rule::Word,
+        Rule::Word,
+    ];
+    load_draw::sections(job, 30, slices::job_sections(p), rules, seed)
+}
+
+fn draw_witness(p: EnvironmentParameters, state: u32, witness: &mut [u32]) -> u32
+    requires { ⌜ Sized (parametersOf p) × (span (witness-sections (parametersOf p)) ≤ length (now witness)) ⌝ }
+    ensures { λ r. ⌜ (now (witness .exit) ≡ splice (now (witness .entry)) 0 (witness-drawn (parametersOf p) state)) × (r ≡ after state witness-rules (witness-sections (parametersOf p))) ⌝ }
+{
+    let rules = [Rule::Ternary; 10];
+    load_draw::sections(witness, 0, slices::witness_sections(p), rules, state)
+}
+
+fn draw_randomness(p: EnvironmentParameters, state: u32, randomness: &mut [u32])
+    requires { ⌜ Sized (parametersOf p) × (span (randomness-sections (parametersOf p)) ≤ length (now randomness)) ⌝ }
+    ensures { λ _. ⌜ now (randomness .exit) ≡ splice (now (randomness .entry)) 0 (sections (drawn state randomness-rules (randomness-sections (parametersOf p)))) ⌝ }
+{
+    let w = Rule::Word;
+    let rules = [w, w, w, w, w, Rule::Sign, w, w, w, w];
+    load_draw::sections(
+        randomness,
+        0,
+        slices::randomness_sections(p, 7),
+        rules,
+        state,
+    );
+}
+
+// b0 and b of a job that has everything else.
+fn work_out(p: EnvironmentParameters, job: &mut [u32], witness: &[u32])
+    requires { ⌜ Sized (parametersOf p) × Blank (parametersOf p) (now job) × (span (witness-sections (parametersOf p)) ≤ length (now witness)) ⌝ }
+    ensures { λ _. ⌜ now (job .exit) ≡ sums-of (parametersOf p) (now (job .entry)) (now (witness .entry)) ⌝ }
+{
+    let target = Target {
+        b0_at: offsets::of_job(p, 2),
+        l: p.constraint_l,
+        b_at: offsets::of_job(p, 5),
+        k: p.constraint_k,
+    };
+    let a0 = offsets::of_job(p, 0);
+    let phi0 = offsets::of_job(p, 1);
+    let a = offsets::of_job(p, 3);
+    let phi = offsets::of_job(p, 4);
+    let r = p.multiplicity;
+    let n = p.rank;
+    load_constraints::add_left(job, target, a0, phi0, a, phi, witness, 1, r, n);
+}
+
+// The work of a load whose buffers are long enough.
+fn work(
+    g: LabradorParameters,
+    p: EnvironmentParameters,
+    seed: u32,
+    job: &mut [u32],
+    witness: &mut [u32],
+    randomness: &mut [u32],
+)
+    requires { ⌜ Ready (given g) p × (job-need (given g) ≤ length (now job)) × (witness-need (given g) ≤ length (now witness)) × (randomness-need (given g) ≤ length (now randomness)) ⌝ }
+    ensures { λ _. ⌜ now (job .exit) ≡ splice (now (job .entry)) 0 (load-job (given g) seed) ⌝ }
+    ensures { λ _. ⌜ now (witness .exit) ≡ splice (now (witness .entry)) 0 (load-witness (given g) seed) ⌝ }
+    ensures { λ _. ⌜ now (randomness .exit) ≡ splice (now (randomness .entry)) 0 (load-randomness (given g) seed) ⌝ }
+{
+    let after_job = draw_job(g, p, seed, job);
+    let after_witness = draw_witness(p, after_job, witness);
+    draw_randomness(p, after_witness, randomness);
+    work_out(p, job, witness);
+}
+
+// "From eleven parameters and a seed word a call fills a job, a witness and randomness."
+pub fn load(
+    g: LabradorParameters,
+    seed: u32,
+    job: &mut [u32],
+    witness: &mut [u32],
+    randomness: &mut [u32],
+) -> Proved
+    ensures { λ r. ⌜ ofProved r ≡ load-refusal (given g) (length (now (job .entry))) (length (now (witness .entry))) (length (now (randomness .entry))) ⌝ }
+    ensures { λ r. ⌜ now (job .exit) ≡ job-exit (given g) seed (now (job .entry)) (now (witness .entry)) (now (randomness .entry)) ⌝ }
+    ensures { λ r. ⌜ now (witness .exit) ≡ witness-exit (given g) seed (now (job .entry)) (now (witness .entry)) (now (randomness .entry)) ⌝ }
+    ensures { λ r. ⌜ now (randomness .exit) ≡ randomness-exit (given g) seed (now (job .entry)) (now (witness .entry)) (now (randomness .entry)) ⌝ }
+{
+    match load_needs::admit(g, job.len(), witness.len(), randomness.len()) {
+        Admitted::Refused(refusal) => Proved::Refused(refusal),
+        Admitted::Fit(p) => {
+            work(g, p, seed, job, witness, randomness);
+            Proved::Made
+        }
+    }
+}

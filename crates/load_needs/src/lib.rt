@@ -1,0 +1,128 @@
+// The parameters of a test load, what is refused of them, and the lengths that the three buffers need (document 02, Item 1).
+use admission::answers::Admitted;
+use definitions::answers::Refusal;
+use layout::sections;
+use relation::env_params::EnvironmentParameters;
+use relation::section_one;
+use relation::section_one::SectionOne;
+use sizes::slices;
+ghost use mathlib.Core.Path.{_≡_};
+ghost use mathlib.Core.List.{_∷_};
+ghost use Prim.Native.Nat.{_<_, _^_};
+ghost use Rattle.protocol.specs.Load.{load-refusal, needs-refusal};
+ghost use Rattle.relation.specs.Parameters.{parametersOf};
+ghost use Rattle.relation.specs.SectionOne.{ofSectionOne, Reads};
+ghost use Rattle.sizes.specs.Sizes.{Sized};
+ghost use Rattle.admission.specs.Admission.{ofAdmitted, At};
+ghost use Rattle.load_needs.specs.Given.{given, one-of, Lengths, fits-refusal, Ready, Kept};
+
+// "From eleven parameters": in section one's order.
+#[repr(C)]
+pub struct LabradorParameters {
+    pub n: u32,
+    pub r: u32,
+    pub kappa: u32,
+    pub kappa_1: u32,
+    pub kappa_2: u32,
+    pub constraint_k: u32,
+    pub constraint_l: u32,
+    pub log_q: u32,
+    pub b: u32,
+    pub t_1: u32,
+    pub t_2: u32,
+}
+
+// The lengths needed.
+pub struct Needs {
+    pub job: usize,
+    pub witness: usize,
+    pub randomness: usize,
+}
+
+// Section one with its count; "The six bounds are the largest three-word number."
+pub fn section_one_words(g: LabradorParameters) -> [u32; 30]
+    ensures { λ r. ⌜ r ≡ one-of (given g) ⌝ }
+{
+    let q = 4294967295;
+    [
+        29,
+        g.n,
+        g.r,
+        g.kappa,
+        g.kappa_1,
+        g.kappa_2,
+        g.constraint_k,
+        g.constraint_l,
+        g.log_q,
+        g.b,
+        g.t_1,
+        g.t_2,
+        q,
+        q,
+        q,
+        q,
+        q,
+        q,
+        q,
+        q,
+        q,
+        q,
+        q,
+        q,
+        q,
+        q,
+        q,
+        q,
+        q,
+        q,
+    ]
+}
+
+// "Parameters are refused by 4 and 5 with section one's places"
+pub fn read(g: LabradorParameters) -> SectionOne
+    ensures { λ r. ⌜ (ofSectionOne r ≡ needs-refusal (given g)) × Reads (one-of (given g)) r ⌝ }
+{
+    let words = section_one_words(g);
+    section_one::read(&words)
+}
+
+pub fn lengths(p: EnvironmentParameters) -> Needs
+    requires { ⌜ Sized (parametersOf p) ⌝ }
+    ensures { λ r. ⌜ Lengths (parametersOf p) r ⌝ }
+{
+    Needs {
+        job: 30 + sections::span(slices::job_sections(p), 0, 10),
+        witness: sections::span(slices::witness_sections(p), 0, 1),
+        randomness: sections::span(slices::randomness_sections(p, 7), 0, 7),
+    }
+}
+
+// "then the first output too short by 2, in the order job, witness, randomness"
+fn fits(p: EnvironmentParameters, job: usize, witness: usize, randomness: usize) -> Admitted
+    requires { ⌜ Sized (parametersOf p) ⌝ }
+    ensures { λ r. ⌜ ofAdmitted r ≡ fits-refusal (parametersOf p) job witness randomness ⌝ }
+    ensures { λ r. ⌜ At r (Kept p) ⌝ }
+{
+    let needs = lengths(p);
+    if job < needs.job {
+        return Admitted::Refused(Refusal::OutputTooShort(needs.job));
+    }
+    if witness < needs.witness {
+        return Admitted::Refused(Refusal::OutputTooShort(needs.witness));
+    }
+    if randomness < needs.randomness {
+        return Admitted::Refused(Refusal::OutputTooShort(needs.randomness));
+    }
+    Admitted::Fit(p)
+}
+
+// All refusals of a load.
+pub fn admit(g: LabradorParameters, job: usize, witness: usize, randomness: usize) -> Admitted
+    ensures { λ r. ⌜ ofAdmitted r ≡ load-refusal (given g) job witness randomness ⌝ }
+    ensures { λ r. ⌜ At r (Ready (given g)) ⌝ }
+{
+    match read(g) {
+        SectionOne::Refused(refusal) => Admitted::Refused(refusal),
+        SectionOne::Read(p) => fits(p, job, witness, randomness),
+    }
+}

@@ -1,0 +1,98 @@
+-- The prover makes a transcript of every load, and the verifier accepts it.
+use mathlib.Core.Path.{_≡_, refl, ap, _∙_}
+use mathlib.Core.Bool.{Bool, true, false, cond}
+use mathlib.Core.List.{List}
+use Prim.Native.Nat.{ℕ, _≤_, _<_, _^_}
+use native.Mathlib.Decide.{decLe}
+use native.Mathlib.Omega.{arith}
+use borrow.Author.Tests.{ltb-false}
+use lib.Dec.{ltb}
+use lib.ListN.{length, take}
+use Rattle.definitions.specs.Answer.{Answer, fine, refused, _then_}
+use Rattle.definitions.specs.Leaf.{limited}
+use Rattle.protocol.specs.Parameters.{Parameters, parameters, some-constraint, limits, kappa-is-L}
+use Rattle.protocol.specs.Layout.{span, sections, transcript-sections, scratch-need, job-refusal, randomness-refusal, witness-refusal}
+use Rattle.protocol.specs.Views.{public, witness}
+use Rattle.protocol.specs.Prover.{whole, prove-refusal, work-refusal, prove, prove-output}
+use Rattle.protocol.specs.Verifier.{verify}
+use Rattle.protocol.specs.Conditions.{conditions}
+use Rattle.protocol.specs.Load.{Given, load-parameters, needs-refusal, load-witness, load-randomness, load-job, load-vectors}
+use Rattle.protocol.proofs.Fine.{require-holds, refused-not-fine, then-both-fine, then-fine-left, then-fine-right}
+use Rattle.protocol.proofs.LoadJob.{load-job-fine, load-randomness-fine, load-witness-fine, load-constant-met, load-ring-met}
+use Rattle.protocol.proofs.LoadNorms.{Ample, work-fine, conditions-fine}
+use Rattle.protocol.proofs.Demand3.{demand-3}
+
+-- a value that is not refused is at most its greatest
+cond-false : (b : Bool) (a : Answer) (number place : ℕ) → cond b (refused number place) a ≡ fine → (b ≡ false) × (a ≡ fine)
+cond-false true a number place e = absurd (refused-not-fine number place e)
+cond-false false a number place e = (refl, e)
+
+most : (least greatest place x : ℕ) → limited least greatest place x ≡ fine → x ≤ greatest
+most least greatest place x e = ltb-false greatest x (cond-false (ltb greatest x) fine 4 place (cond-false (ltb x least) (cond (ltb greatest x) (refused 4 place) fine) 4 place e .1) .0)
+
+-- the parameters of a load within their limits
+ample : (G : Given) → limits (load-parameters G) ≡ fine → Ample (load-parameters G)
+unfolding limits
+ample G e =
+    let P = load-parameters G in
+    let l1 = limited 1 64 1 (P .n) in
+    let l2 = l1 then limited 1 16 2 (P .r) in
+    let l3 = l2 then limited 1 16 3 (P .κ) in
+    let l4 = l3 then limited 1 16 4 (P .κ₁) in
+    let l5 = l4 then limited 1 16 5 (P .κ₂) in
+    let l6 = l5 then limited 0 64 6 (P .K) in
+    let l7 = l6 then limited 0 64 7 (P .l) in
+    let some = l7 then some-constraint P in
+    let l8 = some then limited 16 32 8 (P .log-q) in
+    let l9 = l8 then limited 2 4294967294 9 (P .b) in
+    let l10 = l9 then limited 1 32 10 (P .t₁) in
+    let e10 : l10 ≡ fine = then-fine-left l10 (limited 1 32 11 (P .t₂)) e in
+    let e9 : l9 ≡ fine = then-fine-left l9 (limited 1 32 10 (P .t₁)) e10 in
+    let e8 : l8 ≡ fine = then-fine-left l8 (limited 2 4294967294 9 (P .b)) e9 in
+    let e7 : l7 ≡ fine = then-fine-left l7 (some-constraint P) (then-fine-left some (limited 16 32 8 (P .log-q)) e8) in
+    let e6 : l6 ≡ fine = then-fine-left l6 (limited 0 64 7 (P .l)) e7 in
+    let e5 : l5 ≡ fine = then-fine-left l5 (limited 0 64 6 (P .K)) e6 in
+    let e4 : l4 ≡ fine = then-fine-left l4 (limited 1 16 5 (P .κ₂)) e5 in
+    let e3 : l3 ≡ fine = then-fine-left l3 (limited 1 16 4 (P .κ₁)) e4 in
+    let e2 : l2 ≡ fine = then-fine-left l2 (limited 1 16 3 (P .κ)) e3 in
+    record {
+      n = most 1 64 1 (P .n) (then-fine-left l1 (limited 1 16 2 (P .r)) e2);
+      r = most 1 16 2 (P .r) (then-fine-right l1 (limited 1 16 2 (P .r)) e2);
+      κ = most 1 16 3 (P .κ) (then-fine-right l2 (limited 1 16 3 (P .κ)) e3);
+      t₁ = most 1 32 10 (P .t₁) (then-fine-right l9 (limited 1 32 10 (P .t₁)) e10);
+      t₂ = most 1 32 11 (P .t₂) (then-fine-right l10 (limited 1 32 11 (P .t₂)) e);
+      beta-sq = refl;
+      beta-prime-sq = refl;
+      bound-A = refl;
+      bound-B = refl;
+      bound-C = refl;
+      bound-D = refl;
+    }
+
+module _ (G : Given) (seed : ℕ) (fits : seed < 2 ^ 32) (admitted : needs-refusal G ≡ fine) where
+  within : limits (load-parameters G) ≡ fine
+  within = then-fine-left (limits (load-parameters G)) (kappa-is-L (load-parameters G)) admitted
+
+  -- the prover refuses nothing of a load: it makes a transcript
+  pub load-proved : (scratch output : ℕ) → scratch-need (load-parameters G) ≤ scratch → span (transcript-sections (load-parameters G)) ≤ output
+      → prove whole (load-job G seed) (load-randomness G seed) (load-witness G seed) scratch output ≡ fine
+  unfolding prove prove-refusal load-job sections
+  load-proved scratch output enough room =
+      let P = load-parameters G in
+      then-both-fine
+      (then-both-fine
+      (then-both-fine
+      (then-both-fine
+      (then-both-fine (load-job-fine G seed fits within (then-fine-right (limits P) (kappa-is-L P) admitted)) (load-randomness-fine G seed fits))
+      (load-witness-fine G seed fits))
+      (require-holds (decLe (scratch-need P) scratch) (refused 1 (scratch-need P)) enough))
+      (require-holds (decLe (span (transcript-sections P)) output) (refused 2 (span (transcript-sections P))) room))
+      (work-fine (public (load-job G seed) (load-randomness G seed)) (load-vectors G seed) (ample G within))
+
+  -- the verifier accepts it
+  pub load-accepted : (scratch output : List ℕ) (lent : ℕ) → scratch-need (load-parameters G) ≤ length scratch → span (transcript-sections (load-parameters G)) ≤ length output → scratch-need (load-parameters G) ≤ lent
+      → verify (load-job G seed) (load-randomness G seed) (take (span (transcript-sections (load-parameters G))) (prove-output whole (load-job G seed) (load-randomness G seed) (load-witness G seed) scratch output)) lent ≡ fine
+  unfolding load-job sections
+  load-accepted scratch output lent enough room lent-enough =
+      demand-3 (load-job G seed) (load-randomness G seed) (load-witness G seed) scratch output lent (load-proved (length scratch) (length output) enough room) lent-enough
+      ∙ conditions-fine (public (load-job G seed) (load-randomness G seed)) (load-vectors G seed) (ample G within) (load-constant-met G seed fits (load-randomness G seed)) (load-ring-met G seed fits (load-randomness G seed))

@@ -1,0 +1,123 @@
+-- Norms of words and digits stay below the largest three-word number where the parameters are within their limits.
+use mathlib.Core.Path.{_≡_, sym, ap, subst, _∙_}
+use mathlib.Core.List.{List, [], _∷_}
+use Prim.Native.Nat.{ℕ, _+_, _*_, _≤_, _<_}
+use native.Mathlib.Nat.{mul-le-mul, le-trans}
+use native.Mathlib.Decide.{decLe}
+use native.Mathlib.Omega.{arith}
+use lib.ListN.{length}
+use Rattle.lists.specs.Table.{table}
+use Rattle.lists.specs.Sum.{Σ}
+use Rattle.lists.proofs.Sum.{Σ-bound}
+use Rattle.lists.proofs.Table.{length-table}
+use Rattle.definitions.specs.Zq.{Canonical}
+use Rattle.definitions.specs.Norm.{square, norm}
+use Rattle.definitions.specs.Answer.{fine, refused, failed}
+use Rattle.definitions.specs.Rq.{Element, AllCanonical, rzero, digitRow}
+use Rattle.definitions.specs.Ring.{words, canonical-mod}
+use Rattle.definitions.proofs.Centre.{size-le}
+use Rattle.protocol.specs.Parameters.{Parameters}
+use Rattle.protocol.specs.Views.{Public}
+use Rattle.protocol.specs.Formulas as F
+use Rattle.protocol.specs.Formulas.{flat, norm-of, digit-element, digits-of, rows, triangle}
+use Rattle.protocol.specs.Prover.{whole, witness-norm, t-norm, g-norm, h-norm, work-refusal}
+use Rattle.protocol.specs.Conditions.{digits-norm, p-norm, digit-sum, constant-error, ring-error, conditions}
+use Rattle.protocol.proofs.Fine.{require-holds, then-both-fine}
+use Rattle.protocol.proofs.Checks.{first-fine}
+use Rattle.protocol.proofs.Flat.{length-flat, flat-canonical}
+use Rattle.protocol.proofs.Norms.{words-digit, digits-of-rows, digits-of-triangle}
+use Rattle.protocol.proofs.Corollary.{conditions-of-met}
+
+-- the square of a centre
+pub square-le : (a : ℕ) → Canonical a → square a ≤ 4611686014132420609
+square-le a h = mul-le-mul (size-le a h) (size-le a h)
+
+-- the norm of canonical words
+pub norm-le : (ws : List ℕ) → AllCanonical ws → norm ws ≤ length ws * 4611686014132420609
+unfolding norm
+norm-le ws h = Σ-bound (length ws) 4611686014132420609 _ (λ i l. square-le _ (h i l))
+
+-- the norm of an element's words: 64 squares
+element-norm-le : (e : Element) → norm (words e) ≤ 295147904904474918976
+element-norm-le e = let long = e .1 .0 in omega (arith, norm-le (words e) (e .1 .1))
+
+-- the norms of its digits in up to 32 parts
+digits-norm-le : (b parts : ℕ) (e : Element) → parts ≤ 32 → digits-norm b parts e ≤ 9444732956943197407232
+digits-norm-le b parts e few =
+    let all : digits-norm b parts e ≤ parts * 295147904904474918976 =
+    Σ-bound parts 295147904904474918976 (λ q. norm (digitRow b (words e) q)) (λ q h. rw (ap norm (words-digit b e q)) at (element-norm-le (digit-element b e q))) in
+    omega arith
+
+-- the norms of the digits of up to 16 rows of up to 16 cells each
+cells-norm-le : (b parts r : ℕ) (w : ℕ → ℕ) (f : ℕ → ℕ → Element) → parts ≤ 32 → r ≤ 16 → ((i : ℕ) → i < r → w i ≤ 16)
+    → Σ r (λ i. Σ (w i) (λ k. digits-norm b parts (f i k))) ≤ 2417851636977458536251392
+cells-norm-le b parts r w f few many wide =
+    let row : (i : ℕ) → i < r → Σ (w i) (λ k. digits-norm b parts (f i k)) ≤ 151115727311091158515712 =
+    λ i h. omega (arith, wide i h, Σ-bound (w i) 9444732956943197407232 (λ k. digits-norm b parts (f i k)) (λ k l. digits-norm-le b parts (f i k) few)) in
+    omega (arith, Σ-bound r 151115727311091158515712 (λ i. Σ (w i) (λ k. digits-norm b parts (f i k))) row)
+
+-- parameters small enough, and bounds that are the largest three-word number
+pub record Ample (P : Parameters) : Type 0 where
+  pub n : P .n ≤ 64
+  pub r : P .r ≤ 16
+  pub κ : P .κ ≤ 16
+  pub t₁ : P .t₁ ≤ 32
+  pub t₂ : P .t₂ ≤ 32
+  pub beta-sq : P .beta-sq ≡ 79228162514264337593543950335
+  pub beta-prime-sq : P .beta-prime-sq ≡ 79228162514264337593543950335
+  pub bound-A : P .bound-A ≡ 79228162514264337593543950335
+  pub bound-B : P .bound-B ≡ 79228162514264337593543950335
+  pub bound-C : P .bound-C ≡ 79228162514264337593543950335
+  pub bound-D : P .bound-D ≡ 79228162514264337593543950335
+
+module _ (X : Public) (s : ℕ → ℕ → Element) (ample : Ample (X .P)) where
+  open Public X using (P)
+  open Parameters P using (n, r, κ, b, t₁, t₂, beta-sq, beta-prime-sq, bound-A, bound-B, bound-C, bound-D)
+
+  witness-norm-fine : witness-norm X s ≡ fine
+  unfolding witness-norm
+  witness-norm-fine = first-fine r _ (λ i h.
+      require-holds (decLe (norm-of (table n (s i))) bound-A) (refused 13 i)
+      (omega (arith, norm-le (flat (table n (s i))) (flat-canonical (table n (s i))), length-flat (table n (s i)), length-table n (s i))))
+
+  t-norm-le : Σ r (λ i. Σ κ (λ k. digits-norm b t₁ (F.t X s i k))) ≤ 2417851636977458536251392
+  t-norm-le = cells-norm-le b t₁ r (λ i. κ) (F.t X s) (ample .t₁) (ample .r) (λ i h. ample .κ)
+
+  g-norm-le : Σ r (λ i. Σ (i + 1) (λ j. digits-norm b t₂ (F.g X s i j))) ≤ 2417851636977458536251392
+  g-norm-le = cells-norm-le b t₂ r (λ i. i + 1) (F.g X s) (ample .t₂) (ample .r) (λ i h. omega arith)
+
+  h-norm-le : Σ r (λ i. Σ (i + 1) (λ j. digits-norm b t₁ (F.h X s i j))) ≤ 2417851636977458536251392
+  h-norm-le = cells-norm-le b t₁ r (λ i. i + 1) (F.h X s) (ample .t₁) (ample .r) (λ i h. omega arith)
+
+  z-norm-le : Σ n (λ m. digits-norm b 2 (F.z X s m)) ≤ 604462909244364634062848
+  z-norm-le = omega (arith, Σ-bound n 9444732956943197407232 (λ m. digits-norm b 2 (F.z X s m)) (λ m h. digits-norm-le b 2 (F.z X s m) (omega arith)))
+
+  -- 13 to 16 can't happen
+  pub work-fine : work-refusal X whole s ≡ fine
+  unfolding work-refusal t-norm g-norm h-norm
+  work-fine =
+      then-both-fine
+      (then-both-fine
+      (then-both-fine witness-norm-fine
+      (require-holds (decLe (norm-of (digits-of b t₁ (rows r κ (F.t X s)))) bound-B) (refused 14 0) (omega (arith, digits-of-rows b t₁ r κ (F.t X s), t-norm-le))))
+      (require-holds (decLe (norm-of (digits-of b t₂ (triangle r (F.g X s)))) bound-C) (refused 15 0) (omega (arith, digits-of-triangle b t₂ r (F.g X s), g-norm-le))))
+      (require-holds (decLe (norm-of (digits-of b t₁ (triangle r (F.h X s)))) bound-D) (refused 16 0) (omega (arith, digits-of-triangle b t₁ r (F.h X s), h-norm-le)))
+
+  p-norm-le : p-norm X s ≤ 128 * beta-sq
+  unfolding p-norm
+  p-norm-le = omega (arith, Σ-bound 256 4611686014132420609 (λ j. square (F.p X s j)) (λ j h. square-le (F.p X s j) (reduced j)))
+    where
+      reduced : (j : ℕ) → Canonical (F.p X s j)
+      reduced j = unfold F.p in canonical-mod (Σ r (λ i. F.projection X s i j))
+
+  digit-sum-le : digit-sum X s ≤ beta-prime-sq
+  unfolding digit-sum
+  digit-sum-le = omega (arith, z-norm-le, t-norm-le, g-norm-le, h-norm-le)
+
+  -- of a witness that meets each constraint the four conditions hold: 21 and 23 can't happen
+  pub conditions-fine : ((x : ℕ) → x < P .l → constant-error X s x ≡ 0) → ((k : ℕ) → k < P .K → words (ring-error X s k) ≡ rzero) → conditions X s ≡ fine
+  conditions-fine constants rings =
+      conditions-of-met X s constants rings
+      ∙ then-both-fine
+      (require-holds (decLe (p-norm X s) (128 * beta-sq)) (failed 21 (p-norm X s ∷ 128 * beta-sq ∷ [])) p-norm-le)
+      (require-holds (decLe (digit-sum X s) beta-prime-sq) (failed 23 (digit-sum X s ∷ beta-prime-sq ∷ [])) digit-sum-le)

@@ -1,0 +1,100 @@
+//! The call that makes a test load, compared with the model word for word.
+
+use crate::cases::Context;
+use crate::random::Random;
+use model::load::{load, needs};
+use model::refusals::LIMITS;
+use model::Answer;
+
+/// The comparisons.
+const ANSWER: &str = "library: a test load's answer with the model's";
+const WORDS: &str = "library: a test load's buffers, word for word, with the model's";
+const NEEDS: &str = "library: a test load's lengths with the model's";
+
+const GUARD: usize = 16;
+const MARK: u32 = 0xc0de_c0de;
+
+/// Eleven parameters within their limits, with κ = L; sizes are small, and K and l also at 0, 1 and 64, not both 0.
+fn eleven(random: &mut Random, i: usize) -> [u32; 11] {
+    let log_q = 16 + random.below(17) as u32;
+    let mut small = |most: usize| 1 + random.below(most) as u32;
+    let ends = [small(6), 1, 64, 0];
+    let both_zero = i % 16 == 15;
+    [
+        small(3),
+        small(4),
+        128_u32.div_ceil(log_q),
+        small(3),
+        small(3),
+        ends[i % 4],
+        if both_zero { 1 } else { ends[i / 4 % 4] },
+        log_q,
+        2 + random.below(1 << 20) as u32,
+        random.pick(&[1, 2, 3, 32]),
+        random.pick(&[1, 2, 3, 32]),
+    ]
+}
+
+/// One call with buffers of these lengths: answer, every word, and guard words on both sides.
+fn one(context: &mut Context, words: [u32; 11], seed: u32, lengths: [usize; 3]) {
+    let expected = load(words, seed, lengths);
+    let mut kept: [Vec<u32>; 3] = lengths.map(|length| vec![MARK; length + 2 * GUARD]);
+    let [a, b, c] = &mut kept;
+    let inner = |v: &mut Vec<u32>| {
+        let end = v.len() - GUARD;
+        &mut v[GUARD..end] as *mut [u32]
+    };
+    let buffers = [inner(a), inner(b), inner(c)].map(|part| unsafe { &mut *part });
+    let answer = library::load::load(words, seed, buffers);
+    let (number, filled) = match &expected {
+        Ok(made) => (Answer::FINE, [&made.job[..], &made.witness, &made.randomness]),
+        Err(refusal) => (*refusal, [&[][..]; 3]),
+    };
+    let case = || format!("{words:?} seed {seed} lengths {lengths:?}");
+    context.tally.occurred("answers of loads", number.number);
+    context.tally.compare(ANSWER, &answer, &number, case);
+    for (k, (made, buffer)) in filled.into_iter().zip(&kept).enumerate() {
+        let mut words = vec![MARK; buffer.len()];
+        words[GUARD..GUARD + made.len()].copy_from_slice(made);
+        context.tally.compare(WORDS, buffer, &words, || format!("buffer {k} of {}", case()));
+    }
+}
+
+fn lengths_of(context: &mut Context, words: [u32; 11]) {
+    let found = library::load::needs(words);
+    let expected = match needs(words) {
+        Ok(lengths) => (Answer::FINE, lengths.map(|n| n as u64)),
+        Err(refusal) => (refusal, [0; 3]),
+    };
+    context.tally.compare(NEEDS, &found, &expected, || format!("{words:?}"));
+}
+
+/// `count` parameter sets, each whole, with longer buffers, with each buffer one word short, and with parameters outside their limits.
+pub fn all(context: &mut Context, random: &mut Random, count: usize) {
+    for number in [0, 2, 4, 5] {
+        context.tally.must_occur("answers of loads", number);
+    }
+    context.tally.must_compare(&[ANSWER, WORDS, NEEDS]);
+    for i in 0..count {
+        let words = eleven(random, i);
+        let word = random.word();
+        let seed = random.pick(&[0, 1, 4294967295, word]);
+        let exact = needs(words).expect("parameters within their limits");
+        lengths_of(context, words);
+        one(context, words, seed, exact);
+        one(context, words, seed, exact.map(|n| n + random.below(5)));
+        let mut short = exact;
+        short[i % 3] -= 1 + random.below(exact[i % 3]);
+        one(context, words, seed, short);
+        one(context, words, seed, exact.map(|n| n - 1));
+        let mut wrong = words;
+        let k = i % 11;
+        wrong[k] = random.pick(&[LIMITS[k].0.wrapping_sub(1), LIMITS[k].1.wrapping_add(1), 4294967295]);
+        lengths_of(context, wrong);
+        one(context, wrong, seed, exact);
+        wrong = words;
+        wrong[2] = 1 + words[2] % 16;
+        lengths_of(context, wrong);
+        one(context, wrong, seed, [0; 3]);
+    }
+}
