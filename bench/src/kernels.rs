@@ -72,6 +72,23 @@ fn product(random: &mut Random) -> Kernel {
     )
 }
 
+fn fast_product(random: &mut Random) -> Kernel {
+    let (a, b) = (elements(random), elements(random));
+    let (x, y) = (all(&a), all(&b));
+    leaf(
+        move || {
+            for (a, b) in a.iter().zip(&b) {
+                black_box(unsafe { labrador_rq_mul_fast(*black_box(a), *b) });
+            }
+        },
+        move || {
+            for (a, b) in x.iter().zip(&y) {
+                black_box(black_box(a) * b);
+            }
+        },
+    )
+}
+
 fn multiply_add(random: &mut Random) -> Kernel {
     let a = elements(random);
     let numbers = random.numbers(BATCH);
@@ -320,6 +337,7 @@ pub type Entry = (&'static str, fn(&mut Random) -> Kernel);
 pub fn kernels() -> Vec<Entry> {
     let mut all: Vec<Entry> = vec![
         ("element product", product),
+        ("fast product", fast_product),
         ("product with a number, added to an accumulator", multiply_add),
         ("digits of an element, base 16, 8 parts", |random| digits(random, 16, 8)),
         ("digits of an element, base 65536, 2 parts", |random| {

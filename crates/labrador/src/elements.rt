@@ -2,6 +2,7 @@
 use crate::answers;
 use crate::answers::ElementAnswer;
 use crate::answers::NormAnswer;
+use fast_product::product;
 use operands::leaf;
 use operands::scan;
 use rq::rq::Rq;
@@ -37,6 +38,14 @@ pub extern "C" fn labrador_rq_mul(a: Rq, b: Rq) -> ElementAnswer
     ensures { λ r. ⌜ r ≡ elementAnswer (canonicalWords (a .coeffs ++ b .coeffs)) (rmul (a .coeffs) (b .coeffs)) ⌝ }
 {
     answers::element_of(leaf::elements(a, b), a.mul(b))
+}
+
+// The product of two elements, by transforms.
+#[no_mangle]
+pub extern "C" fn labrador_rq_mul_fast(a: Rq, b: Rq) -> ElementAnswer
+    ensures { λ r. ⌜ r ≡ elementAnswer (canonicalWords (a .coeffs ++ b .coeffs)) (rmul (a .coeffs) (b .coeffs)) ⌝ }
+{
+    answers::element_of(leaf::elements(a, b), product::mul(a, b))
 }
 
 // The product of an element with a number.

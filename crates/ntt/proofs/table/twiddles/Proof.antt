@@ -1,0 +1,91 @@
+-- `twiddles` meets its contract. The invariant: the first m entries are the definition's, and the later ones zero.
+use mathlib.Core.Path.{_≡_, refl, sym, _∙_, ap, ap₂}
+use mathlib.Core.List.{List}
+use Prim.Native.Nat.{ℕ, _+_, _-_, _*_, _/_, _%_, _≤_, _<_, _^_}
+use native.Mathlib.Omega.{arith}
+use native.Mathlib.Numerals.{add-one}
+use borrow.Author.Needs.{needs}
+use lib.ListN.{length, getD}
+use Rattle.lists.specs.Table.{table as tableOf, padded}
+use Rattle.lists.proofs.Padded.{padded-none, padded-next, padded-done}
+use Rattle.transform.specs.Layers.{exponent}
+use Rattle.ntt.specs.Roots.{entry, twiddle, twiddleTable}
+use Rattle.ntt.proofs.Rule.{roots, exponents, roots-entry, exponents-are}
+use Rattle.ntt.proofs.Roots.{exponent-small}
+use Rattle.ntt.proofs.table.twiddles.Statement.{statement}
+use Rattle.ntt.proofs.table.twiddles.Tie as tie
+
+abbrev Inv-loop : tie.InvT-loop
+Inv-loop table exponents out₀ m₀ out m = (m ≤ 576) × (out ≡ padded 576 m 0 twiddle)
+
+abbrev μ-loop : tie.MeasureT-loop
+μ-loop table exponents out₀ m₀ out m = 576 - m
+
+loop-holds : tie.Need-loop-holds Inv-loop μ-loop
+loop-holds c = (omega arith, padded-none 576 0 twiddle)
+
+cast-e : tie.Need-cast-e Inv-loop μ-loop
+unfolding exponents
+cast-e c =
+    let m = c .before .loop .m in
+    let e : getD exponents (m % 192) 0 ≡ exponent (m % 192 / 32) (m % 192 % 32) / 2 = exponents-are (m % 192) (omega arith) in
+    let s : exponent (m % 192 / 32) (m % 192 % 32) < 128 = exponent-small (m % 192 / 32) (m % 192 % 32) in
+    omega arith
+
+add-out : tie.Need-add-out Inv-loop μ-loop
+unfolding exponents
+add-out c =
+    let m = c .before .loop .m in
+    let e : getD exponents (m % 192) 0 ≡ exponent (m % 192 / 32) (m % 192 % 32) / 2 = exponents-are (m % 192) (omega arith) in
+    let s : exponent (m % 192 / 32) (m % 192 % 32) < 128 = exponent-small (m % 192 / 32) (m % 192 % 32) in
+    omega arith
+
+mul-out-2 : tie.Need-mul-out-2 Inv-loop μ-loop
+unfolding exponents
+mul-out-2 c =
+    let m = c .before .loop .m in
+    let e : getD exponents (m % 192) 0 ≡ exponent (m % 192 / 32) (m % 192 % 32) / 2 = exponents-are (m % 192) (omega arith) in
+    let s : exponent (m % 192 / 32) (m % 192 % 32) < 128 = exponent-small (m % 192 / 32) (m % 192 % 32) in
+    omega arith
+
+array-read-out : tie.Need-array-read-out Inv-loop μ-loop
+unfolding exponents
+array-read-out c =
+    let m = c .before .loop .m in
+    let e : getD exponents (m % 192) 0 ≡ exponent (m % 192 / 32) (m % 192 % 32) / 2 = exponents-are (m % 192) (omega arith) in
+    let s : exponent (m % 192 / 32) (m % 192 % 32) < 128 = exponent-small (m % 192 / 32) (m % 192 % 32) in
+    omega arith
+
+loop-again : tie.Need-loop-again Inv-loop μ-loop
+unfolding exponents roots twiddle
+loop-again c =
+    let m = c .before .loop .m in
+    let e : getD exponents (m % 192) 0 ≡ exponent (m % 192 / 32) (m % 192 % 32) / 2 = exponents-are (m % 192) (omega arith) in
+    let s : exponent (m % 192 / 32) (m % 192 % 32) < 128 = exponent-small (m % 192 / 32) (m % 192 % 32) in
+    let i : m / 192 * 128 + getD exponents (m % 192) 0 < 384 = omega arith in
+    (omega arith, padded-next 576 0 twiddle _ m _ (c .before .loop .inv .1) (omega arith) (roots-entry (m / 192 * 128 + getD exponents (m % 192) 0) i ∙ ap (λ x. entry (m / 192 * 128 + x)) e))
+
+returns : tie.Need-returns Inv-loop μ-loop
+unfolding twiddleTable
+returns c = padded-done 576 0 twiddle _ _ (c .before .loop .inv .1) (omega arith)
+
+pub twiddles-spec : {M : Type 1} → statement M
+twiddles-spec =
+    tie.close
+    (tie.spec
+    Inv-loop
+    μ-loop
+    loop-holds
+    (λ c. omega arith)
+    (λ c. omega arith)
+    cast-e
+    (λ c. omega arith)
+    add-out
+    mul-out-2
+    array-read-out
+    (λ c. omega arith)
+    (λ c. omega arith)
+    (λ c. omega arith)
+    (λ c. omega arith)
+    loop-again
+    returns)
