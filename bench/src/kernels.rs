@@ -1,5 +1,6 @@
 //! What is timed: for each kernel a batch of calls of the proved library and the same batch of the published Rust.
 
+use crate::fast;
 use harness::instances::{Instance, Size, LOOSE};
 use harness::random::Random;
 use harness::rust;
@@ -62,23 +63,6 @@ fn product(random: &mut Random) -> Kernel {
         move || {
             for (a, b) in a.iter().zip(&b) {
                 black_box(unsafe { labrador_rq_mul(*black_box(a), *b) });
-            }
-        },
-        move || {
-            for (a, b) in x.iter().zip(&y) {
-                black_box(black_box(a) * b);
-            }
-        },
-    )
-}
-
-fn fast_product(random: &mut Random) -> Kernel {
-    let (a, b) = (elements(random), elements(random));
-    let (x, y) = (all(&a), all(&b));
-    leaf(
-        move || {
-            for (a, b) in a.iter().zip(&b) {
-                black_box(unsafe { labrador_rq_mul_fast(*black_box(a), *b) });
             }
         },
         move || {
@@ -337,7 +321,11 @@ pub type Entry = (&'static str, fn(&mut Random) -> Kernel);
 pub fn kernels() -> Vec<Entry> {
     let mut all: Vec<Entry> = vec![
         ("element product", product),
-        ("fast product", fast_product),
+        ("fast product", fast::product),
+        #[cfg(kept_calls)]
+        ("fast inner product of 64, nothing kept, a term", fast::nothing_kept),
+        #[cfg(kept_calls)]
+        ("fast inner product of 64, both sides kept, a term", fast::both_kept),
         ("product with a number, added to an accumulator", multiply_add),
         ("digits of an element, base 16, 8 parts", |random| digits(random, 16, 8)),
         ("digits of an element, base 65536, 2 parts", |random| {

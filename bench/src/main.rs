@@ -4,6 +4,8 @@
 //! `bench count KERNEL SIDE BATCHES` runs batches of one side of a kernel, for callgrind.
 
 #[cfg(leaf_calls)]
+mod fast;
+#[cfg(leaf_calls)]
 mod kernels;
 #[cfg(leaf_calls)]
 mod table;

@@ -10,7 +10,7 @@ use lib.ListN.{length, getD}
 use Rattle.transform.specs.Layers.{exponent}
 use Rattle.transform.proofs.Computed.{both, both-left, both-right, agree}
 use Rattle.ntt_layers.specs.Fold.{prime}
-use Rattle.ntt.specs.Roots.{delta, next, entry}
+use Rattle.ntt.specs.Roots.{delta, next, entry, indexOf}
 
 -- the tables of the code
 unfoldable pub roots : List ℕ
@@ -48,8 +48,8 @@ roots =
     ∷ 34155836 ∷ 27738058 ∷ 19163180 ∷ 112952038 ∷ 21410785 ∷ 41072144 ∷ 85805525 ∷ 107212088 ∷ 114701165 ∷ 111343915 ∷ 99697064 ∷ 99194774
     ∷ 60929706 ∷ 53366710 ∷ 63882330 ∷ 88077955 ∷ 22064723 ∷ 4026729 ∷ 32319485 ∷ 115160110 ∷ 128224990 ∷ 129825055 ∷ 40404422 ∷ 109467638 ∷ []
 
-unfoldable pub exponents : List ℕ
-exponents =
+unfoldable pub indexes : List ℕ
+indexes =
     32 ∷ 32 ∷ 32 ∷ 32 ∷ 32 ∷ 32 ∷ 32 ∷ 32 ∷ 32 ∷ 32 ∷ 32 ∷ 32 ∷ 32 ∷ 32 ∷ 32 ∷ 32 ∷ 32 ∷ 32 ∷ 32 ∷ 32 ∷ 32 ∷ 32 ∷ 32 ∷ 32
     ∷ 32 ∷ 32 ∷ 32 ∷ 32 ∷ 32 ∷ 32 ∷ 32 ∷ 32 ∷ 16 ∷ 48 ∷ 16 ∷ 48 ∷ 16 ∷ 48 ∷ 16 ∷ 48 ∷ 16 ∷ 48 ∷ 16 ∷ 48 ∷ 16 ∷ 48 ∷ 16 ∷ 48
     ∷ 16 ∷ 48 ∷ 16 ∷ 48 ∷ 16 ∷ 48 ∷ 16 ∷ 48 ∷ 16 ∷ 48 ∷ 16 ∷ 48 ∷ 16 ∷ 48 ∷ 16 ∷ 48 ∷ 8 ∷ 40 ∷ 24 ∷ 56 ∷ 8 ∷ 40 ∷ 24 ∷ 56
@@ -57,7 +57,23 @@ exponents =
     ∷ 4 ∷ 36 ∷ 20 ∷ 52 ∷ 12 ∷ 44 ∷ 28 ∷ 60 ∷ 4 ∷ 36 ∷ 20 ∷ 52 ∷ 12 ∷ 44 ∷ 28 ∷ 60 ∷ 4 ∷ 36 ∷ 20 ∷ 52 ∷ 12 ∷ 44 ∷ 28 ∷ 60
     ∷ 4 ∷ 36 ∷ 20 ∷ 52 ∷ 12 ∷ 44 ∷ 28 ∷ 60 ∷ 2 ∷ 34 ∷ 18 ∷ 50 ∷ 10 ∷ 42 ∷ 26 ∷ 58 ∷ 6 ∷ 38 ∷ 22 ∷ 54 ∷ 14 ∷ 46 ∷ 30 ∷ 62
     ∷ 2 ∷ 34 ∷ 18 ∷ 50 ∷ 10 ∷ 42 ∷ 26 ∷ 58 ∷ 6 ∷ 38 ∷ 22 ∷ 54 ∷ 14 ∷ 46 ∷ 30 ∷ 62 ∷ 1 ∷ 33 ∷ 17 ∷ 49 ∷ 9 ∷ 41 ∷ 25 ∷ 57
-    ∷ 5 ∷ 37 ∷ 21 ∷ 53 ∷ 13 ∷ 45 ∷ 29 ∷ 61 ∷ 3 ∷ 35 ∷ 19 ∷ 51 ∷ 11 ∷ 43 ∷ 27 ∷ 59 ∷ 7 ∷ 39 ∷ 23 ∷ 55 ∷ 15 ∷ 47 ∷ 31 ∷ 63 ∷ []
+    ∷ 5 ∷ 37 ∷ 21 ∷ 53 ∷ 13 ∷ 45 ∷ 29 ∷ 61 ∷ 3 ∷ 35 ∷ 19 ∷ 51 ∷ 11 ∷ 43 ∷ 27 ∷ 59 ∷ 7 ∷ 39 ∷ 23 ∷ 55 ∷ 15 ∷ 47 ∷ 31 ∷ 63
+    ∷ 160 ∷ 160 ∷ 160 ∷ 160 ∷ 160 ∷ 160 ∷ 160 ∷ 160 ∷ 160 ∷ 160 ∷ 160 ∷ 160 ∷ 160 ∷ 160 ∷ 160 ∷ 160 ∷ 160 ∷ 160 ∷ 160 ∷ 160 ∷ 160 ∷ 160 ∷ 160 ∷ 160
+    ∷ 160 ∷ 160 ∷ 160 ∷ 160 ∷ 160 ∷ 160 ∷ 160 ∷ 160 ∷ 144 ∷ 176 ∷ 144 ∷ 176 ∷ 144 ∷ 176 ∷ 144 ∷ 176 ∷ 144 ∷ 176 ∷ 144 ∷ 176 ∷ 144 ∷ 176 ∷ 144 ∷ 176
+    ∷ 144 ∷ 176 ∷ 144 ∷ 176 ∷ 144 ∷ 176 ∷ 144 ∷ 176 ∷ 144 ∷ 176 ∷ 144 ∷ 176 ∷ 144 ∷ 176 ∷ 144 ∷ 176 ∷ 136 ∷ 168 ∷ 152 ∷ 184 ∷ 136 ∷ 168 ∷ 152 ∷ 184
+    ∷ 136 ∷ 168 ∷ 152 ∷ 184 ∷ 136 ∷ 168 ∷ 152 ∷ 184 ∷ 136 ∷ 168 ∷ 152 ∷ 184 ∷ 136 ∷ 168 ∷ 152 ∷ 184 ∷ 136 ∷ 168 ∷ 152 ∷ 184 ∷ 136 ∷ 168 ∷ 152 ∷ 184
+    ∷ 132 ∷ 164 ∷ 148 ∷ 180 ∷ 140 ∷ 172 ∷ 156 ∷ 188 ∷ 132 ∷ 164 ∷ 148 ∷ 180 ∷ 140 ∷ 172 ∷ 156 ∷ 188 ∷ 132 ∷ 164 ∷ 148 ∷ 180 ∷ 140 ∷ 172 ∷ 156 ∷ 188
+    ∷ 132 ∷ 164 ∷ 148 ∷ 180 ∷ 140 ∷ 172 ∷ 156 ∷ 188 ∷ 130 ∷ 162 ∷ 146 ∷ 178 ∷ 138 ∷ 170 ∷ 154 ∷ 186 ∷ 134 ∷ 166 ∷ 150 ∷ 182 ∷ 142 ∷ 174 ∷ 158 ∷ 190
+    ∷ 130 ∷ 162 ∷ 146 ∷ 178 ∷ 138 ∷ 170 ∷ 154 ∷ 186 ∷ 134 ∷ 166 ∷ 150 ∷ 182 ∷ 142 ∷ 174 ∷ 158 ∷ 190 ∷ 129 ∷ 161 ∷ 145 ∷ 177 ∷ 137 ∷ 169 ∷ 153 ∷ 185
+    ∷ 133 ∷ 165 ∷ 149 ∷ 181 ∷ 141 ∷ 173 ∷ 157 ∷ 189 ∷ 131 ∷ 163 ∷ 147 ∷ 179 ∷ 139 ∷ 171 ∷ 155 ∷ 187 ∷ 135 ∷ 167 ∷ 151 ∷ 183 ∷ 143 ∷ 175 ∷ 159 ∷ 191
+    ∷ 288 ∷ 288 ∷ 288 ∷ 288 ∷ 288 ∷ 288 ∷ 288 ∷ 288 ∷ 288 ∷ 288 ∷ 288 ∷ 288 ∷ 288 ∷ 288 ∷ 288 ∷ 288 ∷ 288 ∷ 288 ∷ 288 ∷ 288 ∷ 288 ∷ 288 ∷ 288 ∷ 288
+    ∷ 288 ∷ 288 ∷ 288 ∷ 288 ∷ 288 ∷ 288 ∷ 288 ∷ 288 ∷ 272 ∷ 304 ∷ 272 ∷ 304 ∷ 272 ∷ 304 ∷ 272 ∷ 304 ∷ 272 ∷ 304 ∷ 272 ∷ 304 ∷ 272 ∷ 304 ∷ 272 ∷ 304
+    ∷ 272 ∷ 304 ∷ 272 ∷ 304 ∷ 272 ∷ 304 ∷ 272 ∷ 304 ∷ 272 ∷ 304 ∷ 272 ∷ 304 ∷ 272 ∷ 304 ∷ 272 ∷ 304 ∷ 264 ∷ 296 ∷ 280 ∷ 312 ∷ 264 ∷ 296 ∷ 280 ∷ 312
+    ∷ 264 ∷ 296 ∷ 280 ∷ 312 ∷ 264 ∷ 296 ∷ 280 ∷ 312 ∷ 264 ∷ 296 ∷ 280 ∷ 312 ∷ 264 ∷ 296 ∷ 280 ∷ 312 ∷ 264 ∷ 296 ∷ 280 ∷ 312 ∷ 264 ∷ 296 ∷ 280 ∷ 312
+    ∷ 260 ∷ 292 ∷ 276 ∷ 308 ∷ 268 ∷ 300 ∷ 284 ∷ 316 ∷ 260 ∷ 292 ∷ 276 ∷ 308 ∷ 268 ∷ 300 ∷ 284 ∷ 316 ∷ 260 ∷ 292 ∷ 276 ∷ 308 ∷ 268 ∷ 300 ∷ 284 ∷ 316
+    ∷ 260 ∷ 292 ∷ 276 ∷ 308 ∷ 268 ∷ 300 ∷ 284 ∷ 316 ∷ 258 ∷ 290 ∷ 274 ∷ 306 ∷ 266 ∷ 298 ∷ 282 ∷ 314 ∷ 262 ∷ 294 ∷ 278 ∷ 310 ∷ 270 ∷ 302 ∷ 286 ∷ 318
+    ∷ 258 ∷ 290 ∷ 274 ∷ 306 ∷ 266 ∷ 298 ∷ 282 ∷ 314 ∷ 262 ∷ 294 ∷ 278 ∷ 310 ∷ 270 ∷ 302 ∷ 286 ∷ 318 ∷ 257 ∷ 289 ∷ 273 ∷ 305 ∷ 265 ∷ 297 ∷ 281 ∷ 313
+    ∷ 261 ∷ 293 ∷ 277 ∷ 309 ∷ 269 ∷ 301 ∷ 285 ∷ 317 ∷ 259 ∷ 291 ∷ 275 ∷ 307 ∷ 267 ∷ 299 ∷ 283 ∷ 315 ∷ 263 ∷ 295 ∷ 279 ∷ 311 ∷ 271 ∷ 303 ∷ 287 ∷ 319 ∷ []
 
 -- each entry of a list that comes after entry k is the next of the one before
 abbrev follows : ℕ → ℕ → List ℕ → Bool
@@ -96,7 +112,18 @@ pub half-way : (i : ℕ) → i < 3 → entry (i * 128 + 64) ≡ prime (delta i) 
 unfolding roots
 half-way i h = sym (roots-entry (i * 128 + 64) (omega arith)) ∙ agree 3 (λ i. getD roots (i * 128 + 64) 0) (λ i. prime (delta i) - 1) tt i h
 
--- the rule over all 192 exponents
-pub exponents-are : (m : ℕ) → m < 192 → getD exponents m 0 ≡ exponent (m / 32) (m % 32) / 2
-unfolding exponents exponent
-exponents-are m h = agree 192 (λ m. getD exponents m 0) (λ m. exponent (m / 32) (m % 32) / 2) tt m h
+-- each entry of a list from place m on is the index of its place
+abbrev indexed : ℕ → List ℕ → Bool
+indexed m [] = true
+indexed m (x ∷ xs) = both (eqb x (indexOf m)) (indexed (suc m) xs)
+
+indexed-at : (xs : List ℕ) (m : ℕ) → T (indexed m xs) → (i : ℕ) → i < length xs → getD xs i 0 ≡ indexOf (m + i)
+indexed-at [] m t i h = absurd (Nat.not-suc-le-zero h)
+indexed-at (x ∷ xs) m t zero h = eqb→eq x (indexOf m) (both-left (eqb x (indexOf m)) (indexed (suc m) xs) t) ∙ ap indexOf (sym (Nat.add-zero m))
+indexed-at (x ∷ xs) m t (suc i) h =
+    indexed-at xs (suc m) (both-right (eqb x (indexOf m)) (indexed (suc m) xs) t) i (Nat.le-of-suc-le-suc h) ∙ ap indexOf (Nat.suc-add m i ∙ sym (Nat.add-suc m i))
+
+-- the rule over all 576 indexes
+pub indexes-are : (m : ℕ) → m < 576 → getD indexes m 0 ≡ indexOf m
+unfolding indexes exponent
+indexes-are m h = indexed-at indexes 0 tt m h ∙ ap indexOf (Nat.zero-add m)

@@ -28,9 +28,13 @@ unfoldable pub entry : ℕ → ℕ
 entry zero = 1
 entry (suc k) = next k (entry k)
 
--- the power that layer j of prime i takes at t, for m = 192·i + 32·j + t
+-- where the power stands that layer j of prime i takes at t, for m = 192·i + 32·j + t
+abbrev pub indexOf : ℕ → ℕ
+indexOf m = m / 192 * 128 + exponent (m % 192 / 32) (m % 192 % 32) / 2
+
+-- that power
 unfoldable pub twiddle : ℕ → ℕ
-twiddle m = entry (m / 192 * 128 + exponent (m % 192 / 32) (m % 192 % 32) / 2)
+twiddle m = entry (indexOf m)
 
 -- all of them
 unfoldable pub twiddleTable : List ℕ

@@ -9,12 +9,14 @@ pub fn forward(a: [u32; 64], w: &[u32], at: usize, d: u64) -> [u32; 64]
     requires { ⌜ Twiddles d (now w) at ⌝ }
     ensures { λ r. ⌜ r ≡ forwardOf d (now (w .entry)) at a ⌝ }
 {
-    let mut x = words::fold_words(a, d);
-    for j in 0..6 {
-        let y = layers::layer(x, w, at + 32 * j, d);
-        x = y;
-    }
-    words::fold_words(x, d)
+    let x0 = words::fold_words(a, d);
+    let x1 = layers::layer(x0, w, at + 0, d);
+    let x2 = layers::layer(x1, w, at + 32, d);
+    let x3 = layers::layer(x2, w, at + 64, d);
+    let x4 = layers::layer(x3, w, at + 96, d);
+    let x5 = layers::layer(x4, w, at + 128, d);
+    let x6 = layers::layer(x5, w, at + 160, d);
+    words::fold_words(x6, d)
 }
 
 // From sums of products of values back to 64 times the coefficients, each below three times the prime.
@@ -22,10 +24,11 @@ pub fn backward(s: [u64; 64], w: &[u32], at: usize, d: u64) -> [u32; 64]
     requires { ⌜ Twiddles d (now w) at ⌝ }
     ensures { λ r. ⌜ r ≡ backwardOf d (now (w .entry)) at s ⌝ }
 {
-    let mut y = words::reduce_sums(s, d);
-    for j in 0..6 {
-        let x = layers::undo(y, w, at + 32 * (5 - j), d);
-        y = x;
-    }
-    y
+    let y0 = words::reduce_sums(s, d);
+    let y1 = layers::undo(y0, w, at + 160, d);
+    let y2 = layers::undo(y1, w, at + 128, d);
+    let y3 = layers::undo(y2, w, at + 96, d);
+    let y4 = layers::undo(y3, w, at + 64, d);
+    let y5 = layers::undo(y4, w, at + 32, d);
+    layers::undo(y5, w, at + 0, d)
 }
