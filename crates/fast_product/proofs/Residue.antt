@@ -1,7 +1,7 @@
 -- Modulo one prime: the way back from sums of products of values gives the coefficients of the inner product, plus 4096·Q².
-use mathlib.Core.Path.{_≡_, refl, sym, ap, ap₂, subst, _∙_}
+use mathlib.Core.Path.{_≡_, sym, ap, ap₂, subst, _∙_}
 use mathlib.Core.List.{List}
-use Prim.Native.Nat.{ℕ, zero, suc, _+_, _-_, _*_, _%_, _≤_, _<_, _^_}
+use Prim.Native.Nat.{ℕ, zero, _+_, _-_, _*_, _%_, _≤_, _<_, _^_}
 use native.Mathlib.Nat as Nat
 use native.Mathlib.Omega.{arith}
 use lib.ListN.{getD}
@@ -24,7 +24,7 @@ use Rattle.ntt_layers.proofs.Residues.{Below, res, ModOps, mod-ring, res-less, 
 use Rattle.ntt_layers.proofs.Folds.{prime-pos}
 use Rattle.ntt.specs.Roots.{delta, root, twiddleTable}
 use Rattle.ntt.specs.Transforms.{backwardOf}
-use Rattle.ntt.proofs.Roots.{delta-small, primeOf, positive, rootIn, root-half, twiddle-pow, twiddles-fit}
+use Rattle.ntt.proofs.Roots.{primeOf, positive, rootIn, root-half, twiddle-pow, twiddles-fit}
 use Rattle.ntt.proofs.Laws.{forward-bound, undone-bound, res-forward, res-backward}
 use Rattle.fast_product.specs.Kept.{valuesOf, sumsOf, inverse64, offset, scaledOf}
 

@@ -1,10 +1,10 @@
 -- The transform on words gives the values at the odd powers of the root, modulo the prime, and the way back 64 times the coefficients.
-use mathlib.Core.Path.{_≡_, refl, sym, ap, ap₂, subst, _∙_}
+use mathlib.Core.Path.{_≡_, sym, ap, ap₂, subst, _∙_}
 use mathlib.Core.List.{List}
 use Prim.Native.Nat.{ℕ, zero, suc, _+_, _-_, _*_, _/_, _≤_, _<_, _^_}
 use native.Mathlib.Nat as Nat
 use native.Mathlib.Omega.{arith}
-use lib.ListN.{length, getD}
+use lib.ListN.{getD}
 use Rattle.lists.proofs.Table.{getD-table}
 use Rattle.algebra.specs.Ops.{Ops}
 use Rattle.transform.specs.Layers.{pow, exponent, layer, layers}
@@ -12,7 +12,7 @@ use Rattle.algebra.proofs.Ring.{one-mul}
 use Rattle.transform.proofs.Evaluation.{eval}
 use Rattle.transform.proofs.Layers.{layers-eval}
 use Rattle.ntt_layers.specs.Fold.{prime, fold}
-use Rattle.ntt_layers.specs.Layer.{Powers, LayerFits, UndoFits, layerOf, undoOf}
+use Rattle.ntt_layers.specs.Layer.{Powers, LayerFits, UndoFits}
 use Rattle.ntt_layers.specs.Words.{foldedOf, reducedSum, reducedOf}
 use Rattle.ntt_layers.proofs.Residues.{Below, res, ModOps, mod-ring, res-add}
 use Rattle.ntt_layers.proofs.Folds.{fold-word, res-fold, res-sum, sum-bound}

@@ -1,5 +1,5 @@
 -- A fold keeps the remainder, and brings a number down.
-use mathlib.Core.Path.{_≡_, refl, sym, ap, _∙_}
+use mathlib.Core.Path.{_≡_, sym, ap, _∙_}
 use Prim.Native.Nat.{ℕ, _+_, _-_, _*_, _/_, _%_, _≤_, _<_, _^_}
 use native.Mathlib.Nat.{mul-le-mul, div-add-mod', mod-eq-of-lt, add-mul-mod-self-right}
 use native.Mathlib.Omega.{arith}

@@ -1,5 +1,5 @@
 -- A layer on words is the layer in the ring of remainders, and a layer undone takes it back, doubled.
-use mathlib.Core.Path.{_≡_, refl, sym, ap, ap₂, _∙_}
+use mathlib.Core.Path.{_≡_, sym, ap, ap₂, _∙_}
 use mathlib.Core.Bool.{cond}
 use mathlib.Core.List.{List}
 use Prim.Native.Nat.{ℕ, _+_, _-_, _*_, _/_, _%_, _≤_, _<_}
@@ -13,9 +13,9 @@ use Rattle.algebra.specs.Ops.{Ops}
 use Rattle.transform.specs.Layers.{pow, exponent, layer}
 use Rattle.transform.proofs.Layers.{layer-even, layer-odd, undo-low, undo-high}
 use Rattle.ntt_layers.specs.Fold.{prime, fold, reduced}
-use Rattle.ntt_layers.specs.Layer.{Powers, LayerFits, UndoFits, turned, layerAt, layerOf, lowerAt, upperAt, undoAt, undoOf}
+use Rattle.ntt_layers.specs.Layer.{LayerFits, UndoFits, turned, layerAt, layerOf, lowerAt, upperAt, undoAt, undoOf}
 use Rattle.ntt_layers.proofs.Residues.{Below, res, ModOps, mod-ring, res-add, res-mul, res-sub}
-use Rattle.ntt_layers.proofs.Folds.{prime-pos, fold-bound, reduced-bound, res-fold, res-reduced-is}
+use Rattle.ntt_layers.proofs.Folds.{fold-bound, reduced-bound, res-fold, res-reduced-is}
 
 -- a power below 2^27 times a number below 2^32
 pub times-bound : (w x : ℕ) → w < 134217728 → x < 4294967296 → w * x < 576460752303423488

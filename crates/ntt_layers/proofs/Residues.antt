@@ -1,10 +1,9 @@
 -- The numbers below m with addition and multiplication modulo m are a commutative ring, and remainders by m are a homomorphism into it.
-use mathlib.Core.Path.{_≡_, refl, sym, ap, ap₂, _∙_}
+use mathlib.Core.Path.{_≡_, refl, sym, ap, _∙_}
 use mathlib.Core.HLevel.{Σ-set, Σ-prop-path, prop→set}
 use Prim.Native.Nat.{ℕ, zero, suc, _+_, _-_, _*_, _%_, _<_}
 use native.Mathlib.Nat as Nat
 use native.Mathlib.Bridge.{le-prop}
-use native.Mathlib.Omega.{arith}
 use Rattle.lists.specs.Sum.{Σ}
 use Rattle.algebra.specs.Ops.{Ops, sum}
 use Rattle.algebra.proofs.Ring.{CRing, eq-sub}

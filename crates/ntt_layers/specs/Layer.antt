@@ -1,5 +1,4 @@
 -- One layer of the transform on 64 words, and one undone. d says the prime, and w has the powers of its root from `at` on.
-use mathlib.Core.Path.{_≡_}
 use mathlib.Core.Bool.{cond}
 use mathlib.Core.List.{List}
 use Prim.Native.Nat.{ℕ, _+_, _-_, _*_, _/_, _%_, _≤_, _<_}

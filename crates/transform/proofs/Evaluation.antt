@@ -1,5 +1,5 @@
 -- Values of elements of R[X]/(X^d + 1) at a point whose d-th power is −1: the value of a product is the product of the values.
-use mathlib.Core.Path.{_≡_, refl, sym, ap, ap₂, _∙_}
+use mathlib.Core.Path.{_≡_, sym, ap, ap₂, _∙_}
 use Prim.Native.Nat.{ℕ, zero, suc, _+_, _-_, _<_}
 use native.Mathlib.Nat as Nat
 use native.Mathlib.Omega.{arith}

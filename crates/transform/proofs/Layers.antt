@@ -2,13 +2,12 @@
 use mathlib.Core.Path.{_≡_, refl, sym, ap, ap₂, _∙_}
 use Prim.Native.Nat.{ℕ, zero, suc, _+_, _-_, _*_, _/_, _%_, _<_, _^_}
 use native.Mathlib.Nat as Nat
-use native.Mathlib.Numerals.{add-one}
 use native.Mathlib.Omega.{arith}
 use lib.Dec.{T, eqb}
 use Rattle.algebra.specs.Ops.{Ops, sum}
 use Rattle.transform.specs.Layers.{pow, exponent, layer, layers}
 use Rattle.transform.proofs.Computed.{below, below-at, agree}
-use Rattle.algebra.proofs.Ring.{CRing, ring, neg-mul, one-mul, mul-one, nil-add}
+use Rattle.algebra.proofs.Ring.{CRing, ring, neg-mul, mul-one, nil-add}
 use Rattle.algebra.proofs.Sum.{sum-ext, sum-add, sum-split}
 use Rattle.algebra.proofs.Antiperiodic.{Antiperiodic}
 use Rattle.transform.proofs.Evaluation.{eval}

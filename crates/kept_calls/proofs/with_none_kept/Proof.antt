@@ -1,13 +1,11 @@
 -- `with_none_kept` meets its contract. The invariant: the sums are those of m products.
-use mathlib.Core.Path.{_≡_, refl, sym, _∙_, ap, ap₂}
-use mathlib.Core.List.{List}
-use Prim.Native.Nat.{ℕ, _+_, _-_, _≤_, _<_}
+use mathlib.Core.Path.{_≡_, _∙_}
+use Prim.Native.Nat.{_-_, _≤_}
 use native.Mathlib.Omega.{arith}
 use borrow.Author.Needs.{needs}
 use lib.ListN.{getD}
 use mir.Val.{Fits}
 use mir.Syntax.{w32}
-use Rattle.fast_product.specs.Kept.{Transform}
 use Rattle.fast_product.proofs.Residue.{Words}
 use Rattle.kept_calls.proofs.Steps.{Held, held-none, held-room, held-next, held-back}
 use Rattle.kept_calls.proofs.with_none_kept.Statement.{statement}

@@ -1,12 +1,10 @@
 -- `join_all` meets its contract. The invariant: the first k entries are the definition's, and the later ones zero.
-use mathlib.Core.Path.{_≡_, refl, sym, _∙_, ap, ap₂, subst}
-use mathlib.Core.List.{List}
-use Prim.Native.Nat.{ℕ, _+_, _-_, _*_, _/_, _%_, _≤_, _<_, _^_}
-use native.Mathlib.Nat.{mod-lt}
+use mathlib.Core.Path.{_≡_, _∙_, ap, ap₂}
+use Prim.Native.Nat.{_-_, _≤_}
 use native.Mathlib.Omega.{arith}
 use borrow.Author.Needs.{needs}
-use lib.ListN.{length, getD}
-use Rattle.lists.specs.Table.{table, padded}
+use lib.ListN.{getD}
+use Rattle.lists.specs.Table.{padded}
 use Rattle.lists.proofs.Padded.{padded-none, padded-next, padded-done}
 use Rattle.fast_product.specs.Join.{joinOf, joinedOf}
 use Rattle.fast_product.proofs.join.join_all.Statement.{statement}

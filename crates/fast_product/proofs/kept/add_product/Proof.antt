@@ -1,5 +1,4 @@
 -- `add_product` meets its contract.
-use borrow.Author.Needs.{needs}
 use Rattle.fast_product.proofs.kept.add_product.Statement.{statement}
 use Rattle.fast_product.proofs.kept.add_product.Tie as tie
 

@@ -1,12 +1,10 @@
 -- `add_values` meets its contract. The invariant: the first k sums have the products added, and the later ones are zero.
-use mathlib.Core.Path.{_≡_, refl, sym, _∙_, ap, ap₂, subst}
-use mathlib.Core.List.{List}
-use Prim.Native.Nat.{ℕ, _+_, _-_, _*_, _/_, _%_, _≤_, _<_, _^_}
-use native.Mathlib.Nat.{mod-lt}
+use mathlib.Core.Path.{_≡_, ap, ap₂}
+use Prim.Native.Nat.{_+_, _-_, _*_, _≤_}
 use native.Mathlib.Omega.{arith}
 use borrow.Author.Needs.{needs}
-use lib.ListN.{length, getD}
-use Rattle.lists.specs.Table.{table, padded}
+use lib.ListN.{getD}
+use Rattle.lists.specs.Table.{padded}
 use Rattle.lists.proofs.Padded.{padded-none, padded-next, padded-done}
 use Rattle.fast_product.specs.Kept.{valuesAdded}
 use Rattle.fast_product.proofs.kept.add_values.Statement.{statement}

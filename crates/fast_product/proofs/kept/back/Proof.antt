@@ -1,13 +1,11 @@
 -- `back` meets its contract.
-use mathlib.Core.Path.{_≡_, refl, sym, _∙_, ap, ap₂, subst}
-use mathlib.Core.List.{List}
-use Prim.Native.Nat.{ℕ, _+_, _-_, _*_, _/_, _%_, _≤_, _<_, _^_}
-use native.Mathlib.Nat.{mod-lt}
+use mathlib.Core.Path.{_≡_, sym, _∙_, ap, ap₂, subst}
+use Prim.Native.Nat.{ℕ, _-_, _≤_, _<_, _^_}
 use native.Mathlib.Omega.{arith}
 use borrow.Author.Needs.{needs}
-use lib.ListN.{length, getD}
+use lib.ListN.{getD}
 use Rattle.ntt.specs.Roots.{twiddleTable}
-use Rattle.ntt.specs.Transforms.{Twiddles, forwardOf, backwardOf}
+use Rattle.ntt.specs.Transforms.{Twiddles, backwardOf}
 use Rattle.ntt.proofs.Roots.{twiddles-fit}
 use mir.Val.{Fits}
 use mir.Syntax.{w64}

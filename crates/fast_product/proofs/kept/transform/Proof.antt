@@ -1,15 +1,10 @@
 -- `transform` meets its contract.
-use mathlib.Core.Path.{_≡_, refl, sym, _∙_, ap, ap₂, subst}
-use mathlib.Core.List.{List}
-use Prim.Native.Nat.{ℕ, _+_, _-_, _*_, _/_, _%_, _≤_, _<_, _^_}
-use native.Mathlib.Nat.{mod-lt}
+use mathlib.Core.Path.{sym, _∙_, ap, subst}
+use Prim.Native.Nat.{_-_}
 use native.Mathlib.Omega.{arith}
-use borrow.Author.Needs.{needs}
-use lib.ListN.{length, getD}
-use Rattle.ntt.specs.Roots.{twiddleTable}
-use Rattle.ntt.specs.Transforms.{Twiddles, forwardOf, backwardOf}
+use Rattle.ntt.specs.Transforms.{Twiddles, forwardOf}
 use Rattle.ntt.proofs.Roots.{twiddles-fit}
-use Rattle.fast_product.specs.Kept.{Transform, valuesOf}
+use Rattle.fast_product.specs.Kept.{valuesOf}
 use Rattle.fast_product.proofs.kept.transform.Statement.{statement}
 use Rattle.fast_product.proofs.kept.transform.Tie as tie
 

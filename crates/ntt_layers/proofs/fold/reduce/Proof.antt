@@ -1,12 +1,9 @@
 -- `reduce` meets its contract.
-use mathlib.Core.Path.{_≡_, refl, sym, _∙_, ap, ap₂}
-use mathlib.Core.List.{List}
-use Prim.Native.Nat.{ℕ, _+_, _-_, _*_, _/_, _%_, _≤_, _<_, _^_}
-use native.Mathlib.Nat.{mod-eq-of-lt}
+use mathlib.Core.Path.{_≡_, _∙_, ap}
+use Prim.Native.Nat.{_-_}
 use native.Mathlib.Omega.{arith}
 use borrow.Author.Needs.{needs}
-use lib.ListN.{length, getD, set}
-use Rattle.ntt_layers.specs.Fold.{prime, fold, reduced}
+use Rattle.ntt_layers.specs.Fold.{fold, reduced}
 use Rattle.ntt_layers.proofs.Folds.{fold-once, reduced-bound}
 use Rattle.ntt_layers.proofs.fold.reduce.Statement.{statement}
 use Rattle.ntt_layers.proofs.fold.reduce.Tie as tie

@@ -1,13 +1,12 @@
 -- `undo` meets its contract. The invariant: the first t entries of each half are the definition's, and the others zero.
-use mathlib.Core.Path.{_≡_, refl, sym, _∙_, ap, ap₂}
-use mathlib.Core.List.{List}
-use Prim.Native.Nat.{ℕ, _+_, _-_, _*_, _/_, _%_, _≤_, _<_, _^_}
+use mathlib.Core.Path.{_≡_, sym, _∙_, ap, ap₂}
+use Prim.Native.Nat.{_+_, _-_, _*_, _%_, _≤_, _<_}
 use native.Mathlib.Nat.{mod-eq-of-lt}
 use native.Mathlib.Omega.{arith}
 use borrow.Author.Needs.{needs}
-use lib.ListN.{length, getD, set}
-use Rattle.ntt_layers.specs.Fold.{prime, fold, reduced}
-use Rattle.ntt_layers.specs.Layer.{turned, layerAt, layerOf, lowerAt, upperAt, undoAt, undoOf}
+use lib.ListN.{getD}
+use Rattle.ntt_layers.specs.Fold.{fold, reduced}
+use Rattle.ntt_layers.specs.Layer.{turned, lowerAt, upperAt, undoAt, undoOf}
 use Rattle.ntt_layers.proofs.Halves.{halves, halves-none, halves-next, halves-done}
 use Rattle.ntt_layers.proofs.Layer.{times-bound, difference-bound, lower-small, undoAt-lower, undoAt-upper}
 use Rattle.ntt_layers.proofs.layers.undo.Statement.{statement}
