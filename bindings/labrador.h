@@ -99,6 +99,9 @@ labrador_element_answer labrador_rq_sub(labrador_element a, labrador_element b);
 /* a * b */
 labrador_element_answer labrador_rq_mul(labrador_element a, labrador_element b);
 
+/* The same product and the same refusals, by transforms of length 64 modulo three primes. */
+labrador_element_answer labrador_rq_mul_fast(labrador_element a, labrador_element b);
+
 /* a * c; c is place 64. */
 labrador_element_answer labrador_rq_scale(labrador_element a, uint32_t c);
 

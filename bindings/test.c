@@ -220,6 +220,42 @@ static void test_random_elements(void) {
     }
 }
 
+/* Both products agree on a pair. */
+static int agree(labrador_element a, labrador_element b) {
+    labrador_element_answer fast = labrador_rq_mul_fast(a, b), plain = labrador_rq_mul(a, b);
+    return fast.number == plain.number && fast.place == plain.place && same(fast.coeffs, plain.coeffs, 64);
+}
+
+static void test_fast_product(void) {
+    labrador_element top, worst;
+    for (int k = 0; k < 64; k++) {
+        top.coeffs[k] = Q - 1;
+        worst.coeffs[k] = Q;
+    }
+    CHECK(is_element(labrador_rq_mul_fast(top, top), product(top, top)));
+    /* the largest and the smallest coefficients before the sign is taken: all positive or all negative terms */
+    for (int k = 0; k < 64; k++) {
+        labrador_element a = zero();
+        for (int i = 0; i < 64; i++) a.coeffs[i] = i <= k ? Q - 1 : 0;
+        CHECK(is_element(labrador_rq_mul_fast(a, top), product(a, top)));
+        CHECK(agree(top, a));
+    }
+    /* single coefficients: results just below and just above zero, and at the ends */
+    const uint32_t words[] = {0, 1, 2, 65535, 65537, 2147483647u, 2147483648u, Q - 2, Q - 1};
+    const int count = sizeof words / sizeof *words;
+    for (int i = 0; i < 64; i++)
+        for (int j = 0; j < 64; j++) {
+            labrador_element a = monomial(words[(i + j) % count], i), b = monomial(words[(i * 5 + j * 3) % count], j);
+            CHECK(is_element(labrador_rq_mul_fast(a, b), product(a, b)));
+            CHECK(is_element(labrador_rq_mul_fast(monomial(1, i), monomial(1, j)), monomial(i + j < 64 ? 1 : NEG(1), (i + j) % 64)));
+        }
+    int differ = 0;
+    for (int n = 0; n < 1000000; n++) differ += !agree(drawn(), drawn());
+    CHECK(differ == 0);
+    CHECK(is_refused(labrador_rq_mul_fast(worst, worst), 6, 0));
+    CHECK(is_refused(labrador_rq_mul_fast(top, monomial(Q, 5)), 6, 69));
+}
+
 static void test_elements(void) {
     labrador_element x = monomial(1, 1), largest, worst;
     for (int k = 0; k < 64; k++) {
@@ -564,6 +600,7 @@ int main(void) {
     test_recompose();
     test_elements();
     test_random_elements();
+    test_fast_product();
     test_rows();
     test_challenge();
     test_loads();

@@ -1,5 +1,6 @@
 //! What is timed: for each kernel a batch of calls of the proved library and the same batch of the published Rust.
 
+use crate::fast;
 use crate::loads;
 use harness::instances::{Instance, LOOSE};
 use harness::random::Random;
@@ -319,8 +320,13 @@ pub type Entry = (&'static str, fn(&mut Random) -> Kernel);
 
 /// Every kernel.
 #[rustfmt::skip]
-pub const KERNELS: [Entry; 43] = [
+pub const KERNELS: &[Entry] = &[
     ("element product", product),
+    ("fast product", fast::product),
+    #[cfg(kept_calls)]
+    ("fast inner product of 64, nothing kept, a term", fast::nothing_kept),
+    #[cfg(kept_calls)]
+    ("fast inner product of 64, both sides kept, a term", fast::both_kept),
     ("product with a number, added to an accumulator", multiply_add),
     ("digits of an element, base 16, 8 parts", |random| digits(random, 16, 8)),
     ("digits of an element, base 65536, 2 parts", |random| digits(random, 65536, 2)),

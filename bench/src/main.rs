@@ -3,6 +3,7 @@
 //! `bench` takes every kernel, `bench only START` those whose names start so.
 //! `bench count KERNEL SIDE` runs a batch of one side of a kernel, for callgrind.
 
+mod fast;
 mod kernels;
 mod loads;
 mod table;

@@ -1,4 +1,5 @@
 // The exported calls on ring elements.
+use fast_product::product;
 use leaf_answers::answers;
 use leaf_answers::answers::ElementAnswer;
 use leaf_answers::answers::NormAnswer;
@@ -35,6 +36,14 @@ pub extern "C" fn labrador_rq_mul(a: Rq, b: Rq) -> ElementAnswer
     ensures { λ r. ⌜ r ≡ elementAnswer (canonicalWords (a .coeffs ++ b .coeffs)) (rmul (a .coeffs) (b .coeffs)) ⌝ }
 {
     answers::element_of(leaf::elements(a, b), a.mul(b))
+}
+
+// The product of two elements, by transforms.
+#[no_mangle]
+pub extern "C" fn labrador_rq_mul_fast(a: Rq, b: Rq) -> ElementAnswer
+    ensures { λ r. ⌜ r ≡ elementAnswer (canonicalWords (a .coeffs ++ b .coeffs)) (rmul (a .coeffs) (b .coeffs)) ⌝ }
+{
+    answers::element_of(leaf::elements(a, b), product::mul(a, b))
 }
 
 // The product of an element with a number.

@@ -75,6 +75,7 @@ pub mod leaf_calls {
         pub fn labrador_rq_add(a: Element, b: Element) -> RqAnswer;
         pub fn labrador_rq_sub(a: Element, b: Element) -> RqAnswer;
         pub fn labrador_rq_mul(a: Element, b: Element) -> RqAnswer;
+        pub fn labrador_rq_mul_fast(a: Element, b: Element) -> RqAnswer;
         pub fn labrador_rq_scale(a: Element, c: u32) -> RqAnswer;
         pub fn labrador_rq_conj(a: Element) -> RqAnswer;
         pub fn labrador_rq_norm(a: Element) -> NormAnswer;
@@ -158,7 +159,13 @@ pub fn leaf(leaf: Leaf, w: &[u32]) -> LeafAnswer {
             }
             Leaf::RqAdd => element(labrador_rq_add(at(0), at(64))),
             Leaf::RqSub => element(labrador_rq_sub(at(0), at(64))),
-            Leaf::RqMul => element(labrador_rq_mul(at(0), at(64))),
+            Leaf::RqMul => {
+                // both products, which must agree
+                let plain = element(labrador_rq_mul(at(0), at(64)));
+                let fast = element(labrador_rq_mul_fast(at(0), at(64)));
+                assert_eq!(fast, plain, "the fast product");
+                plain
+            }
             Leaf::RqScale => element(labrador_rq_scale(at(0), w[64])),
             Leaf::RqConj => element(labrador_rq_conj(at(0))),
             Leaf::Challenge => {

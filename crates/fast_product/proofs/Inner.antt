@@ -1,0 +1,106 @@
+-- The way back from sums of products of values is the inner product modulo Q, for up to 64 elements.
+use mathlib.Core.Path.{_≡_, refl, sym, ap, ap₂, subst, _∙_}
+use mathlib.Core.List.{List}
+use Prim.Native.Nat.{ℕ, zero, suc, _+_, _-_, _*_, _/_, _%_, _≤_, _<_}
+use native.Mathlib.Nat as Nat
+use native.Mathlib.Omega.{arith}
+use lib.ListN.{length, getD, replicate, length-replicate, getD-replicate}
+use Rattle.lists.specs.Table.{table}
+use Rattle.lists.specs.Sum.{Σ}
+use Rattle.lists.proofs.Sum.{Σ-bound, Σ-suc}
+use Rattle.lists.proofs.Table.{getD-table, table-ext, is-table}
+use Rattle.definitions.specs.Zq.{Q, zsub}
+use Rattle.definitions.specs.Rq.{coeff, low, high, rmul}
+use Rattle.fast_product.specs.Join.{joinOf, joinedOf}
+use Rattle.fast_product.specs.Kept.{Room, valuesOf, valuesAdded, sumsOf, scaledOf, backOf}
+use Rattle.fast_product.proofs.Joining.{join-is}
+use Rattle.fast_product.proofs.Residue.{Words, value-bound, product-small, sums-bound, scaled-at}
+
+-- the product of two words
+words-product : (x y : ℕ) → x ≤ 4294967295 → y ≤ 4294967295 → x * y ≤ 18446744065119617025
+words-product x y hx hy = omega (arith, Nat.mul-le-mul {n₁ = x} {m₁ = y} {n₂ = 4294967295} {m₂ = 4294967295} hx hy)
+
+-- both sums of a coefficient of one product
+low-bound : (a b : List ℕ) → Words a → Words b → (k : ℕ) → k < 64 → low a b k ≤ 64 * 18446744065119617025
+unfolding low
+low-bound a b wa wb k h =
+    omega (arith, Σ-bound (k + 1) 18446744065119617025 (λ i. coeff a i * coeff b (k - i)) (λ i l. words-product (coeff a i) (coeff b (k - i)) (wa i (omega arith)) (wb (k - i) (omega arith))))
+
+high-bound : (a b : List ℕ) → Words a → Words b → (k : ℕ) → k < 64 → high a b k ≤ 63 * 18446744065119617025
+unfolding high
+high-bound a b wa wb k h =
+    omega (arith, Σ-bound (63 - k) 18446744065119617025 (λ i. coeff a (k + 1 + i) * coeff b (63 - i)) (λ i l. words-product (coeff a (k + 1 + i)) (coeff b (63 - i)) (wa (k + 1 + i) (omega arith)) (wb (63 - i) (omega arith))))
+
+-- l − h modulo Q, by way of a number that is l − h + 4096·Q²
+difference : (l h : ℕ) → h < 75557863690729951334400 → (l + (75557863690729951334400 - h)) % 4294967295 ≡ zsub l h
+difference l h s =
+    ap (λ x. x % 4294967295) (sym (whole (h % 4294967295) (h / 4294967295) (omega arith) (omega arith)))
+    ∙ Nat.add-mul-mod-self-left (l + (4294967295 - h % 4294967295)) 4294967295 (17592186040319 - h / 4294967295)
+  where
+    whole : (r q : ℕ) → 4294967295 * q + r ≡ h → r < 4294967295 → l + (4294967295 - r) + 4294967295 * (17592186040319 - q) ≡ l + (75557863690729951334400 - h)
+    whole r q e b = omega arith
+
+module _ (n : ℕ) (hn : n ≤ 64) (a b : ℕ → List ℕ) (wa : (m : ℕ) → Words (a m)) (wb : (m : ℕ) → Words (b m)) where
+  -- the inner product
+  pub back-is : backOf (sumsOf 0 n a b) (sumsOf 1 n a b) (sumsOf 2 n a b) ≡ table 64 (λ k. zsub (Σ n (λ m. low (a m) (b m) k)) (Σ n (λ m. high (a m) (b m) k)))
+  unfolding backOf joinedOf
+  back-is =
+      table-ext 64 (λ k. joinOf (getD (scaledOf 0 (sumsOf 0 n a b)) k 0) (getD (scaledOf 1 (sumsOf 1 n a b)) k 0) (getD (scaledOf 2 (sumsOf 2 n a b)) k 0))
+      (λ k. zsub (Σ n (λ m. low (a m) (b m) k)) (Σ n (λ m. high (a m) (b m) k))) at
+    where
+      at : (k : ℕ) → k < 64
+          → joinOf (getD (scaledOf 0 (sumsOf 0 n a b)) k 0) (getD (scaledOf 1 (sumsOf 1 n a b)) k 0) (getD (scaledOf 2 (sumsOf 2 n a b)) k 0)
+          ≡ zsub (Σ n (λ m. low (a m) (b m) k)) (Σ n (λ m. high (a m) (b m) k))
+      at k h =
+          let hl : Σ n (λ m. low (a m) (b m) k) ≤ n * (64 * 18446744065119617025) = Σ-bound n (64 * 18446744065119617025) (λ m. low (a m) (b m) k) (λ m l. low-bound (a m) (b m) (wa m) (wb m) k h) in
+          let hh : Σ n (λ m. high (a m) (b m) k) ≤ n * (63 * 18446744065119617025) = Σ-bound n (63 * 18446744065119617025) (λ m. high (a m) (b m) k) (λ m l. high-bound (a m) (b m) (wa m) (wb m) k h) in
+          joined k h (Σ n (λ m. low (a m) (b m) k)) (Σ n (λ m. high (a m) (b m) k)) refl refl (omega arith) (omega arith)
+        where
+          joined : (k : ℕ) → k < 64 → (L H : ℕ) → L ≡ Σ n (λ m. low (a m) (b m) k) → H ≡ Σ n (λ m. high (a m) (b m) k) → L ≤ 75557863690729951334400 → H < 75557863690729951334400
+              → joinOf (getD (scaledOf 0 (sumsOf 0 n a b)) k 0) (getD (scaledOf 1 (sumsOf 1 n a b)) k 0) (getD (scaledOf 2 (sumsOf 2 n a b)) k 0) ≡ zsub L H
+          joined k h L H eL eH bl bh =
+              let e : L + (75557863690729951334400 - H) + Σ n (λ m. high (a m) (b m) k) ≡ Σ n (λ m. low (a m) (b m) k) + 75557863690729951334400 = omega arith in
+              join-is (L + (75557863690729951334400 - H)) (getD (scaledOf 0 (sumsOf 0 n a b)) k 0) (getD (scaledOf 1 (sumsOf 1 n a b)) k 0) (getD (scaledOf 2 (sumsOf 2 n a b)) k 0)
+              (omega arith)
+              (scaled-at 0 (omega arith) n hn a b wa wb k (L + (75557863690729951334400 - H)) h e)
+              (scaled-at 1 (omega arith) n hn a b wa wb k (L + (75557863690729951334400 - H)) h e)
+              (scaled-at 2 (omega arith) n hn a b wa wb k (L + (75557863690729951334400 - H)) h e)
+              ∙ difference L H bh
+
+  -- one more product
+  pub sums-next : (i : ℕ) → i < 3 → valuesAdded (sumsOf i n a b) (valuesOf i (a n)) (valuesOf i (b n)) ≡ sumsOf i (n + 1) a b
+  unfolding valuesAdded sumsOf
+  sums-next i hi =
+      table-ext 64 (λ k. getD (sumsOf i n a b) k 0 + getD (valuesOf i (a n)) k 0 * getD (valuesOf i (b n)) k 0) (λ k. Σ (n + 1) (λ m. getD (valuesOf i (a m)) k 0 * getD (valuesOf i (b m)) k 0))
+      (λ k h. ap (λ x. x + getD (valuesOf i (a n)) k 0 * getD (valuesOf i (b n)) k 0) (getD-table 64 (λ k. Σ n (λ m. getD (valuesOf i (a m)) k 0 * getD (valuesOf i (b m)) k 0)) k 0 h)
+      ∙ sym (Σ-suc n (λ m. getD (valuesOf i (a m)) k 0 * getD (valuesOf i (b m)) k 0)))
+
+  -- for which there is room
+  pub sums-room : (i : ℕ) → i < 3 → Room (sumsOf i n a b) (valuesOf i (a n)) (valuesOf i (b n))
+  sums-room i hi k h =
+      omega (arith, sums-bound i hi n hn a b wa wb k h, product-small (getD (valuesOf i (a n)) k 0) (getD (valuesOf i (b n)) k 0) (value-bound i hi (a n) (wa n) k h) (value-bound i hi (b n) (wb n) k h))
+
+-- no products
+pub no-sums : (i : ℕ) (a b : ℕ → List ℕ) → replicate 64 0 ≡ sumsOf i 0 a b
+unfolding sumsOf Σ
+no-sums i a b = let z : ℕ = 0 in is-table 64 (replicate 64 z) (λ k. z) z (length-replicate 64 z) (λ k l. getD-replicate 64 k z z l)
+
+-- one product
+pub one-product : (a b : List ℕ) → Words a → Words b → backOf (sumsOf 0 1 (λ m. a) (λ m. b)) (sumsOf 1 1 (λ m. a) (λ m. b)) (sumsOf 2 1 (λ m. a) (λ m. b)) ≡ rmul a b
+unfolding rmul Σ
+one-product a b wa wb =
+    back-is 1 (omega arith) (λ m. a) (λ m. b) (λ m. wa) (λ m. wb)
+    ∙ table-ext 64 (λ k. zsub (0 + low a b k) (0 + high a b k)) (λ k. zsub (low a b k) (high a b k)) (λ k h. ap₂ zsub (Nat.zero-add (low a b k)) (Nat.zero-add (high a b k)))
+
+-- the first product: lists by what they hold
+module _ (i : ℕ) (hi : i < 3) (a b s x y : List ℕ) (wa : Words a) (wb : Words b) (es : s ≡ replicate 64 0) (ex : x ≡ valuesOf i a) (ey : y ≡ valuesOf i b) where
+  pub first-room : Room s x y
+  first-room =
+      subst (λ l. Room l x y) (sym (es ∙ no-sums i (λ m. a) (λ m. b)))
+      (subst (λ l. Room (sumsOf i 0 (λ m. a) (λ m. b)) l y) (sym ex)
+      (subst (λ l. Room (sumsOf i 0 (λ m. a) (λ m. b)) (valuesOf i a) l) (sym ey) (sums-room 0 (omega arith) (λ m. a) (λ m. b) (λ m. wa) (λ m. wb) i hi)))
+
+  pub first-sums : (r : List ℕ) → r ≡ valuesAdded s x y → r ≡ sumsOf i 1 (λ m. a) (λ m. b)
+  first-sums r e =
+      e ∙ ap (λ l. valuesAdded l x y) (es ∙ no-sums i (λ m. a) (λ m. b)) ∙ ap₂ (valuesAdded (sumsOf i 0 (λ m. a) (λ m. b))) ex ey
+      ∙ sums-next 0 (omega arith) (λ m. a) (λ m. b) (λ m. wa) (λ m. wb) i hi

@@ -1,0 +1,27 @@
+-- A number below the product of the primes 134217089, 134215681 and 134215553, from its remainders, modulo Q.
+use mathlib.Core.List.{List}
+use Prim.Native.Nat.{ℕ, _+_, _-_, _*_, _%_, _<_}
+use lib.ListN.{getD}
+use Rattle.lists.specs.Table.{table}
+
+-- the second digit: 36508953 is the inverse of the first prime modulo the second
+abbrev pub middleOf : ℕ → ℕ → ℕ
+middleOf first second = (second + 268431362 - first) * 36508953 % 134215681
+
+-- the third digit: 32067747 is the inverse of the product of the first two primes modulo the third, and 133166994 that of the second
+abbrev pub topOf : ℕ → ℕ → ℕ → ℕ
+topOf first middle third = ((third + 268431106 - first) * 32067747 + (268431106 - middle) * 133166994) % 134215553
+
+-- the number modulo Q: 273937709 is the product of the first two primes
+unfoldable pub joinOf : ℕ → ℕ → ℕ → ℕ
+joinOf first second third = (first + 134217089 * middleOf first second + 273937709 * topOf first (middleOf first second) third) % 4294967295
+
+-- entry by entry
+unfoldable pub joinedOf : List ℕ → List ℕ → List ℕ → List ℕ
+joinedOf a b c = table 64 (λ k. joinOf (getD a k 0) (getD b k 0) (getD c k 0))
+
+-- entries that are remainders by the three primes
+pub record Remainders (a b c : List ℕ) : Type 0 where
+  pub first : (k : ℕ) → k < 64 → getD a k 0 < 134217089
+  pub second : (k : ℕ) → k < 64 → getD b k 0 < 134215681
+  pub third : (k : ℕ) → k < 64 → getD c k 0 < 134215553

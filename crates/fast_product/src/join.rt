@@ -1,0 +1,34 @@
+// A number below the product of the three primes, from its remainders, modulo Q.
+use ntt_layers::fold;
+ghost use mathlib.Core.Path.{_≡_};
+ghost use Prim.Native.Nat.{_<_};
+ghost use Rattle.fast_product.specs.Join.{joinOf, joinedOf, Remainders};
+
+// Mixed radix: the digits in base 134217089 and 134215681, then the number modulo Q.
+pub fn join(first: u64, second: u64, third: u64) -> u64
+    requires { ⌜ (first < 134217089) × (second < 134215681) × (third < 134215553) ⌝ }
+    ensures { λ r. ⌜ (r ≡ joinOf first second third) × (r < 4294967295) ⌝ }
+{
+    let middle = fold::remainder((second + 268431362 - first) * 36508953, 2047);
+    let top = fold::remainder(
+        (third + 268431106 - first) * 32067747 + (268431106 - middle) * 133166994,
+        2175,
+    );
+    (first + 134217089 * middle + 273937709 * top) % 4294967295
+}
+
+// Entry by entry.
+pub fn join_all(first: [u32; 64], second: [u32; 64], third: [u32; 64]) -> [u32; 64]
+    requires { ⌜ Remainders first second third ⌝ }
+    ensures { λ r. ⌜ r ≡ joinedOf first second third ⌝ }
+{
+    let mut out = [0u32; 64];
+    for k in 0..64 {
+        out[k] = join(
+            fold::wide(first[k]),
+            fold::wide(second[k]),
+            fold::wide(third[k]),
+        ) as u32;
+    }
+    out
+}

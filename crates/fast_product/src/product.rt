@@ -1,0 +1,26 @@
+// The fast ring product: the same answer as the plain product for every pair of words.
+use crate::kept;
+use ntt::table;
+use rq::rq::Rq;
+ghost use mathlib.Core.Path.{_≡_};
+ghost use Rattle.definitions.specs.Rq.{rmul};
+
+pub fn multiply(a: [u32; 64], b: [u32; 64]) -> [u32; 64]
+    ensures { λ r. ⌜ r ≡ rmul a b ⌝ }
+{
+    let w = table::twiddles();
+    let x = kept::transform(a, &w);
+    let y = kept::transform(b, &w);
+    let sums = kept::add_product(kept::no_sums(), x, y);
+    kept::back(sums, &w)
+}
+
+pub fn mul(a: Rq, b: Rq) -> Rq
+    ensures { λ r. ⌜ r .coeffs ≡ rmul (a .coeffs) (b .coeffs) ⌝ }
+{
+    let x = a.coeffs;
+    let y = b.coeffs;
+    Rq {
+        coeffs: multiply(x, y),
+    }
+}

@@ -1,0 +1,4 @@
+pub mod Residues
+pub mod Folds
+pub mod Layer
+pub mod Halves
