@@ -1,10 +1,8 @@
 // The exported calls on whole slices: the prover, its five rounds and the verifier.
 use admission::calls::Call;
-use call_answers::verdicts;
 use call_answers::verdicts::LabradorAnswer;
 use call_answers::verdicts::LabradorVerdict;
-use prover::prove;
-use verifier::verify;
+use whole_calls::calls;
 ghost use mathlib.Core.Path.{_≡_};
 ghost use lib.ListN.{length};
 ghost use Rattle.protocol.specs.Prover.{prove as proved, prove-output, prove-scratch, whole, round₁, round₂, round₃, round₄, round₅};
@@ -24,7 +22,7 @@ pub extern "C" fn labrador_prove(
     ensures { λ r. ⌜ now (output .exit) ≡ prove-output whole (now (job .entry)) (now (randomness .entry)) (now (witness .entry)) (now (scratch .entry)) (now (output .entry)) ⌝ }
     ensures { λ r. ⌜ now (scratch .exit) ≡ prove-scratch whole (now (job .entry)) (now (randomness .entry)) (now (witness .entry)) (now (scratch .entry)) (now (output .entry)) ⌝ }
 {
-    verdicts::answer_of(prove::prove(Call::Whole, job, randomness, witness, scratch, output))
+    calls::prove(Call::Whole, job, randomness, witness, scratch, output)
 }
 
 // Round 1: u1. The randomness is empty.
@@ -40,7 +38,7 @@ pub extern "C" fn labrador_round_1(
     ensures { λ r. ⌜ now (output .exit) ≡ prove-output round₁ (now (job .entry)) (now (randomness .entry)) (now (witness .entry)) (now (scratch .entry)) (now (output .entry)) ⌝ }
     ensures { λ r. ⌜ now (scratch .exit) ≡ prove-scratch round₁ (now (job .entry)) (now (randomness .entry)) (now (witness .entry)) (now (scratch .entry)) (now (output .entry)) ⌝ }
 {
-    verdicts::answer_of(prove::prove(Call::Round1, job, randomness, witness, scratch, output))
+    calls::prove(Call::Round1, job, randomness, witness, scratch, output)
 }
 
 // Round 2: p. The randomness ends after its first section.
@@ -56,7 +54,7 @@ pub extern "C" fn labrador_round_2(
     ensures { λ r. ⌜ now (output .exit) ≡ prove-output round₂ (now (job .entry)) (now (randomness .entry)) (now (witness .entry)) (now (scratch .entry)) (now (output .entry)) ⌝ }
     ensures { λ r. ⌜ now (scratch .exit) ≡ prove-scratch round₂ (now (job .entry)) (now (randomness .entry)) (now (witness .entry)) (now (scratch .entry)) (now (output .entry)) ⌝ }
 {
-    verdicts::answer_of(prove::prove(Call::Round2, job, randomness, witness, scratch, output))
+    calls::prove(Call::Round2, job, randomness, witness, scratch, output)
 }
 
 // Round 3: b''. The randomness ends after its first 3 sections.
@@ -72,7 +70,7 @@ pub extern "C" fn labrador_round_3(
     ensures { λ r. ⌜ now (output .exit) ≡ prove-output round₃ (now (job .entry)) (now (randomness .entry)) (now (witness .entry)) (now (scratch .entry)) (now (output .entry)) ⌝ }
     ensures { λ r. ⌜ now (scratch .exit) ≡ prove-scratch round₃ (now (job .entry)) (now (randomness .entry)) (now (witness .entry)) (now (scratch .entry)) (now (output .entry)) ⌝ }
 {
-    verdicts::answer_of(prove::prove(Call::Round3, job, randomness, witness, scratch, output))
+    calls::prove(Call::Round3, job, randomness, witness, scratch, output)
 }
 
 // Round 4: u2. The randomness ends after its first 5 sections.
@@ -88,7 +86,7 @@ pub extern "C" fn labrador_round_4(
     ensures { λ r. ⌜ now (output .exit) ≡ prove-output round₄ (now (job .entry)) (now (randomness .entry)) (now (witness .entry)) (now (scratch .entry)) (now (output .entry)) ⌝ }
     ensures { λ r. ⌜ now (scratch .exit) ≡ prove-scratch round₄ (now (job .entry)) (now (randomness .entry)) (now (witness .entry)) (now (scratch .entry)) (now (output .entry)) ⌝ }
 {
-    verdicts::answer_of(prove::prove(Call::Round4, job, randomness, witness, scratch, output))
+    calls::prove(Call::Round4, job, randomness, witness, scratch, output)
 }
 
 // Round 5: z, t, g, h.
@@ -104,7 +102,7 @@ pub extern "C" fn labrador_round_5(
     ensures { λ r. ⌜ now (output .exit) ≡ prove-output round₅ (now (job .entry)) (now (randomness .entry)) (now (witness .entry)) (now (scratch .entry)) (now (output .entry)) ⌝ }
     ensures { λ r. ⌜ now (scratch .exit) ≡ prove-scratch round₅ (now (job .entry)) (now (randomness .entry)) (now (witness .entry)) (now (scratch .entry)) (now (output .entry)) ⌝ }
 {
-    verdicts::answer_of(prove::prove(Call::Round5, job, randomness, witness, scratch, output))
+    calls::prove(Call::Round5, job, randomness, witness, scratch, output)
 }
 
 // The verdict on a transcript.
@@ -118,5 +116,5 @@ pub extern "C" fn labrador_verify(
     ensures { λ r. ⌜ r ≡ labradorVerdict (verdict (now (job .entry)) (now (randomness .entry)) (now (transcript .entry)) (length (now (scratch .entry)))) ⌝ }
     ensures { λ r. ⌜ now (scratch .exit) ≡ verify-scratch (now (job .entry)) (now (randomness .entry)) (now (transcript .entry)) (now (scratch .entry)) ⌝ }
 {
-    verdicts::verdict_of(verify::verify(job, randomness, transcript, scratch))
+    calls::verify(job, randomness, transcript, scratch)
 }

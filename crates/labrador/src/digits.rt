@@ -1,9 +1,6 @@
 // The exported call on the digits of an element.
-use leaf_answers::answers;
 use leaf_answers::answers::Status;
-use leaf_answers::digits::rq_digit_operands;
-use leaf_answers::digits::rq_digit_rows;
-use leaf_answers::digits::store_rows;
+use leaf_calls::digits;
 use rq::rq::Rq;
 ghost use mathlib.Core.Path.{_≡_};
 ghost use lib.ListN.{length};
@@ -16,16 +13,5 @@ pub extern "C" fn labrador_rq_digits(base: u32, parts: u32, a: Rq, out: &mut [u3
     ensures { λ r. ⌜ r ≡ statusOf (wordsFound base parts (a .coeffs) (length (now (out .entry)))) ⌝ }
     ensures { λ _. ⌜ now (out .exit) ≡ wordsWritten base parts (a .coeffs) (now (out .entry)) ⌝ }
 {
-    let s = answers::status_of(rq_digit_operands(base, parts, a));
-    if out.len() < 2048 {
-        if s.number == 0 {
-            return Status {
-                number: 2,
-                place: 2048,
-            };
-        }
-        return s;
-    }
-    store_rows(rq_digit_rows(base, parts, a), out);
-    s
+    digits::rq_digits(base, parts, a, out)
 }

@@ -1,12 +1,8 @@
 // The exported calls on numbers modulo Q.
-use leaf_answers::answers;
 use leaf_answers::answers::CentreAnswer;
 use leaf_answers::answers::DigitsAnswer;
 use leaf_answers::answers::WordAnswer;
-use operands::leaf;
-use transcript::projection;
-use zq::digits;
-use zq::zq::Zq;
+use leaf_calls::numbers;
 ghost use mathlib.Core.Path.{_≡_};
 ghost use mathlib.Core.List.{[], _∷_};
 ghost use Rattle.definitions.specs.Zq.{zadd, zsub, zneg, zmul, centre};
@@ -20,7 +16,7 @@ ghost use Rattle.leaf_answers.specs.Answers.{wordAnswer, centreAnswer, digitsAn
 pub extern "C" fn labrador_zq_add(a: u32, b: u32) -> WordAnswer
     ensures { λ r. ⌜ r ≡ wordAnswer (canonicalWords (a ∷ b ∷ [])) (zadd a b) ⌝ }
 {
-    answers::word_of(leaf::numbers(a, b), Zq(a).add(Zq(b)).0)
+    numbers::zq_add(a, b)
 }
 
 // The difference of two numbers.
@@ -28,7 +24,7 @@ pub extern "C" fn labrador_zq_add(a: u32, b: u32) -> WordAnswer
 pub extern "C" fn labrador_zq_sub(a: u32, b: u32) -> WordAnswer
     ensures { λ r. ⌜ r ≡ wordAnswer (canonicalWords (a ∷ b ∷ [])) (zsub a b) ⌝ }
 {
-    answers::word_of(leaf::numbers(a, b), Zq(a).sub(Zq(b)).0)
+    numbers::zq_sub(a, b)
 }
 
 // The product of two numbers.
@@ -36,7 +32,7 @@ pub extern "C" fn labrador_zq_sub(a: u32, b: u32) -> WordAnswer
 pub extern "C" fn labrador_zq_mul(a: u32, b: u32) -> WordAnswer
     ensures { λ r. ⌜ r ≡ wordAnswer (canonicalWords (a ∷ b ∷ [])) (zmul a b) ⌝ }
 {
-    answers::word_of(leaf::numbers(a, b), Zq(a).mul(Zq(b)).0)
+    numbers::zq_mul(a, b)
 }
 
 // The negative of a number.
@@ -44,7 +40,7 @@ pub extern "C" fn labrador_zq_mul(a: u32, b: u32) -> WordAnswer
 pub extern "C" fn labrador_zq_neg(a: u32) -> WordAnswer
     ensures { λ r. ⌜ r ≡ wordAnswer (canonicalWords (a ∷ [])) (zneg a) ⌝ }
 {
-    answers::word_of(leaf::number(a), Zq(a).neg().0)
+    numbers::zq_neg(a)
 }
 
 // The centre of a number.
@@ -52,7 +48,7 @@ pub extern "C" fn labrador_zq_neg(a: u32) -> WordAnswer
 pub extern "C" fn labrador_zq_centre(a: u32) -> CentreAnswer
     ensures { λ r. ⌜ r ≡ centreAnswer (canonicalWords (a ∷ [])) (centre a) ⌝ }
 {
-    answers::centre_of(leaf::number(a), Zq(a).centered_mod())
+    numbers::zq_centre(a)
 }
 
 // The digits of a number in 32 places.
@@ -60,21 +56,7 @@ pub extern "C" fn labrador_zq_centre(a: u32) -> CentreAnswer
 pub extern "C" fn labrador_zq_digits(base: u32, parts: u32, a: u32) -> DigitsAnswer
     ensures { λ r. ⌜ r ≡ digitsAnswer (digitOperands base parts (a ∷ [])) (digitPlaces base parts a) ⌝ }
 {
-    let words = [a];
-    let s = answers::status_of(leaf::digit_operands(base, parts, &words));
-    if s.number == 0 {
-        DigitsAnswer {
-            number: s.number,
-            place: s.place,
-            digits: digits::decompose(Zq(a), base, parts as usize),
-        }
-    } else {
-        DigitsAnswer {
-            number: s.number,
-            place: s.place,
-            digits: [0u32; 32],
-        }
-    }
+    numbers::zq_digits(base, parts, a)
 }
 
 // The projection's entry that a word stands for.
@@ -82,5 +64,5 @@ pub extern "C" fn labrador_zq_digits(base: u32, parts: u32, a: u32) -> DigitsAns
 pub extern "C" fn labrador_projection_entry(word: u32) -> WordAnswer
     ensures { λ r. ⌜ r ≡ wordAnswer (canonicalWords (word ∷ [])) (entry word) ⌝ }
 {
-    answers::word_of(leaf::number(word), projection::projection_entry(word).0)
+    numbers::projection_entry(word)
 }

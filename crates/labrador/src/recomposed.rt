@@ -1,9 +1,6 @@
 // The exported calls on digits that are put together again (document 02, Item 2).
-use leaf_answers::answers;
 use leaf_answers::answers::WordAnswer;
-use recompose::found;
-use recompose::parts;
-use recompose::sum;
+use leaf_calls::recomposed;
 ghost use mathlib.Core.Path.{_≡_};
 ghost use Rattle.leaf_answers.specs.Recomposed.{recomposeAnswer, PartsAnswer};
 
@@ -12,20 +9,7 @@ ghost use Rattle.leaf_answers.specs.Recomposed.{recomposeAnswer, PartsAnswer};
 pub extern "C" fn labrador_recompose(base: u32, digits: &[u32]) -> WordAnswer
     ensures { λ r. ⌜ r ≡ recomposeAnswer base (now (digits .entry)) ⌝ }
 {
-    let s = answers::status_of(found::recompose_operands(base, digits));
-    if s.number == 0 {
-        WordAnswer {
-            number: s.number,
-            place: s.place,
-            value: sum::recompose(base, digits),
-        }
-    } else {
-        WordAnswer {
-            number: s.number,
-            place: s.place,
-            value: 0,
-        }
-    }
+    recomposed::recompose(base, digits)
 }
 
 // The number of parts that a base needs.
@@ -33,5 +17,5 @@ pub extern "C" fn labrador_recompose(base: u32, digits: &[u32]) -> WordAnswer
 pub extern "C" fn labrador_parts_needed(base: u32) -> WordAnswer
     ensures { λ r. ⌜ PartsAnswer base r ⌝ }
 {
-    answers::word_of(found::base_found(base), parts::parts_needed(base))
+    recomposed::parts_needed(base)
 }

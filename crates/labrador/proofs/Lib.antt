@@ -1,3 +1,0 @@
-mod Lengths
-pub mod ValueBack
-pub mod LoadNeeds

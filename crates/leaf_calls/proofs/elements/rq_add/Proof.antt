@@ -1,0 +1,12 @@
+-- `rq_add` meets its contract.
+use mathlib.Core.Path.{_∙_, ap₂}
+use borrow.Author.Needs.{needs}
+use Rattle.leaf_answers.specs.Answers.{elementAnswer}
+use Rattle.leaf_calls.proofs.elements.rq_add.Statement.{statement}
+use Rattle.leaf_calls.proofs.elements.rq_add.Tie as tie
+
+returns : tie.Need-returns
+returns c = c .element-of .ensures ∙ ap₂ elementAnswer (c .before .before .elements .ensures) (c .before .add .ensures)
+
+pub rq-add-spec : {M : Type 1} → statement M
+rq-add-spec = tie.close (tie.spec (λ c κs. search needs) (λ c κs. search needs) (λ c κs. search needs) returns)

@@ -1,0 +1,12 @@
+-- `projection_entry` meets its contract.
+use mathlib.Core.Path.{_∙_, ap₂}
+use borrow.Author.Needs.{needs}
+use Rattle.leaf_answers.specs.Answers.{wordAnswer}
+use Rattle.leaf_calls.proofs.numbers.projection_entry.Statement.{statement}
+use Rattle.leaf_calls.proofs.numbers.projection_entry.Tie as tie
+
+returns : tie.Need-returns
+returns c = c .word-of .ensures ∙ ap₂ wordAnswer (c .before .before .number .ensures) (c .before .projection-entry .ensures)
+
+pub projection-entry-spec : {M : Type 1} → statement M
+projection-entry-spec = tie.close (tie.spec (λ c κs. search needs) (λ c κs. search needs) (λ c κs. search needs) returns)

@@ -1,0 +1,12 @@
+-- `zq_add` meets its contract.
+use mathlib.Core.Path.{_∙_, ap₂}
+use borrow.Author.Needs.{needs}
+use Rattle.leaf_answers.specs.Answers.{wordAnswer}
+use Rattle.leaf_calls.proofs.numbers.zq_add.Statement.{statement}
+use Rattle.leaf_calls.proofs.numbers.zq_add.Tie as tie
+
+returns : tie.Need-returns
+returns c = c .word-of .ensures ∙ ap₂ wordAnswer (c .before .before .numbers .ensures) (c .before .add .ensures)
+
+pub zq-add-spec : {M : Type 1} → statement M
+zq-add-spec = tie.close (tie.spec (λ c κs. search needs) (λ c κs. search needs) (λ c κs. search needs) returns)

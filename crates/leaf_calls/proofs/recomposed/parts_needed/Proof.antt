@@ -1,0 +1,14 @@
+-- `parts_needed` meets its contract.
+use mathlib.Core.Path.{_∙_, ap}
+use borrow.Author.Needs.{needs}
+use Rattle.leaf_answers.specs.Answers.{wordAnswer}
+use Rattle.leaf_calls.proofs.recomposed.parts_needed.Statement.{statement}
+use Rattle.leaf_calls.proofs.recomposed.parts_needed.Tie as tie
+
+returns : tie.Need-returns
+returns c =
+    let parts = c .before .parts-needed in
+    (parts .result, (parts .ensures .0, c .word-of .ensures ∙ ap (λ a. wordAnswer a (parts .result)) (c .before .before .base-found .ensures)))
+
+pub parts-needed-spec : {M : Type 1} → statement M
+parts-needed-spec = tie.close (tie.spec (λ c κs. search needs) (λ c κs. search needs) (λ c κs. search needs) returns)

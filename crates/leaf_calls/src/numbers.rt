@@ -1,0 +1,79 @@
+// The calls on numbers modulo Q.
+use leaf_answers::answers;
+use leaf_answers::answers::CentreAnswer;
+use leaf_answers::answers::DigitsAnswer;
+use leaf_answers::answers::WordAnswer;
+use operands::leaf;
+use transcript::projection;
+use zq::digits;
+use zq::zq::Zq;
+ghost use mathlib.Core.Path.{_≡_};
+ghost use mathlib.Core.List.{[], _∷_};
+ghost use Rattle.definitions.specs.Zq.{zadd, zsub, zneg, zmul, centre};
+ghost use Rattle.definitions.specs.Digits.{digitPlaces};
+ghost use Rattle.definitions.specs.Projection.{entry};
+ghost use Rattle.definitions.specs.Leaf.{canonicalWords, digitOperands};
+ghost use Rattle.leaf_answers.specs.Answers.{wordAnswer, centreAnswer, digitsAnswer};
+
+// The sum of two numbers.
+pub fn zq_add(a: u32, b: u32) -> WordAnswer
+    ensures { λ r. ⌜ r ≡ wordAnswer (canonicalWords (a ∷ b ∷ [])) (zadd a b) ⌝ }
+{
+    answers::word_of(leaf::numbers(a, b), Zq(a).add(Zq(b)).0)
+}
+
+// The difference of two numbers.
+pub fn zq_sub(a: u32, b: u32) -> WordAnswer
+    ensures { λ r. ⌜ r ≡ wordAnswer (canonicalWords (a ∷ b ∷ [])) (zsub a b) ⌝ }
+{
+    answers::word_of(leaf::numbers(a, b), Zq(a).sub(Zq(b)).0)
+}
+
+// The product of two numbers.
+pub fn zq_mul(a: u32, b: u32) -> WordAnswer
+    ensures { λ r. ⌜ r ≡ wordAnswer (canonicalWords (a ∷ b ∷ [])) (zmul a b) ⌝ }
+{
+    answers::word_of(leaf::numbers(a, b), Zq(a).mul(Zq(b)).0)
+}
+
+// The negative of a number.
+pub fn zq_neg(a: u32) -> WordAnswer
+    ensures { λ r. ⌜ r ≡ wordAnswer (canonicalWords (a ∷ [])) (zneg a) ⌝ }
+{
+    answers::word_of(leaf::number(a), Zq(a).neg().0)
+}
+
+// The centre of a number.
+pub fn zq_centre(a: u32) -> CentreAnswer
+    ensures { λ r. ⌜ r ≡ centreAnswer (canonicalWords (a ∷ [])) (centre a) ⌝ }
+{
+    answers::centre_of(leaf::number(a), Zq(a).centered_mod())
+}
+
+// The digits of a number in 32 places.
+pub fn zq_digits(base: u32, parts: u32, a: u32) -> DigitsAnswer
+    ensures { λ r. ⌜ r ≡ digitsAnswer (digitOperands base parts (a ∷ [])) (digitPlaces base parts a) ⌝ }
+{
+    let words = [a];
+    let s = answers::status_of(leaf::digit_operands(base, parts, &words));
+    if s.number == 0 {
+        DigitsAnswer {
+            number: s.number,
+            place: s.place,
+            digits: digits::decompose(Zq(a), base, parts as usize),
+        }
+    } else {
+        DigitsAnswer {
+            number: s.number,
+            place: s.place,
+            digits: [0u32; 32],
+        }
+    }
+}
+
+// The projection's entry that a word stands for.
+pub fn projection_entry(word: u32) -> WordAnswer
+    ensures { λ r. ⌜ r ≡ wordAnswer (canonicalWords (word ∷ [])) (entry word) ⌝ }
+{
+    answers::word_of(leaf::number(word), projection::projection_entry(word).0)
+}

@@ -1,0 +1,35 @@
+// The calls on digits that are put together again (document 02, Item 2).
+use leaf_answers::answers;
+use leaf_answers::answers::WordAnswer;
+use recompose::found;
+use recompose::parts;
+use recompose::sum;
+ghost use mathlib.Core.Path.{_≡_};
+ghost use Rattle.leaf_answers.specs.Recomposed.{recomposeAnswer, PartsAnswer};
+
+// The value of digits in a base, lowest first.
+pub fn recompose(base: u32, digits: &[u32]) -> WordAnswer
+    ensures { λ r. ⌜ r ≡ recomposeAnswer base (now (digits .entry)) ⌝ }
+{
+    let s = answers::status_of(found::recompose_operands(base, digits));
+    if s.number == 0 {
+        WordAnswer {
+            number: s.number,
+            place: s.place,
+            value: sum::recompose(base, digits),
+        }
+    } else {
+        WordAnswer {
+            number: s.number,
+            place: s.place,
+            value: 0,
+        }
+    }
+}
+
+// The number of parts that a base needs.
+pub fn parts_needed(base: u32) -> WordAnswer
+    ensures { λ r. ⌜ PartsAnswer base r ⌝ }
+{
+    answers::word_of(found::base_found(base), parts::parts_needed(base))
+}
