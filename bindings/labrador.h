@@ -140,8 +140,8 @@ typedef struct {
 } labrador_need;
 
 /* number 0: accepted. 1 to 16: refused, at `place`. 21: the projection's norm (first) above its limit (second), each hi * 2^64 + lo.
-   22: row `index`; the constant term sent (first_lo) is not the one worked out (second_lo). 23: the digits' norms (first) above the
-   limit (second). 24 to 29: that check failed. Fields without a meaning are zero. */
+   22: row `index`; the constant term sent (first_lo) is not the one worked out (second_lo). 23: the norms of z's two parts and of the
+   digits of t, g and h together (first) above the limit (second). 24 to 29: that check failed. Fields without a meaning are zero. */
 typedef struct {
     uint32_t number;
     uint32_t index;

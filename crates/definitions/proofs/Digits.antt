@@ -12,7 +12,7 @@ use borrow.Author.Tests.{le-ltb}
 use Rattle.lists.specs.Sum.{Σ}
 use Rattle.lists.proofs.Table.{length-table, getD-table}
 use Rattle.definitions.specs.Zq.{Q, Canonical, zneg, isLargerThanHalf, size}
-use Rattle.definitions.specs.Digits.{remBelow, remSize, nextSize, sizeAfter, signed, digit, digits, leftover}
+use Rattle.definitions.specs.Digits.{remBelow, remSize, nextSize, sizeAfter, signed, digit, digits, leftover, rest}
 use Rattle.definitions.proofs.Cases.{ltb-cases}
 use Rattle.definitions.proofs.Centre.{size-le, signed-size, size-signed, signed-canonical}
 
@@ -224,6 +224,11 @@ unfolding digit
 digit-of-canonical b a k h =
     let s = sizeAfter b k (size a) in
     signed-canonical (digitBelow b a k) (remSize b s) (omega (arith, remSize-self b s, sizeAfter-self b k (size a), size-le a h))
+
+-- the rest of a canonical value is canonical, in any base
+pub rest-of-canonical : (b a : ℕ) → Canonical a → Canonical (rest b a)
+unfolding rest
+rest-of-canonical b a h = signed-canonical (isLargerThanHalf a) (sizeAfter b 1 (size a)) (omega (arith, sizeAfter-self b 1 (size a), size-le a h))
 
 -- there are as many digits as parts
 pub length-digits : (b n a : ℕ) → length (digits b n a) ≡ n

@@ -3,6 +3,7 @@ pub mod Cases
 pub mod Modulo
 pub mod Centre
 pub mod Digits
+pub mod Rest
 pub mod Leaf
 pub mod Recompose
 pub mod Challenge

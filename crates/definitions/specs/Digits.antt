@@ -42,3 +42,7 @@ digitPlaces b parts a = padded 32 parts 0 (digit b a)
 -- "What is left then is dropped.": the size left over after a number of parts
 unfoldable pub leftover : ℕ → ℕ → ℕ → ℕ
 leftover b parts a = sizeAfter b parts (size a)
+
+-- document 02, Item 9: "the whole rest with its sign": what goes on after digit 0
+unfoldable pub rest : ℕ → ℕ → ℕ
+rest b a = signed (isLargerThanHalf a) (sizeAfter b 1 (size a))

@@ -8,7 +8,7 @@ use lib.ListN.{length, getD}
 use Rattle.lists.specs.Table.{table, padded}
 use Rattle.lists.specs.Sum.{Σ}
 use Rattle.definitions.specs.Zq.{Canonical, zadd, zsub, zneg, zmul}
-use Rattle.definitions.specs.Digits.{digit}
+use Rattle.definitions.specs.Digits.{digit, rest}
 
 -- the coefficient of X^k
 abbrev pub coeff : List ℕ → ℕ → ℕ
@@ -61,6 +61,10 @@ rconj a = table 64 (conjCoeff a)
 -- row k of an element's digits: digit k of each coefficient
 unfoldable pub digitRow : ℕ → List ℕ → ℕ → List ℕ
 digitRow b a k = table 64 (λ j. digit b (coeff a j) k)
+
+-- the rest of each coefficient after its digit 0
+unfoldable pub restRow : ℕ → List ℕ → List ℕ
+restRow b a = table 64 (λ j. rest b (coeff a j))
 
 -- "the digits of one element are 32 rows of 64, rows past the parts zero"
 unfoldable pub digitRows : ℕ → ℕ → List ℕ → List (List ℕ)

@@ -26,7 +26,7 @@ use Rattle.protocol.proofs.Agrees.{Agrees}
 use Rattle.protocol.proofs.Fine.{require-holds}
 use Rattle.protocol.proofs.Checks.{then-fine, require-iff, first-ext, first-fine}
 use Rattle.protocol.proofs.PsiRows.{psi-row-met}
-use Rattle.protocol.proofs.Norms.{norm-table, digits-of-table, digits-of-rows, digits-of-triangle}
+use Rattle.protocol.proofs.Norms.{norm-table, parts-of-table, digits-of-rows, digits-of-triangle}
 use Rattle.protocol.proofs.Relations.{check-24-fine, check-25-fine, check-26-fine, aggregated-relation}
 
 -- rows of cells that agree
@@ -87,10 +87,9 @@ module _ (X : Public) (s : ℕ → ℕ → Element) (M : Message) (agrees : Agre
       (ap₂ (λ x y. failed 22 (k ∷ x ∷ y ∷ [])) first-value second-value))
       ∙ ap (λ m. first m (λ k. require (ℕ-discrete (psi-error X s k) 0) (failed 22 (k ∷ sent X s k ∷ computed X s k ∷ [])))) e
 
-  -- the two parts of each element of z are its digits
-  z-digits : flatMap (z-parts X M) (table n (M .z)) ≡ digits-of (P .b) 2 (table n (F.z X s))
-  unfolding digits-of table
-  z-digits = ap (flatMap (z-parts X M)) (table-ext n (M .z) (F.z X s) (agrees .z))
+  -- the two parts of each element of z
+  same-z : flatMap (z-parts X M) (table n (M .z)) ≡ flatMap (z-parts X M) (table n (F.z X s))
+  same-z = ap (flatMap (z-parts X M)) (table-ext n (M .z) (F.z X s) (agrees .z))
 
   -- check 23 is the condition on the sum of digit norms
   pub check-23-is : check-23 X M ≡ require (decLe (digit-sum X s) beta-prime-sq) (failed 23 (digit-sum X s ∷ beta-prime-sq ∷ []))
@@ -98,7 +97,7 @@ module _ (X : Public) (s : ℕ → ℕ → Element) (M : Message) (agrees : Agre
   check-23-is = limit-same 23 _ _ beta-prime-sq
       (ap₂ _+_
       (ap₂ _+_
-      (ap₂ _+_ (ap norm-of z-digits ∙ digits-of-table (P .b) 2 n (F.z X s)) (ap norm-of same-t ∙ digits-of-rows (P .b) (P .t₁) r κ (F.t X s)))
+      (ap₂ _+_ (ap norm-of same-z ∙ parts-of-table (P .b) n (F.z X s)) (ap norm-of same-t ∙ digits-of-rows (P .b) (P .t₁) r κ (F.t X s)))
       (ap norm-of same-g ∙ digits-of-triangle (P .b) (P .t₂) r (F.g X s)))
       (ap norm-of same-h ∙ digits-of-triangle (P .b) (P .t₁) r (F.h X s)))
 

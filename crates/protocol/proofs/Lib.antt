@@ -21,6 +21,7 @@ pub mod Total
 pub mod Demand3
 pub mod Stated
 pub mod OneKind
+pub mod SecondPart
 pub mod LoadSections
 pub mod LoadJob
 pub mod LoadNorms

@@ -19,13 +19,13 @@ use Rattle.definitions.proofs.Centre.{size-le}
 use Rattle.protocol.specs.Parameters.{Parameters}
 use Rattle.protocol.specs.Views.{Public}
 use Rattle.protocol.specs.Formulas as F
-use Rattle.protocol.specs.Formulas.{flat, norm-of, digit-element, digits-of, rows, triangle}
+use Rattle.protocol.specs.Formulas.{flat, norm-of, digit-element, rest-element, digits-of, rows, triangle}
 use Rattle.protocol.specs.Prover.{whole, witness-norm, t-norm, g-norm, h-norm, work-refusal}
-use Rattle.protocol.specs.Conditions.{digits-norm, p-norm, digit-sum, constant-error, ring-error, conditions}
+use Rattle.protocol.specs.Conditions.{two-parts-norm, digits-norm, p-norm, digit-sum, constant-error, ring-error, conditions}
 use Rattle.protocol.proofs.Fine.{require-holds, then-both-fine}
 use Rattle.protocol.proofs.Checks.{first-fine}
 use Rattle.protocol.proofs.Flat.{length-flat, flat-canonical}
-use Rattle.protocol.proofs.Norms.{words-digit, digits-of-rows, digits-of-triangle}
+use Rattle.protocol.proofs.Norms.{words-digit, words-rest, digits-of-rows, digits-of-triangle}
 use Rattle.protocol.proofs.Corollary.{conditions-of-met}
 
 -- the square of a centre
@@ -46,6 +46,13 @@ digits-norm-le : (b parts : ℕ) (e : Element) → parts ≤ 32 → digits-norm 
 digits-norm-le b parts e few =
     let all : digits-norm b parts e ≤ parts * 295147904904474918976 =
     Σ-bound parts 295147904904474918976 (λ q. norm (digitRow b (words e) q)) (λ q h. rw (ap norm (words-digit b e q)) at (element-norm-le (digit-element b e q))) in
+    omega arith
+
+-- the norms of its two parts
+two-parts-norm-le : (b : ℕ) (e : Element) → two-parts-norm b e ≤ 590295809808949837952
+two-parts-norm-le b e =
+    let low = rw (ap norm (words-digit b e 0)) at (element-norm-le (digit-element b e 0)) in
+    let high = rw (ap norm (words-rest b e)) at (element-norm-le (rest-element b e)) in
     omega arith
 
 -- the norms of the digits of up to 16 rows of up to 16 cells each
@@ -89,8 +96,8 @@ module _ (X : Public) (s : ℕ → ℕ → Element) (ample : Ample (X .P)) where
   h-norm-le : Σ r (λ i. Σ (i + 1) (λ j. digits-norm b t₁ (F.h X s i j))) ≤ 2417851636977458536251392
   h-norm-le = cells-norm-le b t₁ r (λ i. i + 1) (F.h X s) (ample .t₁) (ample .r) (λ i h. omega arith)
 
-  z-norm-le : Σ n (λ m. digits-norm b 2 (F.z X s m)) ≤ 604462909244364634062848
-  z-norm-le = omega (arith, Σ-bound n 9444732956943197407232 (λ m. digits-norm b 2 (F.z X s m)) (λ m h. digits-norm-le b 2 (F.z X s m) (omega arith)))
+  z-norm-le : Σ n (λ m. two-parts-norm b (F.z X s m)) ≤ 604462909244364634062848
+  z-norm-le = omega (arith, Σ-bound n 590295809808949837952 (λ m. two-parts-norm b (F.z X s m)) (λ m h. two-parts-norm-le b (F.z X s m)))
 
   -- 13 to 16 can't happen
   pub work-fine : work-refusal X whole s ≡ fine

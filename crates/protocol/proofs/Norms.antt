@@ -10,13 +10,13 @@ use Rattle.lists.proofs.Table.{length-table, getD-table}
 use Rattle.lists.proofs.Sum.{Σ-ext, Σ-split}
 use Rattle.lists.proofs.Additive.{Additive, additive-cat, additive-table, additive-flatMap}
 use Rattle.definitions.specs.Norm.{square, norm}
-use Rattle.definitions.specs.Digits.{digit}
-use Rattle.definitions.specs.Rq.{Element, coeff, digitRow}
+use Rattle.definitions.specs.Digits.{digit, rest}
+use Rattle.definitions.specs.Rq.{Element, coeff, digitRow, restRow}
 use Rattle.definitions.specs.Ring.{words, table-element}
 use Rattle.definitions.proofs.Bridge.{coeff-canonical, words-element}
-use Rattle.definitions.proofs.Digits.{digit-of-canonical}
-use Rattle.protocol.specs.Formulas.{flat, norm-of, digit-element, digits-of, rows, triangle}
-use Rattle.protocol.specs.Conditions.{digits-norm}
+use Rattle.definitions.proofs.Digits.{digit-of-canonical, rest-of-canonical}
+use Rattle.protocol.specs.Formulas.{flat, norm-of, digit-element, rest-element, two-parts, digits-of, rows, triangle}
+use Rattle.protocol.specs.Conditions.{two-parts-norm, digits-norm}
 
 -- the norm adds up over lists joined
 pub norm-additive : Additive ℕ norm
@@ -50,6 +50,20 @@ norm-of-one e = ap norm (append-nil (words e))
 pub words-digit : (b : ℕ) (e : Element) (k : ℕ) → words (digit-element b e k) ≡ digitRow b (words e) k
 unfolding digitRow
 words-digit b e k = words-element (digitRow b (words e) k) (table-element (λ j. digit b (coeff (words e) j) k) (λ j. digit-of-canonical b (coeff (words e) j) k (coeff-canonical e j)))
+
+-- the words of the rest of an element
+pub words-rest : (b : ℕ) (e : Element) → words (rest-element b e) ≡ restRow b (words e)
+unfolding restRow
+words-rest b e = words-element (restRow b (words e)) (table-element (λ j. rest b (coeff (words e) j)) (λ j. rest-of-canonical b (coeff (words e) j) (coeff-canonical e j)))
+
+-- the norm of the two parts of a table of elements
+pub parts-of-table : (b n : ℕ) (f : ℕ → Element) → norm-of (flatMap (two-parts b) (table n f)) ≡ Σ n (λ m. two-parts-norm b (f m))
+unfolding flatMap
+parts-of-table b n f =
+    additive-table (λ es. norm-of (flatMap (two-parts b) es)) (additive-flatMap (two-parts b) norm-of norm-of-additive) n f
+    ∙ Σ-ext n (λ m. norm-of (flatMap (two-parts b) (f m ∷ []))) (λ m. two-parts-norm b (f m)) (λ m h.
+    norm-of-additive .joined (digit-element b (f m) 0 ∷ []) (rest-element b (f m) ∷ [])
+    ∙ ap₂ _+_ (norm-of-one (digit-element b (f m) 0) ∙ ap norm (words-digit b (f m) 0)) (norm-of-one (rest-element b (f m)) ∙ ap norm (words-rest b (f m))))
 
 -- the norm of the digits of elements adds up
 pub digits-additive : (b parts : ℕ) → Additive Element (λ es. norm-of (digits-of b parts es))

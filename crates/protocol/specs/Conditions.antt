@@ -8,13 +8,17 @@ use Rattle.lists.specs.Sum.{Σ}
 use Rattle.definitions.specs.Zq.{Q, zsub}
 use Rattle.definitions.specs.Norm.{square, norm}
 use Rattle.definitions.specs.Answer.{Answer, fine, refused, failed, number, _then_}
-use Rattle.definitions.specs.Rq.{Element, coeff, rzero, rsub, digitRow}
+use Rattle.definitions.specs.Rq.{Element, coeff, rzero, rsub, digitRow, restRow}
 use Rattle.definitions.specs.Ring.{words, element}
 use mathlib.Core.List.{List-discrete}
 use Rattle.protocol.specs.Checks.{require, first}
 use Rattle.protocol.specs.Parameters.{Parameters}
 use Rattle.protocol.specs.Views.{Public}
 use Rattle.protocol.specs.Formulas.{_⊗_, sum, left, t, g, h, z, p, b″}
+
+-- the norms of digit 0 of an element and of the rest together (document 02, Item 9)
+abbrev pub two-parts-norm : ℕ → Element → ℕ
+two-parts-norm b e = norm (digitRow b (words e) 0) + norm (restRow b (words e))
 
 -- the norms of an element's digits in a number of parts together
 abbrev pub digits-norm : ℕ → ℕ → Element → ℕ
@@ -46,7 +50,7 @@ module _ (X : Public) (s : ℕ → ℕ → Element) where
   -- "the sum in check 23": each cell of a triangle once
   unfoldable pub digit-sum : ℕ
   digit-sum =
-      Σ n (λ m. digits-norm (P .b) 2 (z X s m))
+      Σ n (λ m. two-parts-norm (P .b) (z X s m))
       + Σ r (λ i. Σ κ (λ k. digits-norm (P .b) t₁ (t X s i k)))
       + Σ r (λ i. Σ (i + 1) (λ j. digits-norm (P .b) t₂ (g X s i j)))
       + Σ r (λ i. Σ (i + 1) (λ j. digits-norm (P .b) t₁ (h X s i j)))

@@ -7,7 +7,7 @@ use Rattle.lists.specs.Sum.{Σ}
 use Rattle.algebra.specs.Ops as Ops
 use Rattle.definitions.specs.Zq.{Q}
 use Rattle.definitions.specs.Norm.{norm}
-use Rattle.definitions.specs.Rq.{Element, coeff, digitRow}
+use Rattle.definitions.specs.Rq.{Element, coeff, digitRow, restRow}
 use Rattle.definitions.specs.Ring.{RqOps, words, element, scale, conj}
 use Rattle.protocol.specs.Parameters.{Parameters}
 use Rattle.protocol.specs.Views.{Public}
@@ -45,6 +45,14 @@ rows r m f = cat r (λ i. table m (f i))
 -- digit k of each coefficient of an element
 abbrev pub digit-element : ℕ → Element → ℕ → Element
 digit-element b e k = element (digitRow b (words e) k)
+
+-- the rest of each coefficient of an element after its digit 0
+abbrev pub rest-element : ℕ → Element → Element
+rest-element b e = element (restRow b (words e))
+
+-- document 02, Item 9: the two parts of an element, its digit 0 and "the whole rest with its sign"
+abbrev pub two-parts : ℕ → Element → List Element
+two-parts b e = digit-element b e 0 ∷ rest-element b e ∷ []
 
 -- "Digits(t) lists each cell's t1 digits, lowest first, cell after cell"
 unfoldable pub digits-of : ℕ → ℕ → List Element → List Element

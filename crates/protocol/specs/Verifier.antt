@@ -15,7 +15,7 @@ use Rattle.protocol.specs.Checks.{require, first}
 use Rattle.protocol.specs.Parameters.{Parameters, parameters}
 use Rattle.protocol.specs.Layout.{job-refusal, randomness-refusal, transcript-refusal, scratch-refusal, scratch-need}
 use Rattle.protocol.specs.Views.{Public, Message, public, message}
-use Rattle.protocol.specs.Formulas.{_⊕_, _⊗_, sum, dot, pairs, norm-of, digit-element, t-digits, g-digits, h-digits, a-sum, φ-sum, b-sum, u₁-of, u₂-of}
+use Rattle.protocol.specs.Formulas.{_⊕_, _⊗_, sum, dot, pairs, norm-of, two-parts, t-digits, g-digits, h-digits, a-sum, φ-sum, b-sum, u₁-of, u₂-of}
 use Rattle.protocol.specs.Prover.{t-norm, g-norm, h-norm, zeroed}
 
 -- whether two elements are the same
@@ -43,11 +43,11 @@ module _ (X : Public) (M : Message) where
       let computed = (Σ l (λ x. psi k x * b₀ x) + Σ 256 (λ j. omega k j * p j)) % Q in
       require (ℕ-discrete sent computed) (failed 22 (k ∷ sent ∷ computed ∷ [])))
 
-  -- the two parts of an element of z: its digits 0 and 1
+  -- the two parts of an element of z (document 02, Item 9)
   abbrev pub z-parts : Element → List Element
-  z-parts e = digit-element (P .b) e 0 ∷ digit-element (P .b) e 1 ∷ []
+  z-parts = two-parts (P .b)
 
-  -- "23 digit norms of z with two digits, t and h with t1, g with t2 sum above beta_prime_sq (sum and limit)."
+  -- "23 digit norms of z with two" parts, "t and h with t1, g with t2 sum above beta_prime_sq (sum and limit)."
   unfoldable pub check-23 : Answer
   check-23 =
       let total = norm-of (flatMap z-parts (table n z)) + norm-of (t-digits X t) + norm-of (g-digits X g) + norm-of (h-digits X h) in

@@ -1,2 +1,3 @@
+pub mod Rests
 pub mod Rows
 pub mod Squares

@@ -37,7 +37,7 @@ module _ (P : Parameters) (T : List ℕ) where
   abbrev pub projection-norm : Answer
   projection-norm = check-21 (bare P) (message P T)
 
-  -- "23 digit norms of z with two digits, t and h with t1, g with t2 sum above beta_prime_sq"
+  -- "23 digit norms of z with two" parts, "t and h with t1, g with t2 sum above beta_prime_sq"
   abbrev pub norm-sum : Answer
   norm-sum = check-23 (bare P) (message P T)
 

@@ -16,10 +16,10 @@ use Rattle.definitions.specs.declared.answers.U128.{U128}
 use Rattle.definitions.specs.Norm.{norm}
 use Rattle.inner_product.specs.Run.{run}
 use Rattle.protocol.specs.Checks.{require}
-use Rattle.protocol.specs.Parameters.{Parameters, triangular}
+use Rattle.protocol.specs.Parameters.{triangular}
 use Rattle.protocol.specs.Layout.{start, transcript-sections}
 use Rattle.protocol.specs.Views.{message}
-use Rattle.protocol.specs.Formulas.{norm-of, digits-of, t-digits, g-digits, h-digits}
+use Rattle.protocol.specs.Formulas.{norm-of, two-parts, digits-of, t-digits, g-digits, h-digits}
 use Rattle.protocol.specs.Verifier.{check-21, check-23, z-parts}
 use Rattle.commitments.proofs.Answers.{require-by}
 use Rattle.commitments.proofs.Formula.{vectors-cells, triangle-cells}
@@ -41,11 +41,6 @@ upper x y h k l = omega arith
 four : (s₃ s₂ s₁ z t g h z′ t′ g′ h′ : ℕ) → s₃ ≡ s₂ + h → s₂ ≡ s₁ + g → s₁ ≡ z + t → z ≡ z′ → t ≡ t′ → g ≡ g′ → h ≡ h′ → s₃ ≡ z′ + t′ + g′ + h′
 four s₃ s₂ s₁ z t g h z′ t′ g′ h′ a b c d e f i = omega arith
 
--- the two digits of each element of a transcript's z, as 23 takes them
-z-digits : (P : Parameters) (T : List ℕ) → digits-of (P .b) 2 (table (P .n) (run T (start (transcript-sections P) 4) 64)) ≡ flatMap (z-parts (bare P) (message P T)) (table (P .n) (message P T .z))
-unfolding digits-of table
-z-digits P T = refl
-
 module _ (T : List ℕ) (p : EnvironmentParameters) where
   -- 21, by the boolean's value
   pub check-21-is : (at a b : ℕ) (t : Bool) → at ≡ start (transcript-sections (parametersOf p)) 1 → at + 256 ≤ length T → a ≡ norm (part T at 256) → b ≡ 128 * parametersOf p .beta-sq → t ≡ leb a b
@@ -63,15 +58,12 @@ module _ (T : List ℕ) (p : EnvironmentParameters) where
   check-21-below at a place room e h =
       check-21-is at a (128 * parametersOf p .beta-sq) true place room e refl (sym (le-leb a (128 * parametersOf p .beta-sq) (omega arith)))
 
-  -- the norm of the digits of z in the transcript
-  z-norm : (at v : ℕ) → at ≡ start (transcript-sections (parametersOf p)) 4 → v ≡ norm-of (digits-of (p .b) 2 (table (p .rank) (run T at 64)))
+  -- the norm of the two parts of z in the transcript
+  z-norm : (at v : ℕ) → at ≡ start (transcript-sections (parametersOf p)) 4 → v ≡ norm-of (flatMap (two-parts (p .b)) (table (p .rank) (run T at 64)))
       → v ≡ norm-of (flatMap (z-parts (bare (parametersOf p)) (message (parametersOf p) T)) (table (parametersOf p .n) (message (parametersOf p) T .z)))
-  z-norm at v place e =
-      e
-      ∙ ap (λ at. norm-of (digits-of (p .b) 2 (table (p .rank) (run T at 64)))) place
-      ∙ ap norm-of (z-digits (parametersOf p) T)
+  z-norm at v place e = e ∙ ap (λ at. norm-of (flatMap (two-parts (p .b)) (table (p .rank) (run T at 64)))) place
 
-  -- of t
+  -- of t's digits
   t-norm : (at v : ℕ) → at ≡ start (transcript-sections (parametersOf p)) 5 → v ≡ norm-of (digits-of (p .b) (p .«t_1») (table (p .multiplicity * p .kappa) (run T at 64)))
       → v ≡ norm-of (t-digits (bare (parametersOf p)) (message (parametersOf p) T .t))
   t-norm at v place e =
@@ -105,7 +97,7 @@ module _ (T : List ℕ) (p : EnvironmentParameters) where
     pub t-place : t-at ≡ start (transcript-sections (parametersOf p)) 5
     pub g-place : g-at ≡ start (transcript-sections (parametersOf p)) 6
     pub h-place : h-at ≡ start (transcript-sections (parametersOf p)) 7
-    pub z-is : z ≡ norm-of (digits-of (p .b) 2 (table (p .rank) (run T z-at 64)))
+    pub z-is : z ≡ norm-of (flatMap (two-parts (p .b)) (table (p .rank) (run T z-at 64)))
     pub t-is : t ≡ norm-of (digits-of (p .b) (p .«t_1») (table (p .multiplicity * p .kappa) (run T t-at 64)))
     pub g-is : g ≡ norm-of (digits-of (p .b) (p .«t_2») (table cells (run T g-at 64)))
     pub h-is : h ≡ norm-of (digits-of (p .b) (p .«t_1») (table cells (run T h-at 64)))

@@ -6,6 +6,7 @@ use relation::env_params::EnvironmentParameters;
 use rq::product;
 use rq_vector::bound;
 use rq_vector::norm;
+use rq_vector::parts;
 use sizes::offsets;
 use sizes::slices;
 ghost use mathlib.Core.Path.{_≡_};
@@ -96,13 +97,13 @@ pub fn check_constant_terms(
     Verdict::Accepted
 }
 
-// "23 digit norms of z with two digits, t and h with t1, g with t2 sum above beta_prime_sq (sum and limit)."
+// "23 digit norms of z with two" parts, "t and h with t1, g with t2 sum above beta_prime_sq (sum and limit)." The second part of z is the whole rest (document 02, Item 9).
 pub fn check_norm_sum(transcript: &[u32], p: EnvironmentParameters) -> Verdict
     requires { ⌜ Received (now transcript) p ⌝ }
     ensures { λ v. ⌜ ofVerdict v ≡ norm-sum (parametersOf p) (now (transcript .entry)) ⌝ }
 {
     let cells = slices::triangle(p.multiplicity);
-    let z = norm::digits_norm(transcript, offsets::of_transcript(p, 4), p.rank, p.b, 2);
+    let z = parts::two_parts_norm(transcript, offsets::of_transcript(p, 4), p.rank, p.b);
     let t = norm::digits_norm(
         transcript,
         offsets::of_transcript(p, 5),

@@ -6,6 +6,7 @@ use crate::record::Recorder;
 use crate::rust;
 use crate::tally::Tally;
 use crate::whole::BROKEN;
+use model::checks::is_two_digits;
 use model::refusals::{fit, output_need, Handed};
 use model::words::{join, read_witness, Job, Parameters, Randomness, Transcript};
 use model::{checks, conditions, formulas, Answer, Call};
@@ -54,6 +55,7 @@ impl Case {
 pub const CALLS: &str = "answers of the calls";
 pub const CONDITIONS: &str = "demand 3's conditions";
 pub const PURPOSES: &str = "purposes";
+pub const LEFT: &str = "23 with something left of z, by the Rust";
 
 /// The comparisons of calls on whole slices.
 pub const PLANTED: &str = "model: refusals 1 to 12 with the fault planted";
@@ -66,8 +68,34 @@ pub const WORKED: &str = "library: calls on whole slices with the Rust's";
 /// Where the Rust panics: statements of one kind only.
 pub const MODELLED: &str = "library: calls on whole slices with the model's, constraints of one kind only";
 pub const FOUR_MODELLED: &str = "model: the four conditions with its verdict, constraints of one kind only";
+/// Where the Rust's sum of check 23 is another: something is left of z after two digits, and 23 fails.
+pub const LARGE: &str = "library: calls on whole slices with the model's, 23 with something left of z";
+pub const FOUR_LARGE: &str = "model: the four conditions with its verdict, 23 with something left of z";
+pub const SMALLER: &str = "model: 23 with something left of z, the Rust's sum smaller or within the limit";
 pub const REFUSED: &str = "library: refusals 1 to 12 with the model's";
 pub const JUDGED: &str = "library: the tests before the work with the model's";
+
+/// Whose answer is expected of a call that reaches the work.
+#[derive(Clone, Copy, PartialEq, Eq)]
+enum Source {
+    Rust,
+    /// The model's: constraints of one kind only.
+    OneKind,
+    /// The model's: 23 fails, and something is left of z after two digits (document 02, Item 9).
+    LargeZ,
+}
+
+impl Source {
+    fn of(call: Call, p: &Parameters, third: &[u32], answer: &Answer) -> Source {
+        if !p.has_both_kinds() {
+            Source::OneKind
+        } else if call == Call::Verify && answer.number == 23 && !is_two_digits(p.b, &Transcript::read(p, third).z) {
+            Source::LargeZ
+        } else {
+            Source::Rust
+        }
+    }
+}
 
 pub struct Context {
     pub tally: Tally,
@@ -96,7 +124,10 @@ impl Context {
             tally.must_occur(CONDITIONS, format!("{number:>2}"));
         }
         tally.must_compare(&[PLANTED, PROVER, TRANSCRIPT, VERIFIER, FOUR, FOUR_OURS, WORKED, REFUSED]);
-        tally.must_compare(&[BROKEN, JUDGED, MODELLED, FOUR_MODELLED]);
+        tally.must_compare(&[BROKEN, JUDGED, MODELLED, FOUR_MODELLED, LARGE, FOUR_LARGE, SMALLER]);
+        for row in [FAILED, PASSED] {
+            tally.must_occur(LEFT, row);
+        }
         Leaves::must_occur(&mut tally);
         Context { tally, recorder }
     }
@@ -193,7 +224,11 @@ impl Context {
         let transcript = join(&sections);
         let verdict = self.verifier(purpose, instance, &transcript, spare);
         let breach = conditions::first_breach(&values, &drawn, &s);
-        let kind = if p.has_both_kinds() { FOUR } else { FOUR_MODELLED };
+        let kind = match Source::of(Call::Verify, p, &transcript, &verdict) {
+            Source::Rust => FOUR,
+            Source::OneKind => FOUR_MODELLED,
+            Source::LargeZ => FOUR_LARGE,
+        };
         self.tally.compare(kind, &breach, &verdict, described);
         let ours = prove_then_verify(&job, &randomness, &witness, p.scratch_need(), transcript.len());
         self.tally.compare(FOUR_OURS, &ours, &breach, described);
@@ -201,7 +236,8 @@ impl Context {
         Some(transcript)
     }
 
-    /// The verifier on a transcript: the Rust's verdict, or the model's where the Rust panics.
+    /// The verifier on a transcript: the Rust's verdict, or the model's where the Rust panics or its sum of check 23 is
+    /// another.
     pub fn verifier(&mut self, purpose: &'static str, instance: &Instance, transcript: &[u32], spare: usize) -> Answer {
         let p = &instance.parameters;
         let job = instance.job_words();
@@ -211,13 +247,19 @@ impl Context {
             &Randomness::read(p, &randomness),
             &Transcript::read(p, transcript),
         );
-        let answer = if p.has_both_kinds() {
-            let answer = rust::verify(&rust::Job::new(&job), &randomness, transcript);
-            self.tally
-                .compare(VERIFIER, &modelled, &answer, || format!("verify ({purpose}) {p:?}"));
-            answer
-        } else {
-            modelled
+        let described = || format!("verify ({purpose}) {p:?}");
+        let by_the_rust = || rust::verify(&rust::Job::new(&job), &randomness, transcript);
+        let answer = match Source::of(Call::Verify, p, transcript, &modelled) {
+            Source::Rust => {
+                let answer = by_the_rust();
+                self.tally.compare(VERIFIER, &modelled, &answer, described);
+                answer
+            }
+            Source::OneKind => modelled,
+            Source::LargeZ => {
+                self.smaller(&modelled, &by_the_rust(), described);
+                modelled
+            }
         };
         self.take(Case {
             purpose,
@@ -233,6 +275,24 @@ impl Context {
             },
         });
         answer
+    }
+}
+
+/// How the Rust goes on where something is left of z and 23 fails here.
+const FAILED: &str = "23, with a smaller sum";
+const PASSED: &str = "within the limit";
+
+impl Context {
+    /// Compares a verdict of 23 with the Rust's, whose sum is smaller: it is a 23 with the same limit, or of a later check.
+    fn smaller(&mut self, ours: &Answer, rust: &Answer, described: impl FnOnce() -> String) {
+        let failed = rust.number == 23;
+        self.tally.occurred(LEFT, if failed { FAILED } else { PASSED });
+        let expected = if failed {
+            rust.first < ours.first && rust.second == ours.second
+        } else {
+            ![21, 22].contains(&rust.number)
+        };
+        self.tally.compare(SMALLER, &expected, &true, described);
     }
 }
 
@@ -253,9 +313,12 @@ impl Tally {
             answer: case.expected.answer,
             ..Seen::default()
         };
-        let kind = match case.expected.worked {
-            Some(_) if case.parameters().has_both_kinds() => WORKED,
-            Some(_) => MODELLED,
+        let answer = &case.expected.answer;
+        let source = |_| Source::of(case.call, &case.parameters(), &case.third, answer);
+        let kind = match case.expected.worked.as_ref().map(source) {
+            Some(Source::Rust) => WORKED,
+            Some(Source::OneKind) => MODELLED,
+            Some(Source::LargeZ) => LARGE,
             None => REFUSED,
         };
         self.compare(kind, &ours(case), &expected, || case.describe());

@@ -71,6 +71,8 @@ fn compare(seed: u64, count: u64, largest: bool) -> bool {
     context.tally.stage("sizes at their limits");
     whole::one_kind(&mut context, &mut random, 2);
     context.tally.stage("constraints of one kind only");
+    whole::large_z(&mut context, &mut random, &base);
+    context.tally.stage("something left of z after two digits");
     for i in 0..count as usize {
         let parameters = small(&mut random, i);
         whole::random_instance(&mut context, &mut random, parameters);
@@ -101,6 +103,7 @@ fn record(folder: &Path) -> bool {
     families(&mut context, &mut random, &base, 1);
     whole::few(&mut context, &mut random);
     whole::one_kind(&mut context, &mut random, 0);
+    whole::large_z(&mut context, &mut random, &base);
     context.tally.stage("recorded answers, made again");
     let recorder = context.recorder.take().expect("a recorder");
     recorder.write(folder).expect("the folder can be written");

@@ -1,6 +1,6 @@
 //! Reads recorded answers back, as a program with fixed buffers does.
 
-use crate::cases::{Case, Expected, JUDGED, REFUSED, WORKED};
+use crate::cases::{Case, Expected, JUDGED, LARGE, MODELLED, REFUSED, WORKED};
 use crate::record::*;
 use crate::tally::Tally;
 use model::calls::{self, Leaf, LeafAnswer};
@@ -38,7 +38,17 @@ fn records(path: &Path, mut take: impl FnMut(u32, &[u32])) -> bool {
 
 pub fn replay(folder: &Path) -> bool {
     let mut tally = Tally::default();
-    tally.must_compare(&[WHOLE, MODELLED_LEAF, LEAF, MODELLED_CALL, WORKED, REFUSED, JUDGED]);
+    tally.must_compare(&[
+        WHOLE,
+        MODELLED_LEAF,
+        LEAF,
+        MODELLED_CALL,
+        WORKED,
+        MODELLED,
+        LARGE,
+        REFUSED,
+        JUDGED,
+    ]);
     let leaves_whole = records(&folder.join("leaves"), |kind, body| leaf(&mut tally, kind, body));
     tally.compare(WHOLE, &leaves_whole, &true, || "leaves".into());
     let mut slices = CAPACITY.map(|capacity| (vec![0; capacity], 0));

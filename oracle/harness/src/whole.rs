@@ -4,7 +4,7 @@ use crate::cases::Context;
 use crate::instances::*;
 use crate::random::Random;
 use crate::unfit::unfit;
-use model::formulas::{outer_u1, outer_u2};
+use model::formulas::{cell_digits, digits_norms, elements_norm, outer_u1, outer_u2};
 use model::leaves::{add, Q};
 use model::words::*;
 use model::Call;
@@ -323,6 +323,34 @@ pub fn one_kind(context: &mut Context, random: &mut Random, pairs: usize) {
         free_words(context, &instance);
         for call in Call::ALL {
             unfit(context, random, &instance, call, pairs);
+        }
+    }
+}
+
+/// The sum of check 23 with two digits of z, as the Rust takes it.
+fn two_digits_sum(p: &Parameters, sent: &Transcript) -> u128 {
+    elements_norm(&cell_digits(p.b, 2, &sent.z)) + digits_norms(p, &sent.t, &sent.g, &sent.h).iter().sum::<u128>()
+}
+
+/// Witnesses with large words in small bases: of z something is left after two digits (document 02, Item 9), and the
+/// limit of check 23 stands at the sum with two digits and at the sum with the whole rest, and just below each.
+pub fn large_z(context: &mut Context, random: &mut Random, instance: &Instance) {
+    for (b, size) in [(2, Size::Bits(16)), (16, Size::Any), (255, Size::Ends)] {
+        let mut large = instance.clone();
+        large.parameters.b = b;
+        large.witness.fill_with(|| coefficient(random, size));
+        large.meet();
+        let sent = modelled(&large);
+        let whole = large.figures(&sent).sum;
+        let digits = two_digits_sum(&large.parameters, &sent);
+        for (purpose, limit) in [
+            ("beta_prime_sq below the sum with two digits of z", digits - 1),
+            ("beta_prime_sq at the sum with two digits of z", digits),
+            ("beta_prime_sq below the sum with the whole rest of z", whole - 1),
+            ("beta_prime_sq at the sum with the whole rest of z", whole),
+        ] {
+            large.parameters.beta_prime_sq = limit;
+            context.prover(purpose, &large, 0);
         }
     }
 }

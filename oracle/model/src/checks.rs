@@ -2,6 +2,7 @@
 
 use crate::formulas::*;
 use crate::leaves::*;
+use crate::recompose::left;
 use crate::words::*;
 use crate::Answer;
 
@@ -13,9 +14,20 @@ pub fn row_values(job: &Job, x: &Randomness, k: usize, b2: &[Element], p: &[u32]
     (b2[k][0], computed)
 }
 
-/// The sum of check 23: z in two digits, t, g and h.
+/// Document 02, Item 9: the two parts of each element of z, its digit 0 and the whole rest.
+pub fn two_parts(base: u32, z: &[Element]) -> Vec<Element> {
+    let parts = |e: &Element| [rdigits(base, 1, e)[0], element(|k| rest(base, e[k]))];
+    z.iter().flat_map(parts).collect()
+}
+
+/// Whether nothing is left of z after two digits.
+pub fn is_two_digits(base: u32, z: &[Element]) -> bool {
+    z.iter().flatten().all(|&a| left(base, 2, a) == 0)
+}
+
+/// The sum of check 23: z in its two parts, t, g and h in digits.
 pub fn norm_sum(p: &Parameters, z: &[Element], t: &[Vec<Element>], g: &[Element], h: &[Element]) -> u128 {
-    elements_norm(&cell_digits(p.b, 2, z)) + digits_norms(p, t, g, h).iter().sum::<u128>()
+    elements_norm(&two_parts(p.b, z)) + digits_norms(p, t, g, h).iter().sum::<u128>()
 }
 
 /// The limit of check 21.

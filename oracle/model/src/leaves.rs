@@ -44,20 +44,32 @@ pub fn canonical(x: i64) -> u32 {
     x.rem_euclid(i64::from(Q)) as u32
 }
 
-pub fn digits(base: u32, parts: usize, a: u32) -> Vec<u32> {
+/// One step of the digit rule on a size: the remainder, and the size that goes on.
+pub fn step(base: u32, size: i64) -> (i64, i64) {
     let b = i64::from(base);
+    let mut rem = size % b;
+    if rem > b / 2 {
+        rem -= b;
+    }
+    (rem, (size - rem) / b)
+}
+
+pub fn digits(base: u32, parts: usize, a: u32) -> Vec<u32> {
     let sign = centre(a).signum();
     let mut size = centre(a).abs();
     (0..parts)
         .map(|_| {
-            let mut rem = size % b;
-            if rem > b / 2 {
-                rem -= b;
-            }
-            size = (size - rem) / b;
+            let (rem, next) = step(base, size);
+            size = next;
             canonical(sign * rem)
         })
         .collect()
+}
+
+/// Document 02, Item 9: "the whole rest with its sign", after digit 0.
+pub fn rest(base: u32, a: u32) -> u32 {
+    let (_, next) = step(base, centre(a).abs());
+    canonical(centre(a).signum() * next)
 }
 
 pub fn entry(word: u32) -> i64 {

@@ -1,6 +1,6 @@
 //! Document 02, Item 2: digits put together again, and the number of parts that a base needs.
 
-use crate::leaves::{below, centre, Q};
+use crate::leaves::{below, centre, step, Q};
 use crate::Answer;
 
 /// "Σ digit·b^i modulo Q", from the highest digit down.
@@ -11,15 +11,7 @@ pub fn recompose(base: u32, digits: &[u32]) -> u32 {
 
 /// What the digit rule has left of a value after so many parts.
 pub fn left(base: u32, parts: usize, a: u32) -> u64 {
-    let b = i64::from(base);
-    let mut size = centre(a).abs();
-    for _ in 0..parts {
-        let mut rem = size % b;
-        if rem > b / 2 {
-            rem -= b;
-        }
-        size = (size - rem) / b;
-    }
+    let size = (0..parts).fold(centre(a).abs(), |size, _| step(base, size).1);
     size.unsigned_abs()
 }
 

@@ -25,14 +25,18 @@ small x y a b h h′ e = omega arith
 norm-hi : (x n m : ℕ) → x ≤ 2048 * n → n ≤ m → m ≤ 256 → x ≤ 524288
 norm-hi x n m h h′ e = omega arith
 
+-- the upper half of the norm of two parts of few elements
+parts-hi : (x n : ℕ) → x ≤ 128 * n → n ≤ 64 → x ≤ 524288
+parts-hi x n h e = omega arith
+
 -- the upper half of a sum
 sum-hi : (r x y a b : ℕ) → r ≤ x + y + 1 → x ≤ a → y ≤ b → r ≤ a + b + 1
 sum-hi r x y a b h h′ e = omega arith
 
-digits-norm-requires : tie.Need-digits-norm-requires
-digits-norm-requires c κs =
+two-parts-norm-requires : tie.Need-two-parts-norm-requires
+two-parts-norm-requires c κs =
     let w = c .before .before .before .pre in
-    (received-room w 4 (c .of-transcript .result) (omega arith) (c .of-transcript .ensures), w .sized .within .b .0, omega arith, few _ 64 (w .sized .within .n .1) (omega arith))
+    (received-room w 4 (c .of-transcript .result) (omega arith) (c .of-transcript .ensures), w .sized .within .b .0, few _ 64 (w .sized .within .n .1) (omega arith))
 
 mul-digits-norm : tie.Need-mul-digits-norm
 mul-digits-norm c =
@@ -40,23 +44,23 @@ mul-digits-norm c =
     let w = c .before .before .before .before .before .before .pre in
     omega (arith, product-small (s .p .multiplicity) (s .p .kappa) (w .sized .within .r .1) (w .sized .within .κ .1))
 
-digits-norm-requires-2 : tie.Need-digits-norm-requires-2
-digits-norm-requires-2 c κs =
+digits-norm-requires : tie.Need-digits-norm-requires
+digits-norm-requires c κs =
     let s = c .before .before .before .before .before .before .args in
     let w = c .before .before .before .before .before .before .pre in
     let o = c .before .of-transcript2 in
     (received-room w 5 (o .result) (omega arith) (o .ensures), w .sized .within .b .0, w .sized .within .t₁ .1, few _ 256 (product-small (s .p .multiplicity) (s .p .kappa) (w .sized .within .r .1) (w .sized .within .κ .1)) (omega arith))
 
-digits-norm-requires-3 : tie.Need-digits-norm-requires-3
-digits-norm-requires-3 c κs =
+digits-norm-requires-2 : tie.Need-digits-norm-requires-2
+digits-norm-requires-2 c κs =
     let s = c .before .before .before .before .before .before .before .before .args in
     let w = c .before .before .before .before .before .before .before .before .pre in
     let t = c .before .before .before .before .before .before .triangle in
     let o = c .of-transcript3 in
     (subst (λ n. o .result + 64 * n ≤ length (s .transcript .now)) (sym (t .ensures .0)) (received-room w 6 (o .result) (omega arith) (o .ensures)), w .sized .within .b .0, w .sized .within .t₂ .1, few (t .result) 136 (t .ensures .1) (omega arith))
 
-digits-norm-requires-4 : tie.Need-digits-norm-requires-4
-digits-norm-requires-4 c κs =
+digits-norm-requires-3 : tie.Need-digits-norm-requires-3
+digits-norm-requires-3 c κs =
     let s = c .before .before .before .before .before .before .before .before .before .before .args in
     let w = c .before .before .before .before .before .before .before .before .before .before .pre in
     let t = c .before .before .before .before .before .before .before .before .triangle in
@@ -64,36 +68,36 @@ digits-norm-requires-4 c κs =
     (subst (λ n. o .result + 64 * n ≤ length (s .transcript .now)) (sym (t .ensures .0)) (received-room w 7 (o .result) (omega arith) (o .ensures)), w .sized .within .b .0, w .sized .within .t₁ .1, few (t .result) 136 (t .ensures .1) (omega arith))
 
 -- the upper halves of the four norms
-z-hi : (c : tie.After-digits-norm4) → c .before .before .before .before .before .before .before .digits-norm .result .hi ≤ 524288
-z-hi c = norm-hi _ _ 64 (c .before .before .before .before .before .before .before .digits-norm .ensures .1) (c .before .before .before .before .before .before .before .before .before .before .before .pre .sized .within .n .1) (omega arith)
+z-hi : (c : tie.After-digits-norm3) → c .before .before .before .before .before .before .before .two-parts-norm .result .hi ≤ 524288
+z-hi c = parts-hi _ _ (c .before .before .before .before .before .before .before .two-parts-norm .ensures .1) (c .before .before .before .before .before .before .before .before .before .before .before .pre .sized .within .n .1)
 
-t-hi : (c : tie.After-digits-norm4) → c .before .before .before .before .digits-norm2 .result .hi ≤ 524288
+t-hi : (c : tie.After-digits-norm3) → c .before .before .before .before .digits-norm .result .hi ≤ 524288
 t-hi c =
     let s = c .before .before .before .before .before .before .before .before .before .before .before .args in
     let w = c .before .before .before .before .before .before .before .before .before .before .before .pre in
-    norm-hi _ _ 256 (c .before .before .before .before .digits-norm2 .ensures .1) (product-small (s .p .multiplicity) (s .p .kappa) (w .sized .within .r .1) (w .sized .within .κ .1)) (omega arith)
+    norm-hi _ _ 256 (c .before .before .before .before .digits-norm .ensures .1) (product-small (s .p .multiplicity) (s .p .kappa) (w .sized .within .r .1) (w .sized .within .κ .1)) (omega arith)
 
-g-hi : (c : tie.After-digits-norm4) → c .before .before .digits-norm3 .result .hi ≤ 524288
-g-hi c = norm-hi _ _ 136 (c .before .before .digits-norm3 .ensures .1) (c .before .before .before .before .before .before .before .before .before .triangle .ensures .1) (omega arith)
+g-hi : (c : tie.After-digits-norm3) → c .before .before .digits-norm2 .result .hi ≤ 524288
+g-hi c = norm-hi _ _ 136 (c .before .before .digits-norm2 .ensures .1) (c .before .before .before .before .before .before .before .before .before .triangle .ensures .1) (omega arith)
 
-h-hi : (c : tie.After-digits-norm4) → c .digits-norm4 .result .hi ≤ 524288
-h-hi c = norm-hi _ _ 136 (c .digits-norm4 .ensures .1) (c .before .before .before .before .before .before .before .before .before .triangle .ensures .1) (omega arith)
+h-hi : (c : tie.After-digits-norm3) → c .digits-norm3 .result .hi ≤ 524288
+h-hi c = norm-hi _ _ 136 (c .digits-norm3 .ensures .1) (c .before .before .before .before .before .before .before .before .before .triangle .ensures .1) (omega arith)
 
 -- the upper halves of the sums
 add-hi : (c : tie.After-add) → c .add .result .hi ≤ 1048577
-add-hi c = sum-hi (c .add .result .hi) (c .before .before .before .before .before .before .before .before .digits-norm .result .hi) (c .before .before .before .before .before .digits-norm2 .result .hi) 524288 524288 (c .add .ensures .1) (z-hi (c .before)) (t-hi (c .before))
+add-hi c = sum-hi (c .add .result .hi) (c .before .before .before .before .before .before .before .before .two-parts-norm .result .hi) (c .before .before .before .before .before .digits-norm .result .hi) 524288 524288 (c .add .ensures .1) (z-hi (c .before)) (t-hi (c .before))
 
 add2-hi : (c : tie.After-add2) → c .add2 .result .hi ≤ 1572866
-add2-hi c = sum-hi (c .add2 .result .hi) (c .before .add .result .hi) (c .before .before .before .before .digits-norm3 .result .hi) 1048577 524288 (c .add2 .ensures .1) (add-hi (c .before)) (g-hi (c .before .before))
+add2-hi c = sum-hi (c .add2 .result .hi) (c .before .add .result .hi) (c .before .before .before .before .digits-norm2 .result .hi) 1048577 524288 (c .add2 .ensures .1) (add-hi (c .before)) (g-hi (c .before .before))
 
 add-requires : tie.Need-add-requires
-add-requires c κs = small (c .before .before .before .before .before .before .before .digits-norm .result .hi) (c .before .before .before .before .digits-norm2 .result .hi) 524288 524288 (z-hi c) (t-hi c) (omega arith)
+add-requires c κs = small (c .before .before .before .before .before .before .before .two-parts-norm .result .hi) (c .before .before .before .before .digits-norm .result .hi) 524288 524288 (z-hi c) (t-hi c) (omega arith)
 
 add-requires-2 : tie.Need-add-requires-2
-add-requires-2 c κs = small (c .add .result .hi) (c .before .before .before .digits-norm3 .result .hi) 1048577 524288 (add-hi c) (g-hi (c .before)) (omega arith)
+add-requires-2 c κs = small (c .add .result .hi) (c .before .before .before .digits-norm2 .result .hi) 1048577 524288 (add-hi c) (g-hi (c .before)) (omega arith)
 
 add-requires-3 : tie.Need-add-requires-3
-add-requires-3 c κs = small (c .add2 .result .hi) (c .before .before .digits-norm4 .result .hi) 1572866 524288 (add2-hi c) (h-hi (c .before .before)) (omega arith)
+add-requires-3 c κs = small (c .add2 .result .hi) (c .before .before .digits-norm3 .result .hi) 1572866 524288 (add2-hi c) (h-hi (c .before .before)) (omega arith)
 
 -- 23, by what `at_most` answers
 found : (c : tie.After-at-most)
@@ -103,17 +107,17 @@ found : (c : tie.After-at-most)
 found c =
     let s = c .before .before .before .before .before .before .before .before .before .before .before .before .before .before .before .before .args in
     check-23-is (s .transcript .now) (s .p) (c .before .before .before .before .before .before .before .before .before .before .before .before .before .before .triangle .result) (c .before .before .before .before .before .before .before .before .before .before .before .before .before .of-transcript .result) (c .before .before .before .before .before .before .before .before .before .before .before .of-transcript2 .result) (c .before .before .before .before .before .before .before .before .of-transcript3 .result) (c .before .before .before .before .before .before .of-transcript4 .result)
-    (value128 (c .before .before .before .before .before .before .before .before .before .before .before .before .digits-norm .result)) (value128 (c .before .before .before .before .before .before .before .before .before .digits-norm2 .result)) (value128 (c .before .before .before .before .before .before .before .digits-norm3 .result)) (value128 (c .before .before .before .before .before .digits-norm4 .result))
+    (value128 (c .before .before .before .before .before .before .before .before .before .before .before .before .two-parts-norm .result)) (value128 (c .before .before .before .before .before .before .before .before .before .digits-norm .result)) (value128 (c .before .before .before .before .before .before .before .digits-norm2 .result)) (value128 (c .before .before .before .before .before .digits-norm3 .result))
     (record {
       size = c .before .before .before .before .before .before .before .before .before .before .before .before .before .before .triangle .ensures .0;
       z-place = c .before .before .before .before .before .before .before .before .before .before .before .before .before .of-transcript .ensures;
       t-place = c .before .before .before .before .before .before .before .before .before .before .before .of-transcript2 .ensures;
       g-place = c .before .before .before .before .before .before .before .before .of-transcript3 .ensures;
       h-place = c .before .before .before .before .before .before .of-transcript4 .ensures;
-      z-is = c .before .before .before .before .before .before .before .before .before .before .before .before .digits-norm .ensures .0;
-      t-is = c .before .before .before .before .before .before .before .before .before .digits-norm2 .ensures .0;
-      g-is = c .before .before .before .before .before .before .before .digits-norm3 .ensures .0;
-      h-is = c .before .before .before .before .before .digits-norm4 .ensures .0;
+      z-is = c .before .before .before .before .before .before .before .before .before .before .before .before .two-parts-norm .ensures .0;
+      t-is = c .before .before .before .before .before .before .before .before .before .digits-norm .ensures .0;
+      g-is = c .before .before .before .before .before .before .before .digits-norm2 .ensures .0;
+      h-is = c .before .before .before .before .before .digits-norm3 .ensures .0;
     })
     (value128 (c .before .before .before .before .add .result)) (value128 (c .before .before .before .add2 .result)) (value128 (c .before .before .add3 .result)) (value128 (s .p .«beta_prime_sq»)) (c .at-most .result)
     (c .before .before .before .before .add .ensures .0)
@@ -140,14 +144,14 @@ check-norm-sum-spec =
     (tie.spec
     (λ c κs. c .before .pre .sized .within .r .1)
     (λ c κs. (c .before .before .pre .sized, omega arith))
-    digits-norm-requires
+    two-parts-norm-requires
     (λ c κs. (c .before .before .before .before .pre .sized, omega arith))
     mul-digits-norm
-    digits-norm-requires-2
+    digits-norm-requires
     (λ c κs. (c .before .before .before .before .before .before .before .pre .sized, omega arith))
-    digits-norm-requires-3
+    digits-norm-requires-2
     (λ c κs. (c .before .before .before .before .before .before .before .before .before .pre .sized, omega arith))
-    digits-norm-requires-4
+    digits-norm-requires-3
     add-requires
     add-requires-2
     add-requires-3
