@@ -553,6 +553,7 @@ static int is_refused_range(labrador_ranges_answer a, uint32_t number, uint64_t 
 }
 
 static void test_ranges(void) {
+    make_job(1, 1);
     /* the first vector's ranges cross zero, the second's lie below it */
     for (int k = 0; k < NUMBERS; k++) {
         lows[k] = k < 128 ? -2 : -5;
