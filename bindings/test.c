@@ -348,7 +348,7 @@ static void test_challenge(void) {
 }
 
 /* The buffers of a small load (n 2, r 2, kappa and L 4). */
-enum { JOB = 16384, RANDOMNESS = 131072, WITNESS = 512, SCRATCH = 65536, OUTPUT = 4096, MARK = 0x5a5a5a5a };
+enum { JOB = 262144, RANDOMNESS = 131072, WITNESS = 512, SCRATCH = 65536, OUTPUT = 4096, MARK = 0x5a5a5a5a };
 
 static uint32_t job[JOB], randomness[RANDOMNESS], witness[WITNESS], scratch[SCRATCH], output[OUTPUT], joined[OUTPUT];
 static size_t job_length, randomness_length, witness_length, ends[8];
@@ -391,6 +391,50 @@ static const load_vector loads[3] = {
 /* Two words from a place on, and the last two of so many. */
 static int has_words(const uint32_t *words, size_t first, size_t length, const uint32_t expected[4]) {
     return same(words + first, expected, 2) && same(words + length - 2, expected + 2, 2);
+}
+
+/* Whole loads as document 02's model makes them (`harness load-sums` of oracle/ prints these rows): sizes, seed, and the words of job, witness
+   and randomness in one number each. */
+static const struct {
+    labrador_parameters sizes;
+    uint32_t seed;
+    uint64_t job, witness, randomness;
+} recorded_loads[16] = {
+    {{2, 1, 5, 2, 1, 1, 1, 28, 340707, 1, 32}, 0u, 0xabe53046dc704927u, 0x2da65aee9f69df69u, 0x331815fd75041818u},
+    {{1, 2, 5, 1, 3, 1, 2, 26, 408743, 2, 1}, 1u, 0x49a1bdbf29f19635u, 0x55285fe9f45493c1u, 0xcf943b6a11ee9e5au},
+    {{1, 1, 4, 2, 1, 64, 3, 32, 681352, 32, 32}, 4294967295u, 0x86430177b4cf25f3u, 0x2939b506f53ec3adu, 0x37a48d73a1e249dau},
+    {{1, 2, 7, 1, 2, 0, 4, 20, 982458, 3, 3}, 2718133106u, 0xb2035c20f6d7d832u, 0x37f43b8a9b7b94c0u, 0x1754e717c88167feu},
+    {{1, 2, 5, 2, 2, 5, 1, 26, 925536, 3, 2}, 0u, 0x3f866222285e54a1u, 0x057dbab9fa2ac790u, 0x29e850a70d7aaa32u},
+    {{2, 2, 5, 2, 2, 1, 1, 26, 793379, 32, 1}, 1u, 0xfd41ed160286cd32u, 0xa177259b3f1c5a1bu, 0xf7daad2fc8dd3013u},
+    {{1, 1, 5, 1, 3, 64, 1, 31, 174998, 1, 32}, 4294967295u, 0xb2c6bf78780cf694u, 0xe974ebdf1f3106e2u, 0x28acd10d6b177c9fu},
+    {{1, 2, 8, 2, 1, 0, 1, 16, 184568, 3, 2}, 2289652585u, 0x375340c90c5fda29u, 0x1892bec7875162e3u, 0x91fc3aaeeaff208fu},
+    {{2, 1, 5, 2, 1, 6, 64, 27, 382509, 3, 32}, 0u, 0x58099d6829e3312du, 0x7573a9623f023a85u, 0xd6615a6b147f071bu},
+    {{1, 1, 5, 3, 1, 1, 64, 26, 833742, 2, 2}, 1u, 0xfdc501a378ca9f28u, 0x99cfa41065e04427u, 0x7ba8902083ee51dfu},
+    {{1, 1, 5, 2, 2, 64, 64, 26, 646631, 2, 1}, 4294967295u, 0x713729549127e8aeu, 0x72c4e9d93703d402u, 0xb7f60c353dec695cu},
+    {{1, 1, 8, 3, 2, 0, 64, 16, 40806, 3, 3}, 1303512618u, 0xd2fc1dec8385eb03u, 0x9650458c23ecbf4bu, 0xb59f2a5c5cbabbf1u},
+    {{2, 2, 6, 2, 3, 4, 0, 25, 212531, 32, 3}, 0u, 0xb7a37369f8d32773u, 0xc819af702264e25bu, 0x32a25fe5e3131119u},
+    {{1, 2, 7, 1, 3, 1, 0, 21, 709273, 1, 2}, 1u, 0x1981573bf1160d71u, 0x0f5be80513039be7u, 0x709cb4c524a2499du},
+    {{1, 2, 8, 3, 2, 64, 0, 18, 354229, 1, 32}, 4294967295u, 0xffafe9de5c40b29eu, 0x3ca9d911046b4193u, 0xf1181141f7daad0au},
+    {{2, 2, 5, 2, 3, 0, 1, 30, 515605, 32, 32}, 410574068u, 0x838bdc157134ab5fu, 0xc44aaad8b682a654u, 0x143d59f33bab96b6u},
+};
+
+/* Words in one number: FNV-1a, a word at a time. */
+static uint64_t sum_of(const uint32_t *words, size_t count) {
+    uint64_t h = 14695981039346656037u;
+    for (size_t k = 0; k < count; k++) h = (h ^ words[k]) * 1099511628211u;
+    return h;
+}
+
+static void test_recorded_loads(void) {
+    for (int k = 0; k < 16; k++) {
+        labrador_parameters sizes = recorded_loads[k].sizes;
+        labrador_load_need need = labrador_load_needs(sizes);
+        labrador_answer a = labrador_load(sizes, recorded_loads[k].seed, job, JOB, witness, WITNESS, randomness, RANDOMNESS);
+        CHECK(a.number == 0 && a.place == 0);
+        CHECK(sum_of(job, need.job) == recorded_loads[k].job);
+        CHECK(sum_of(witness, need.witness) == recorded_loads[k].witness);
+        CHECK(sum_of(randomness, need.randomness) == recorded_loads[k].randomness);
+    }
 }
 
 static void test_loads(void) {
@@ -605,6 +649,7 @@ int main(void) {
     test_rows();
     test_challenge();
     test_loads();
+    test_recorded_loads();
     test_calls();
     test_one_kind();
     test_ranges();

@@ -69,6 +69,30 @@ fn lengths_of(context: &mut Context, words: [u32; 11]) {
     context.tally.compare(NEEDS, &found, &expected, || format!("{words:?}"));
 }
 
+/// Words in one number: FNV-1a, a word at a time.
+fn sum(words: &[u32]) -> u64 {
+    let step = |h: u64, &w: &u32| (h ^ u64::from(w)).wrapping_mul(1099511628211);
+    words.iter().fold(14695981039346656037, step)
+}
+
+/// The model's loads of sixteen parameter sets as rows of `bindings/test.c`: the parameters, the seed, and each slice's words in one number.
+pub fn print_sums() {
+    for i in 0..16 {
+        let mut random = Random::new(i);
+        let words = eleven(&mut random, i as usize);
+        let words = [words[0].min(2), words[1].min(2)].iter().chain(&words[2..]).copied().collect::<Vec<_>>();
+        let words: [u32; 11] = words.try_into().expect("eleven words");
+        let seed = [0, 1, 4294967295, random.word()][i as usize % 4];
+        let lengths = needs(words).expect("parameters within their limits");
+        let Ok(made) = load(words, seed, lengths) else {
+            panic!("the buffers are long enough");
+        };
+        let listed = words.map(|w| w.to_string()).join(", ");
+        let sums = [made.job, made.witness, made.randomness].map(|words| format!("{:#018x}u", sum(&words)));
+        println!("    {{{{{listed}}}, {seed}u, {}}},", sums.join(", "));
+    }
+}
+
 /// `count` parameter sets, each whole, with longer buffers, with each buffer one word short, and with parameters outside their limits.
 pub fn all(context: &mut Context, random: &mut Random, count: usize) {
     for number in [0, 2, 4, 5] {
