@@ -639,6 +639,75 @@ static void test_ranges(void) {
     job[3] = 4;
 }
 
+/* Calls on ranges as document 02's model answers them (`harness range-sums` of oracle/ prints these rows): A's bound in three words, the answer's
+   number and place, and all its numbers in one. */
+static const struct {
+    uint32_t bound[3], number;
+    uint64_t place, sum;
+} recorded_ranges[16] = {
+    {{263u, 0u, 0u}, 0, 0, 0x738f47e258233364u},
+    {{98912u, 0u, 0u}, 0, 0, 0x4523f0692cedd81fu},
+    {{760617791u, 5u, 0u}, 0, 0, 0x67c40651d184e20cu},
+    {{2099780352u, 2348645966u, 2u}, 0, 0, 0xeb190de0ba4ea1b4u},
+    {{584u, 0u, 0u}, 0, 0, 0xba8bdcb1d0010c05u},
+    {{84283u, 0u, 0u}, 0, 0, 0x87474d2eaf8a3597u},
+    {{2572484242u, 5u, 0u}, 0, 0, 0x0f4233357d8381c5u},
+    {{3133193778u, 2917838651u, 2u}, 0, 0, 0xc39ce9542ba084fdu},
+    {{96u, 0u, 0u}, 0, 0, 0x66adc66c43848089u},
+    {{46331u, 0u, 0u}, 0, 0, 0x03660d71b060dfc4u},
+    {{3423152016u, 4u, 0u}, 0, 0, 0xffa710ff05bd0c77u},
+    {{1747010309u, 2143176549u, 2u}, 0, 0, 0x14ffc7ee4cebf464u},
+    {{0u, 0u, 0u}, 36, 5, 0x5363fd93156bd70cu},
+    {{0u, 0u, 0u}, 37, 6, 0x0a7a8e2a1cc88cf6u},
+    {{0u, 0u, 0u}, 11, 191, 0xa4c6d335c16b4989u},
+    {{0u, 0u, 0u}, 11, 128, 0x5b483aa143f3ac8eu},
+};
+
+static int64_t many_lows[385], many_highs[385];
+
+/* The lows and highs of a recorded case: ranges about zero, narrow and wide; the last four with a fault. */
+static void make_ranges(uint32_t k, size_t count, size_t *lows_length, size_t *highs_length) {
+    const int64_t spreads[4] = {7, 100, 65536, 2000000000}, widths[4] = {1, 5, 1000, 147483647};
+    const int64_t spread = spreads[k % 4], width = widths[k / 4];
+    uint32_t state = 100 + k;
+    for (size_t i = 0; i < count; i++) {
+        state = state * 1664525u + 1013904223u;
+        many_lows[i] = (int64_t)state % spread - spread / 2;
+        state = state * 1664525u + 1013904223u;
+        many_highs[i] = many_lows[i] + (int64_t)state % width;
+    }
+    if (k == 12) many_lows[5] = many_highs[5] + 1;
+    if (k == 13) many_lows[6] = -2147483648;
+    many_highs[count] = 0;
+    *lows_length = k == 14 ? count - 1 : count;
+    *highs_length = k == 15 ? count + 1 : count;
+}
+
+/* A number more in a sum, as two words. */
+static uint64_t sum_with(uint64_t sum, uint64_t x) {
+    sum = (sum ^ (x & 0xffffffffu)) * 1099511628211u;
+    return (sum ^ (x >> 32)) * 1099511628211u;
+}
+
+static void test_recorded_ranges(void) {
+    for (uint32_t k = 0; k < 16; k++) {
+        const labrador_parameters sizes = {1 + k % 2, 1 + k % 3, 4, 1, 1, 1, 1, 32, 256, 4, 4};
+        size_t job_words = labrador_load_needs(sizes).job, lows_length, highs_length;
+        labrador_load(sizes, k, job, JOB, witness, WITNESS, randomness, RANDOMNESS);
+        memcpy(job + 18, recorded_ranges[k].bound, sizeof recorded_ranges[k].bound);
+        make_ranges(k, 64 * sizes.n * sizes.r, &lows_length, &highs_length);
+        labrador_ranges_answer a = labrador_ranges(job, job_words, many_lows, lows_length, many_highs, highs_length);
+        uint64_t sum = sum_with(sum_with(14695981039346656037u, a.number), a.place);
+        for (int i = 0; i < 16; i++) {
+            labrador_range_norms v = a.vectors[i];
+            sum = sum_with(sum, v.meets);
+            sum = sum_with(sum_with(sum, v.least_hi), v.least_lo);
+            sum = sum_with(sum_with(sum, v.greatest_hi), v.greatest_lo);
+        }
+        CHECK(a.number == recorded_ranges[k].number && a.place == recorded_ranges[k].place && sum == recorded_ranges[k].sum);
+    }
+}
+
 int main(void) {
     test_numbers();
     test_digits();
@@ -653,6 +722,7 @@ int main(void) {
     test_calls();
     test_one_kind();
     test_ranges();
+    test_recorded_ranges();
     if (failures > 0) {
         printf("%d of %d checks failed\n", failures, checks);
         return EXIT_FAILURE;

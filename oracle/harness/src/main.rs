@@ -1,7 +1,7 @@
 //! Runs the published Rust, the model of document 01 and the proved library on the same cases.
 //!
 //! `harness compare SEED COUNT [largest]` compares, on COUNT random instances beside the fixed families.
-//! `harness load-sums` prints the rows of whole test loads that `bindings/test.c` has.
+//! `harness load-sums` and `harness range-sums` print the rows of whole test loads and of calls on ranges that `bindings/test.c` has.
 //! `harness record FOLDER` writes the recorded answers. `harness replay FOLDER` reads them back and compares them with
 //! the model, and with the library where it is linked.
 //! Each prints a tally, and fails where anything differs, an answer never occurs or a comparison is never made.
@@ -26,9 +26,13 @@ fn main() -> ExitCode {
             loads::print_sums();
             true
         }
+        ["range-sums"] => {
+            ranges::print_sums();
+            true
+        }
         ["record", folder] => record(Path::new(folder)),
         ["replay", folder] => replay::replay(Path::new(folder)),
-        _ => panic!("usage: harness compare SEED COUNT [largest] | load-sums | record FOLDER | replay FOLDER"),
+        _ => panic!("usage: harness compare SEED COUNT [largest] | load-sums | range-sums | record FOLDER | replay FOLDER"),
     };
     if good {
         ExitCode::SUCCESS

@@ -250,3 +250,63 @@ fn one(tally: &mut Tally, random: &mut Random, parameters: Parameters, width: Wi
         unfit_jobs(tally, &job, &lows, &highs);
     }
 }
+
+/// The job of recorded case k: a load whose A's bound is put in after.
+fn recorded_job(k: u32) -> Vec<u32> {
+    let sizes = [1 + k % 2, 1 + k % 3, 4, 1, 1, 1, 1, 32, 256, 4, 4];
+    let lengths = model::load::needs(sizes).expect("parameters within their limits");
+    model::load::load(sizes, k, lengths).ok().expect("the buffers are long enough").job
+}
+
+/// The lows and highs of recorded case k: ranges about zero, narrow and wide; the last four with a fault.
+fn recorded_ranges(k: u32, count: usize) -> (Vec<i64>, Vec<i64>) {
+    let spread = [7, 100, 65536, 2000000000][k as usize % 4];
+    let width = [1, 5, 1000, 147483647][k as usize / 4];
+    let mut state = 100 + k;
+    let mut next = || {
+        state = state.wrapping_mul(1664525).wrapping_add(1013904223);
+        i64::from(state)
+    };
+    let (mut lows, mut highs): (Vec<i64>, Vec<i64>) = (0..count)
+        .map(|_| {
+            let low = next() % spread - spread / 2;
+            (low, low + next() % width)
+        })
+        .unzip();
+    match k {
+        12 => lows[5] = highs[5] + 1,
+        13 => lows[6] = -2147483648,
+        14 => lows.truncate(count - 1),
+        15 => highs.push(0),
+        _ => {}
+    }
+    (lows, highs)
+}
+
+/// The model's answers to sixteen cases as rows of `bindings/test.c`: A's bound in three words, and the answer's numbers in one.
+pub fn print_sums() {
+    for k in 0..16 {
+        let mut job = recorded_job(k);
+        let count = 64 * job[1] as usize * job[2] as usize;
+        let (lows, highs) = recorded_ranges(k, count);
+        let first = ranges(&job, &lows, &highs).vectors[0];
+        let bound = [first.least, first.greatest, first.least.saturating_sub(1)][k as usize % 3];
+        let words = [bound as u32, (bound >> 32) as u32, (bound >> 64) as u32];
+        job[18..21].copy_from_slice(&words);
+        let told = ranges(&job, &lows, &highs);
+        let mut sum = 14695981039346656037_u64;
+        let mut add = |x: u64| {
+            for half in [x & 0xffff_ffff, x >> 32] {
+                sum = (sum ^ half).wrapping_mul(1099511628211);
+            }
+        };
+        add(u64::from(told.number));
+        add(told.place);
+        for v in told.vectors {
+            let halves = |x: u128| [(x >> 64) as u64, x as u64];
+            add(u64::from(v.meets));
+            [v.least, v.greatest].into_iter().flat_map(halves).for_each(&mut add);
+        }
+        println!("    {{{{{}u, {}u, {}u}}, {}, {}, {sum:#018x}u}},", words[0], words[1], words[2], told.number, told.place);
+    }
+}
