@@ -1,5 +1,6 @@
 // A number below the product of the three primes, from its remainders, modulo Q.
 use ntt_layers::fold;
+use zq::wide::wide;
 ghost use mathlib.Core.Path.{_≡_};
 ghost use Prim.Native.Nat.{_<_};
 ghost use Rattle.fast_product.specs.Join.{joinOf, joinedOf, Remainders};
@@ -25,9 +26,9 @@ pub fn join_all(first: [u32; 64], second: [u32; 64], third: [u32; 64]) -> [u32; 
     let mut out = [0u32; 64];
     for k in 0..64 {
         out[k] = join(
-            fold::wide(first[k]),
-            fold::wide(second[k]),
-            fold::wide(third[k]),
+            wide(first[k]),
+            wide(second[k]),
+            wide(third[k]),
         ) as u32;
     }
     out

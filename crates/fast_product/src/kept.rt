@@ -1,8 +1,8 @@
 // Transforms that are kept: an inner product of up to 64 elements is a sum of products of their values, with one way back.
 use crate::join;
 use ntt::transforms;
-use ntt_layers::fold;
 use ntt_layers::words;
+use zq::wide::wide;
 ghost use mathlib.Core.Path.{_≡_};
 ghost use lib.ListN.{replicate};
 ghost use Rattle.ntt.specs.Roots.{twiddleTable};
@@ -54,7 +54,7 @@ pub fn add_values(s: [u64; 64], x: [u32; 64], y: [u32; 64]) -> [u64; 64]
 {
     let mut out = [0u64; 64];
     for k in 0..64 {
-        out[k] = s[k] + fold::wide(x[k]) * fold::wide(y[k]);
+        out[k] = s[k] + wide(x[k]) * wide(y[k]);
     }
     out
 }

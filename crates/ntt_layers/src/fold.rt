@@ -8,13 +8,6 @@ pub const RADIX: u64 = 134217728;
 
 pub const WORD: u64 = 4294967296;
 
-// A word as a u64.
-pub fn wide(x: u32) -> u64
-    ensures { λ r. ⌜ (r ≡ x) × (r < 2 ^ 32) ⌝ }
-{
-    x as u64
-}
-
 // The part from bit 27 on times d, and the part below.
 pub fn fold(z: u64, d: u64) -> u64
     requires { ⌜ (z < 2 ^ 59) × (d ≤ 2175) ⌝ }

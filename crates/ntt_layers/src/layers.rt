@@ -1,5 +1,6 @@
 // One layer of the transform, and one undone.
 use crate::fold;
+use zq::wide::wide;
 ghost use mathlib.Core.Path.{_≡_};
 ghost use Rattle.ntt_layers.specs.Layer.{LayerFits, UndoFits, layerOf, undoOf};
 
@@ -10,8 +11,8 @@ pub fn layer(x: [u32; 64], w: &[u32], at: usize, d: u64) -> [u32; 64]
 {
     let mut out = [0u32; 64];
     for t in 0..32 {
-        let u = fold::wide(x[t]);
-        let v = fold::reduce(fold::wide(w[at + t]) * fold::wide(x[t + 32]), d);
+        let u = wide(x[t]);
+        let v = fold::reduce(wide(w[at + t]) * wide(x[t + 32]), d);
         out[2 * t] = (u + v) as u32;
         out[2 * t + 1] = (u + (3 * (fold::RADIX - d) - v)) as u32;
     }
@@ -25,9 +26,9 @@ pub fn undo(y: [u32; 64], w: &[u32], at: usize, d: u64) -> [u32; 64]
 {
     let mut out = [0u32; 64];
     for t in 0..32 {
-        let u = fold::wide(y[2 * t]);
-        let v = fold::wide(y[2 * t + 1]);
-        let turned = fold::wide(w[at + (31 - t)])
+        let u = wide(y[2 * t]);
+        let v = wide(y[2 * t + 1]);
+        let turned = wide(w[at + (31 - t)])
             * ((v + (3 * (fold::RADIX - d) - u)) % fold::WORD);
         out[t] = fold::fold(u + v, d) as u32;
         out[t + 32] = fold::reduce(turned, d) as u32;

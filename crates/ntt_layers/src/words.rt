@@ -1,5 +1,6 @@
 // Entry by entry: words folded, sums reduced, and remainders of a multiple.
 use crate::fold;
+use zq::wide::wide;
 ghost use mathlib.Core.Path.{_≡_};
 ghost use Prim.Native.Nat.{_≤_, _<_};
 ghost use Rattle.ntt_layers.specs.Words.{Small, foldedOf, reducedOf, remaindersOf};
@@ -11,7 +12,7 @@ pub fn fold_words(x: [u32; 64], d: u64) -> [u32; 64]
 {
     let mut out = [0u32; 64];
     for k in 0..64 {
-        out[k] = fold::fold(fold::wide(x[k]), d) as u32;
+        out[k] = fold::fold(wide(x[k]), d) as u32;
     }
     out
 }
@@ -36,7 +37,7 @@ pub fn remainders(x: [u32; 64], factor: u64, offset: u64, d: u64) -> [u32; 64]
 {
     let mut out = [0u32; 64];
     for k in 0..64 {
-        out[k] = fold::remainder(fold::wide(x[k]) * factor + offset, d) as u32;
+        out[k] = fold::remainder(wide(x[k]) * factor + offset, d) as u32;
     }
     out
 }
