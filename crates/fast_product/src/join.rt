@@ -25,11 +25,7 @@ pub fn join_all(first: [u32; 64], second: [u32; 64], third: [u32; 64]) -> [u32; 
 {
     let mut out = [0u32; 64];
     for k in 0..64 {
-        out[k] = join(
-            wide(first[k]),
-            wide(second[k]),
-            wide(third[k]),
-        ) as u32;
+        out[k] = join(wide(first[k]), wide(second[k]), wide(third[k])) as u32;
     }
     out
 }

@@ -28,8 +28,7 @@ pub fn undo(y: [u32; 64], w: &[u32], at: usize, d: u64) -> [u32; 64]
     for t in 0..32 {
         let u = wide(y[2 * t]);
         let v = wide(y[2 * t + 1]);
-        let turned = wide(w[at + (31 - t)])
-            * ((v + (3 * (fold::RADIX - d) - u)) % fold::WORD);
+        let turned = wide(w[at + (31 - t)]) * ((v + (3 * (fold::RADIX - d) - u)) % fold::WORD);
         out[t] = fold::fold(u + v, d) as u32;
         out[t + 32] = fold::reduce(turned, d) as u32;
     }
