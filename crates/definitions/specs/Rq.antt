@@ -8,7 +8,7 @@ use lib.ListN.{length, getD}
 use Rattle.lists.specs.Table.{table, padded}
 use Rattle.lists.specs.Sum.{Σ}
 use Rattle.definitions.specs.Zq.{Canonical, zadd, zsub, zneg, zmul}
-use Rattle.definitions.specs.Digits.{digit, rest}
+use Rattle.definitions.specs.Digits.{digit, leftover, rest}
 
 -- the coefficient of X^k
 abbrev pub coeff : List ℕ → ℕ → ℕ
@@ -61,6 +61,10 @@ rconj a = table 64 (conjCoeff a)
 -- row k of an element's digits: digit k of each coefficient
 unfoldable pub digitRow : ℕ → List ℕ → ℕ → List ℕ
 digitRow b a k = table 64 (λ j. digit b (coeff a j) k)
+
+-- document 02, Item 5: "for one element a call beside it gives the 64 sizes" left over after a number of parts
+unfoldable pub leftRow : ℕ → ℕ → List ℕ → List ℕ
+leftRow b parts a = table 64 (λ j. leftover b parts (coeff a j))
 
 -- the rest of each coefficient after its digit 0
 unfoldable pub restRow : ℕ → List ℕ → List ℕ

@@ -7,6 +7,7 @@ pub mod First
 pub mod Sections
 pub mod Flat
 pub mod Norms
+pub mod CellsLeft
 pub mod Relations
 pub mod ChecksAreConditions
 pub mod Corollary
