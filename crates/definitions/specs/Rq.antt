@@ -1,8 +1,9 @@
 -- Ring elements (document 01, "What a call is handed" and "Leaves"): lists of words, coefficient of X^0 first.
 use mathlib.Core.Path.{_≡_}
-use mathlib.Core.Bool.{cond}
-use mathlib.Core.List.{List}
+use mathlib.Core.Bool.{Bool, cond, decide}
+use mathlib.Core.List.{List, List-discrete}
 use Prim.Native.Nat.{ℕ, _+_, _-_, _*_, _<_}
+use native.Mathlib.Decide.{ℕ-discrete}
 use lib.Dec.{eqb}
 use lib.ListN.{length, getD}
 use Rattle.lists.specs.Table.{table, padded}
@@ -25,6 +26,10 @@ Element = (a : List ℕ) × ((length a ≡ 64) × AllCanonical a)
 -- 0
 unfoldable pub rzero : List ℕ
 rzero = table 64 (λ k. 0)
+
+-- whether all 64 words are 0
+unfoldable pub isZero : List ℕ → Bool
+isZero a = decide (List-discrete ℕ-discrete a rzero)
 
 -- the sum of two elements
 unfoldable pub radd : List ℕ → List ℕ → List ℕ

@@ -14,7 +14,7 @@ use Rattle.lists.proofs.Sum.{Σ-ext, Σ-zero, Σ-const, Σ-triangle, Σ-le, Σ-
 use Rattle.lists.proofs.Additive.{Additive, additive-cat, additive-table, additive-flatMap}
 use Rattle.definitions.specs.Digits.{leftover}
 use Rattle.definitions.specs.Recompose.{Enough, PartsNeeded}
-use Rattle.definitions.specs.Rq.{Element, coeff, rzero, leftRow}
+use Rattle.definitions.specs.Rq.{Element, coeff, rzero, isZero, leftRow}
 use Rattle.definitions.specs.Ring.{words}
 use Rattle.definitions.proofs.Bridge.{coeff-canonical}
 use Rattle.definitions.proofs.Recompose.{recompose-iff, enough-more}
@@ -45,6 +45,18 @@ count-of-table b parts n f =
     additive-table (count-left b parts) (count-additive b parts) n f
     ∙ Σ-ext n (λ m. count-left b parts (f m ∷ [])) (λ m. one-if-left b parts (f m)) (λ m h. count-of-one b parts (f m))
 
+-- a cell counts 1 at most
+one-at-most : (b parts : ℕ) (e : Element) → one-if-left b parts e ≤ 1
+one-at-most b parts e = by (nothing-left b parts e)
+  where
+    by : (t : Bool) → cond t 0 1 ≤ 1
+    by true = omega arith
+    by false = omega arith
+
+-- a table of n cells counts n at most
+pub count-at-most : (b parts n : ℕ) (f : ℕ → Element) → count-left b parts (table n f) ≤ n
+count-at-most b parts n f = omega (arith, count-of-table b parts n f, Σ-bound n 1 (λ m. one-if-left b parts (f m)) (λ m h. one-at-most b parts (f m)))
+
 -- of tables of cells joined
 count-of-tables : (b parts n : ℕ) (w : ℕ → ℕ) (f : ℕ → ℕ → Element) → count-left b parts (cat n (λ i. table (w i) (f i))) ≡ Σ n (λ i. Σ (w i) (λ k. one-if-left b parts (f i k)))
 count-of-tables b parts n w f =
@@ -61,17 +73,9 @@ count-of-triangle : (b parts r : ℕ) (f : ℕ → ℕ → Element) → count-le
 unfolding triangle
 count-of-triangle b parts r f = count-of-tables b parts r (λ i. i + 1) f
 
--- a cell counts 1 at most
-one-at-most : (b parts : ℕ) (e : Element) → one-if-left b parts e ≤ 1
-one-at-most b parts e = by (nothing-left b parts e)
-  where
-    by : (t : Bool) → cond t 0 1 ≤ 1
-    by true = omega arith
-    by false = omega arith
-
 -- a cell counts 0 exactly when all its coefficients come back from their digits
 none-left : (b parts : ℕ) (e : Element) → 0 < b → (one-if-left b parts e ≡ 0) ↔ Back b parts e
-unfolding nothing-left leftRow rzero decide
+unfolding nothing-left isZero leftRow rzero decide
 none-left b parts e p = (λ z. back (List-discrete ℕ-discrete (leftRow b parts (words e)) rzero) z, λ all. zeros (List-discrete ℕ-discrete (leftRow b parts (words e)) rzero) all)
   where
     back : (d : Dec (leftRow b parts (words e) ≡ rzero)) → _≡_ {A = ℕ} (cond (decide d) 0 1) 0 → Back b parts e

@@ -1,15 +1,14 @@
 -- What the prover works out (document 01, the section of that name), from the public values X and the witness s.
-use mathlib.Core.Bool.{Bool, decide, cond}
-use mathlib.Core.List.{List, [], _∷_, flatMap, List-discrete}
+use mathlib.Core.Bool.{Bool, cond}
+use mathlib.Core.List.{List, [], _∷_, flatMap}
 use Prim.Native.Nat.{ℕ, _+_, _*_, _/_, _%_}
-use native.Mathlib.Decide.{ℕ-discrete}
 use lib.ListN.{length, getD}
 use Rattle.lists.specs.Table.{table, cat}
 use Rattle.lists.specs.Sum.{Σ}
 use Rattle.algebra.specs.Ops as Ops
 use Rattle.definitions.specs.Zq.{Q}
 use Rattle.definitions.specs.Norm.{norm}
-use Rattle.definitions.specs.Rq.{Element, coeff, rzero, digitRow, leftRow, restRow}
+use Rattle.definitions.specs.Rq.{Element, coeff, isZero, digitRow, leftRow, restRow}
 use Rattle.definitions.specs.Ring.{RqOps, words, element, scale, conj}
 use Rattle.protocol.specs.Parameters.{Parameters}
 use Rattle.protocol.specs.Views.{Public}
@@ -62,7 +61,7 @@ digits-of b parts = flatMap (λ e. table parts (digit-element b e))
 
 -- document 02, Item 5: whether no coefficient of a cell has something left after a number of parts
 unfoldable pub nothing-left : ℕ → ℕ → Element → Bool
-nothing-left b parts e = decide (List-discrete ℕ-discrete (leftRow b parts (words e)) rzero)
+nothing-left b parts e = isZero (leftRow b parts (words e))
 
 -- how many of the cells "have a coefficient with something left"
 unfoldable pub count-left : ℕ → ℕ → List Element → ℕ

@@ -71,33 +71,33 @@ digits-norm-requires-3 c κs =
 z-hi : (c : tie.After-digits-norm3) → c .before .before .before .before .before .before .before .two-parts-norm .result .hi ≤ 524288
 z-hi c = parts-hi _ _ (c .before .before .before .before .before .before .before .two-parts-norm .ensures .1) (c .before .before .before .before .before .before .before .before .before .before .before .pre .sized .within .n .1)
 
-t-hi : (c : tie.After-digits-norm3) → c .before .before .before .before .digits-norm .result .hi ≤ 524288
+t-hi : (c : tie.After-digits-norm3) → c .before .before .before .before .digits-norm .result .norm .hi ≤ 524288
 t-hi c =
     let s = c .before .before .before .before .before .before .before .before .before .before .before .args in
     let w = c .before .before .before .before .before .before .before .before .before .before .before .pre in
-    norm-hi _ _ 256 (c .before .before .before .before .digits-norm .ensures .1) (product-small (s .p .multiplicity) (s .p .kappa) (w .sized .within .r .1) (w .sized .within .κ .1)) (omega arith)
+    norm-hi _ _ 256 (c .before .before .before .before .digits-norm .ensures .0 .1) (product-small (s .p .multiplicity) (s .p .kappa) (w .sized .within .r .1) (w .sized .within .κ .1)) (omega arith)
 
-g-hi : (c : tie.After-digits-norm3) → c .before .before .digits-norm2 .result .hi ≤ 524288
-g-hi c = norm-hi _ _ 136 (c .before .before .digits-norm2 .ensures .1) (c .before .before .before .before .before .before .before .before .before .triangle .ensures .1) (omega arith)
+g-hi : (c : tie.After-digits-norm3) → c .before .before .digits-norm2 .result .norm .hi ≤ 524288
+g-hi c = norm-hi _ _ 136 (c .before .before .digits-norm2 .ensures .0 .1) (c .before .before .before .before .before .before .before .before .before .triangle .ensures .1) (omega arith)
 
-h-hi : (c : tie.After-digits-norm3) → c .digits-norm3 .result .hi ≤ 524288
-h-hi c = norm-hi _ _ 136 (c .digits-norm3 .ensures .1) (c .before .before .before .before .before .before .before .before .before .triangle .ensures .1) (omega arith)
+h-hi : (c : tie.After-digits-norm3) → c .digits-norm3 .result .norm .hi ≤ 524288
+h-hi c = norm-hi _ _ 136 (c .digits-norm3 .ensures .0 .1) (c .before .before .before .before .before .before .before .before .before .triangle .ensures .1) (omega arith)
 
 -- the upper halves of the sums
 add-hi : (c : tie.After-add) → c .add .result .hi ≤ 1048577
-add-hi c = sum-hi (c .add .result .hi) (c .before .before .before .before .before .before .before .before .two-parts-norm .result .hi) (c .before .before .before .before .before .digits-norm .result .hi) 524288 524288 (c .add .ensures .1) (z-hi (c .before)) (t-hi (c .before))
+add-hi c = sum-hi (c .add .result .hi) (c .before .before .before .before .before .before .before .before .two-parts-norm .result .hi) (c .before .before .before .before .before .digits-norm .result .norm .hi) 524288 524288 (c .add .ensures .1) (z-hi (c .before)) (t-hi (c .before))
 
 add2-hi : (c : tie.After-add2) → c .add2 .result .hi ≤ 1572866
-add2-hi c = sum-hi (c .add2 .result .hi) (c .before .add .result .hi) (c .before .before .before .before .digits-norm2 .result .hi) 1048577 524288 (c .add2 .ensures .1) (add-hi (c .before)) (g-hi (c .before .before))
+add2-hi c = sum-hi (c .add2 .result .hi) (c .before .add .result .hi) (c .before .before .before .before .digits-norm2 .result .norm .hi) 1048577 524288 (c .add2 .ensures .1) (add-hi (c .before)) (g-hi (c .before .before))
 
 add-requires : tie.Need-add-requires
-add-requires c κs = small (c .before .before .before .before .before .before .before .two-parts-norm .result .hi) (c .before .before .before .before .digits-norm .result .hi) 524288 524288 (z-hi c) (t-hi c) (omega arith)
+add-requires c κs = small (c .before .before .before .before .before .before .before .two-parts-norm .result .hi) (c .before .before .before .before .digits-norm .result .norm .hi) 524288 524288 (z-hi c) (t-hi c) (omega arith)
 
 add-requires-2 : tie.Need-add-requires-2
-add-requires-2 c κs = small (c .add .result .hi) (c .before .before .before .digits-norm2 .result .hi) 1048577 524288 (add-hi c) (g-hi (c .before)) (omega arith)
+add-requires-2 c κs = small (c .add .result .hi) (c .before .before .before .digits-norm2 .result .norm .hi) 1048577 524288 (add-hi c) (g-hi (c .before)) (omega arith)
 
 add-requires-3 : tie.Need-add-requires-3
-add-requires-3 c κs = small (c .add2 .result .hi) (c .before .before .digits-norm3 .result .hi) 1572866 524288 (add2-hi c) (h-hi (c .before .before)) (omega arith)
+add-requires-3 c κs = small (c .add2 .result .hi) (c .before .before .digits-norm3 .result .norm .hi) 1572866 524288 (add2-hi c) (h-hi (c .before .before)) (omega arith)
 
 -- 23, by what `at_most` answers
 found : (c : tie.After-at-most)
@@ -107,7 +107,7 @@ found : (c : tie.After-at-most)
 found c =
     let s = c .before .before .before .before .before .before .before .before .before .before .before .before .before .before .before .before .args in
     check-23-is (s .transcript .now) (s .p) (c .before .before .before .before .before .before .before .before .before .before .before .before .before .before .triangle .result) (c .before .before .before .before .before .before .before .before .before .before .before .before .before .of-transcript .result) (c .before .before .before .before .before .before .before .before .before .before .before .of-transcript2 .result) (c .before .before .before .before .before .before .before .before .of-transcript3 .result) (c .before .before .before .before .before .before .of-transcript4 .result)
-    (value128 (c .before .before .before .before .before .before .before .before .before .before .before .before .two-parts-norm .result)) (value128 (c .before .before .before .before .before .before .before .before .before .digits-norm .result)) (value128 (c .before .before .before .before .before .before .before .digits-norm2 .result)) (value128 (c .before .before .before .before .before .digits-norm3 .result))
+    (value128 (c .before .before .before .before .before .before .before .before .before .before .before .before .two-parts-norm .result)) (value128 (c .before .before .before .before .before .before .before .before .before .digits-norm .result .norm)) (value128 (c .before .before .before .before .before .before .before .digits-norm2 .result .norm)) (value128 (c .before .before .before .before .before .digits-norm3 .result .norm))
     (record {
       size = c .before .before .before .before .before .before .before .before .before .before .before .before .before .before .triangle .ensures .0;
       z-place = c .before .before .before .before .before .before .before .before .before .before .before .before .before .of-transcript .ensures;
@@ -115,9 +115,9 @@ found c =
       g-place = c .before .before .before .before .before .before .before .before .of-transcript3 .ensures;
       h-place = c .before .before .before .before .before .before .of-transcript4 .ensures;
       z-is = c .before .before .before .before .before .before .before .before .before .before .before .before .two-parts-norm .ensures .0;
-      t-is = c .before .before .before .before .before .before .before .before .before .digits-norm .ensures .0;
-      g-is = c .before .before .before .before .before .before .before .digits-norm2 .ensures .0;
-      h-is = c .before .before .before .before .before .digits-norm3 .ensures .0;
+      t-is = c .before .before .before .before .before .before .before .before .before .digits-norm .ensures .0 .0;
+      g-is = c .before .before .before .before .before .before .before .digits-norm2 .ensures .0 .0;
+      h-is = c .before .before .before .before .before .digits-norm3 .ensures .0 .0;
     })
     (value128 (c .before .before .before .before .add .result)) (value128 (c .before .before .before .add2 .result)) (value128 (c .before .before .add3 .result)) (value128 (s .p .«beta_prime_sq»)) (c .at-most .result)
     (c .before .before .before .before .add .ensures .0)

@@ -1,7 +1,7 @@
 -- `check_norms` meets its contract.
 use mathlib.Core.Path.{_≡_, ap, _∙_}
 use borrow.Author.Needs.{needs}
-use Rattle.definitions.specs.Answer.{ofVerdict, _then_}
+use Rattle.definitions.specs.Answer.{ofChecked, _then_}
 use Rattle.protocol.specs.Parameters.{Parameters, parameters}
 use Rattle.verifier_common.specs.Answers.{projection-norm, constant-terms, norm-sum}
 use Rattle.verifier_common.proofs.Sent.{received}
@@ -12,7 +12,7 @@ use Rattle.verifier_norms.proofs.norm_checks.check_norms.Tie as tie
 -- 21, of the job's parameters
 answer-21 : (c : tie.After-check-projection-norm)
     → let s = c .before .before .before .before .args in
-    ofVerdict (c .check-projection-norm .result) ≡ projection-norm (parameters (s .job .now)) (s .transcript .now)
+    ofChecked (c .check-projection-norm .result) ≡ projection-norm (parameters (s .job .now)) (s .transcript .now)
 answer-21 c =
     let s = c .before .before .before .before in
     c .check-projection-norm .ensures ∙ ap (λ (P : Parameters). projection-norm P (s .args .transcript .now)) (s .pre .posed .same)
@@ -20,7 +20,7 @@ answer-21 c =
 -- 21 and 22
 answer-22 : (c : tie.After-check-constant-terms)
     → let s = c .before .before .before .before .before .before .before .args in
-    ofVerdict (c .check-constant-terms .result) ≡ projection-norm (parameters (s .job .now)) (s .transcript .now) then constant-terms (s .job .now) (s .randomness .now) (s .transcript .now)
+    ofChecked (c .check-constant-terms .result) ≡ projection-norm (parameters (s .job .now)) (s .transcript .now) then constant-terms (s .job .now) (s .randomness .now) (s .transcript .now)
 answer-22 c =
     let s = c .before .before .before .before .before .before .before .args in
     let f = c .before .before .before in
