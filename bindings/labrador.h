@@ -144,10 +144,11 @@ typedef struct {
     uint64_t words;
 } labrador_need;
 
-/* number 0: accepted; cells_left is how many cells of t, g and h together have a coefficient with something left after its digits (t and h
-   in t1 parts, g in t2; each cell of a triangle once). 1 to 16: refused, at `place`. 21: the projection's norm (first) above its limit (second), each hi * 2^64 + lo.
-   22: row `index`; the constant term sent (first_lo) is not the one worked out (second_lo). 23: the norms of z's two parts and of the
-   digits of t, g and h together (first) above the limit (second). 24 to 29: that check failed. Fields without a meaning are zero. */
+/* number 0: accepted; cells_left is how many cells of t, g and h together have a coefficient with something left after its digits (t
+   and h in t1 parts, g in t2; each cell of a triangle once). 1 to 16: refused, at `place`. 21: the projection's norm (first) above its
+   limit (second), each hi * 2^64 + lo. 22: row `index`; the constant term sent (first_lo) is not the one worked out (second_lo). 23: the
+   norms of z's two parts and of the digits of t, g and h together (first) above the limit (second). 24 to 29: that check failed. Fields
+   without a meaning are zero. */
 typedef struct {
     uint32_t number;
     uint32_t index;

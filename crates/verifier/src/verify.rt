@@ -77,10 +77,10 @@ fn work_and_clear(
     ensures { λ v. ⌜ now (scratch .exit) ≡ zeroed (scratch-need (parameters (now (job .entry)))) (now (scratch .entry)) ⌝ }
 {
     let q = regions::lay_out(p.rank, p.multiplicity, p.kappa, p.const_agg_length);
-    let verdict = check_all(job, randomness, transcript, p, q, scratch);
+    let answer = check_all(job, randomness, transcript, p, q, scratch);
     let need = buffers::scratch_length(p);
     words::clear(scratch, need);
-    verdict
+    answer
 }
 
 // The verifier: its verdict and scratch.
