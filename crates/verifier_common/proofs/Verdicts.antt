@@ -103,16 +103,16 @@ failed-no F.OuterCommitU2 cells e = failed-not-accepted _ _ cells e
 
 -- what is no acceptance though one comes last is found before
 stopped : (a x : Answer) → Unaccepted x → (last : ℕ) → x ≡ a then accepted last → (b : Answer) → x ≡ a then b then accepted last
-stopped fine x no last e b = absurd (no last e)
-stopped (accepted c) x no last e b = e
-stopped (refused n p) x no last e b = e
-stopped (failed n vs) x no last e b = e
+stopped fine x never last e b = absurd (never last e)
+stopped (accepted c) x never last e b = e
+stopped (refused n p) x never last e b = e
+stopped (failed n vs) x never last e b = e
 
-module _ {a : Answer} (last : ℕ) where
+module _ (a : Answer) (last : ℕ) where
   -- a verdict that accepts after checks leaves the answer to what comes after, and has the number
   pub accepts-on : (v : Verdict) (cells : ℕ) → Unaccepted a → ofVerdict v ≡ a then accepted last → v ≡ V′.Accepted cells → (b : Answer) → b then accepted cells ≡ a then b then accepted last
-  accepts-on v cells no e w b =
-      let both = after-unaccepted a last cells no (sym e ∙ ap ofVerdict w) in
+  accepts-on v cells never e w b =
+      let both = after-unaccepted a last cells never (sym e ∙ ap ofVerdict w) in
       ap (λ n. b then accepted n) (sym (both .1)) ∙ ap (λ x. x then b then accepted last) (sym (both .0))
 
   -- one that does not is the answer

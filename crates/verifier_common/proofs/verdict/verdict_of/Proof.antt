@@ -7,15 +7,17 @@ use Rattle.verifier_common.proofs.verdict.verdict_of.Statement.{stateme
 use Rattle.verifier_common.proofs.verdict.verdict_of.Tie as tie
 
 returns : tie.Need-returns
-returns c = ap (λ v. ofChecked v then accepted (c .before .args .cells-left)) (sym (c .enum-told .given .1))
+returns c = ap (λ v. ofChecked v then accepted (c .before .before .args .cells-left)) (sym (c .enum-told .given .1))
 
 returns-2 : tie.Need-returns-2
 returns-2 c =
-    sym (refusal-then (c .checked .given .0 .0) _) ∙ ap (λ v. ofChecked v then accepted (c .before .before .args .cells-left)) (sym (c .checked .given .1))
+    let k = c .before .checked .given in
+    sym (refusal-then (k .0 .0) _) ∙ ap (λ v. ofChecked v then accepted (c .before .before .before .args .cells-left)) (sym (k .1))
 
 returns-3 : tie.Need-returns-3
 returns-3 c =
-    sym (failed-then (c .checked2 .given .0 .0) _) ∙ ap (λ v. ofChecked v then accepted (c .before .before .args .cells-left)) (sym (c .checked2 .given .1))
+    let k = c .before .checked2 .given in
+    sym (failed-then (k .0 .0) _) ∙ ap (λ v. ofChecked v then accepted (c .before .before .before .args .cells-left)) (sym (k .1))
 
 pub verdict-of-spec : {M : Type 1} → statement M
 verdict-of-spec = tie.close (tie.spec (λ c. search needs) (λ c. search needs) (λ c. search needs) returns returns-2 returns-3)

@@ -5,11 +5,16 @@ use mathlib.Core.List.{[], _∷_}
 use Prim.Native.Nat.{ℕ, _+_, _*_, _≤_, _<_, _^_}
 use native.Mathlib.Omega.{arith}
 use lib.ListN.{length}
-use Rattle.definitions.specs.Answer.{fine, failed, value128}
+use Rattle.definitions.specs.Answer.{fine, accepted, failed, value128, _then_}
+use Rattle.lists.specs.Table.{table}
+use Rattle.definitions.specs.Rq.{Element}
+use Rattle.inner_product.specs.Run.{run}
+use Rattle.protocol.specs.Formulas.{count-left}
+use Rattle.protocol.proofs.CellsLeft.{count-at-most}
 use Rattle.relation.specs.Parameters.{parametersOf}
-use Rattle.verifier_common.specs.Answers.{norm-sum}
+use Rattle.verifier_common.specs.Answers.{norm-sum, cells-left}
 use Rattle.verifier_common.proofs.Sent.{received-room, product-small}
-use Rattle.verifier_norms.proofs.Norms.{check-23-is}
+use Rattle.verifier_norms.proofs.Norms.{check-23-is, cells-left-is}
 use Rattle.verifier_norms.proofs.norm_checks.check_norm_sum.Statement.{statement}
 use Rattle.verifier_norms.proofs.norm_checks.check_norm_sum.Tie as tie
 
@@ -126,17 +131,74 @@ found c =
     refl
     (c .at-most .ensures)
 
+-- how many cells of each have something left
+few-left : (b parts n m x : ℕ) (f : ℕ → Element) → x ≡ count-left b parts (table n f) → n ≤ m → x ≤ m
+few-left b parts n m x f e l = omega (arith, count-at-most b parts n f)
+
+t-left : (c : tie.After-at-most) → c .before .before .before .before .before .before .before .before .before .digits-norm .result .«cells_left» ≤ 256
+t-left c =
+    let s = c .before .before .before .before .before .before .before .before .before .before .before .before .before .before .before .before in
+    let w = s .pre .sized .within in
+    let d = c .before .before .before .before .before .before .before .before .before .digits-norm in
+    let o = c .before .before .before .before .before .before .before .before .before .before .before .of-transcript2 in
+    few-left (s .args .p .b) (s .args .p .«t_1») (s .args .p .multiplicity * s .args .p .kappa) 256 (d .result .«cells_left») (run (s .args .transcript .now) (o .result) 64) (d .ensures .1) (product-small (s .args .p .multiplicity) (s .args .p .kappa) (w .r .1) (w .κ .1))
+
+g-left : (c : tie.After-at-most) → c .before .before .before .before .before .before .before .digits-norm2 .result .«cells_left» ≤ 136
+g-left c =
+    let s = c .before .before .before .before .before .before .before .before .before .before .before .before .before .before .before .before .args in
+    let t = c .before .before .before .before .before .before .before .before .before .before .before .before .before .before .triangle in
+    let d = c .before .before .before .before .before .before .before .digits-norm2 in
+    let o = c .before .before .before .before .before .before .before .before .of-transcript3 in
+    few-left (s .p .b) (s .p .«t_2») (t .result) 136 (d .result .«cells_left») (run (s .transcript .now) (o .result) 64) (d .ensures .1) (t .ensures .1)
+
+h-left : (c : tie.After-at-most) → c .before .before .before .before .before .digits-norm3 .result .«cells_left» ≤ 136
+h-left c =
+    let s = c .before .before .before .before .before .before .before .before .before .before .before .before .before .before .before .before .args in
+    let t = c .before .before .before .before .before .before .before .before .before .before .before .before .before .before .triangle in
+    let d = c .before .before .before .before .before .digits-norm3 in
+    let o = c .before .before .before .before .before .before .of-transcript4 in
+    few-left (s .p .b) (s .p .«t_1») (t .result) 136 (d .result .«cells_left») (run (s .transcript .now) (o .result) 64) (d .ensures .1) (t .ensures .1)
+
+-- their number together
+counted : (c : tie.After-at-most)
+    → let s = c .before .before .before .before .before .before .before .before .before .before .before .before .before .before .before .before .args in
+    let t = c .before .before .before .before .before .before .before .before .before .digits-norm .result .«cells_left» in
+    let g = c .before .before .before .before .before .before .before .digits-norm2 .result .«cells_left» in
+    let h = c .before .before .before .before .before .digits-norm3 .result .«cells_left» in
+    t + g + h ≡ cells-left (parametersOf (s .p)) (s .transcript .now)
+counted c =
+    let s = c .before .before .before .before .before .before .before .before .before .before .before .before .before .before .before .before .args in
+    cells-left-is (s .transcript .now) (s .p) _ _ _ _ _ _ _
+    (c .before .before .before .before .before .before .before .before .before .before .before .before .before .before .triangle .ensures .0)
+    (c .before .before .before .before .before .before .before .before .before .before .before .of-transcript2 .ensures)
+    (c .before .before .before .before .before .before .before .before .of-transcript3 .ensures)
+    (c .before .before .before .before .before .before .of-transcript4 .ensures)
+    (c .before .before .before .before .before .before .before .before .before .digits-norm .ensures .1)
+    (c .before .before .before .before .before .before .before .digits-norm2 .ensures .1)
+    (c .before .before .before .before .before .digits-norm3 .ensures .1)
+
+add-t16 : tie.Need-add-t16
+add-t16 c = let m = c .before .before .before in omega (arith, t-left m, g-left m)
+
+add-t17 : tie.Need-add-t17
+add-t17 c = let m = c .before .before .before .before in omega (arith, t-left m, g-left m, h-left m)
+
 returns : tie.Need-returns
 returns c =
-    let x = value128 (c .before .before .before .add3 .result) in
-    let y = value128 (c .before .before .before .before .before .before .before .before .before .before .before .before .before .before .before .before .before .args .p .«beta_prime_sq») in
-    sym (found (c .before) ∙ ap (λ t. cond t fine (failed 23 (x ∷ y ∷ []))) (c .if1 .taken))
+    let m = c .before .before .before .before in
+    let s = m .before .before .before .before .before .before .before .before .before .before .before .before .before .before .before .before .args in
+    let x = value128 (m .before .before .add3 .result) in
+    let y = value128 (s .p .«beta_prime_sq») in
+    ap accepted (counted m)
+    ∙ ap (λ a. a then accepted (cells-left (parametersOf (s .p)) (s .transcript .now))) (sym (found m ∙ ap (λ t. cond t fine (failed 23 (x ∷ y ∷ []))) (c .before .before .before .if1 .taken)))
 
 returns-2 : tie.Need-returns-2
 returns-2 c =
-    let x = value128 (c .before .before .before .add3 .result) in
-    let y = value128 (c .before .before .before .before .before .before .before .before .before .before .before .before .before .before .before .before .before .args .p .«beta_prime_sq») in
-    sym (found (c .before) ∙ ap (λ t. cond t fine (failed 23 (x ∷ y ∷ []))) (c .if1 .left))
+    let m = c .before in
+    let s = m .before .before .before .before .before .before .before .before .before .before .before .before .before .before .before .before .args in
+    let x = value128 (m .before .before .add3 .result) in
+    let y = value128 (s .p .«beta_prime_sq») in
+    ap (λ a. a then accepted (cells-left (parametersOf (s .p)) (s .transcript .now))) (sym (found m ∙ ap (λ t. cond t fine (failed 23 (x ∷ y ∷ []))) (c .if1 .left)))
 
 pub check-norm-sum-spec : {M : Type 1} → statement M
 check-norm-sum-spec =
@@ -156,5 +218,7 @@ check-norm-sum-spec =
     add-requires-2
     add-requires-3
     (λ c κs. tt)
+    add-t16
+    add-t17
     returns
     returns-2)
