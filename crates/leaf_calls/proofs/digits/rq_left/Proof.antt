@@ -1,7 +1,9 @@
 -- `rq_left` meets its contract.
 use mathlib.Core.Path.{_≡_, sym, _∙_, ap}
 use mathlib.Core.List.{List}
+use Prim.Native.Nat.{ℕ}
 use borrow.Author.Needs.{needs}
+use Rattle.lists.specs.Table.{table}
 use Rattle.definitions.specs.declared.answers.Operands.{Operands}
 use Rattle.definitions.specs.Answer.{Answer, result, ofOperands}
 use Rattle.definitions.specs.Rq.{rzero, leftRow}
@@ -22,7 +24,8 @@ made o s a coeffs value e d h = (λ i. record { number = e i .number; place = e 
 left-over-requires : tie.Need-left-over-requires
 left-over-requires c κs =
     let o = c .before .before .before .rq-digit-operands in
-    digit-limits _ _ _ (sym (o .ensures) ∙ is-fine (o .result) _ (c .before .before .status-of .ensures) (c .if1 .taken)) .0
+    let a = c .before .before .before .before .args in
+    digit-limits (a .base) (a .parts) (a .a .coeffs) (sym (o .ensures) ∙ is-fine (o .result) _ (c .before .before .status-of .ensures) (c .if1 .taken)) .0
 
 returns : tie.Need-returns
 returns c =
@@ -32,7 +35,7 @@ returns c =
     made (o .result) _ _ _ _ s (c .before .left-over .ensures ∙ kept (o .result) _ (leftRow (a .base) (a .parts) (a .a .coeffs)) rzero s (c .before .before .if1 .taken)) (o .ensures)
 
 returns-2 : tie.Need-returns-2
-unfolding rzero
+unfolding rzero table
 returns-2 c =
     let o = c .before .before .before .rq-digit-operands in
     let s = c .before .before .status-of .ensures in
