@@ -71,7 +71,7 @@ static void judge(const char *what) {
     double end = milliseconds();
     printf("%-42s", what);
     if (v.number == 0)
-        printf("accepted");
+        printf("accepted, %" PRIu64 " cells with something left", v.cells_left);
     else if (v.number < 21)
         printf("refused with %" PRIu32 " at %" PRIu64, v.number, v.place);
     else

@@ -43,6 +43,7 @@ typedef struct {
     uint32_t number;
     uint32_t place;
     uint32_t digits[32];
+    uint32_t left;
 } labrador_digits_answer;
 
 typedef struct {
@@ -74,7 +75,7 @@ labrador_word_answer labrador_zq_neg(uint32_t a);
 /* The centre of a: a itself up to 2147483647, above that a - Q. */
 labrador_centre_answer labrador_zq_centre(uint32_t a);
 
-/* The digits of a, lowest first, in 32 places. A base outside 2 to 4294967294 is refused with 4 at place 0, a number of parts
+/* The digits of a, lowest first, in 32 places, and the size left over when the parts are used up, without sign. A base outside 2 to 4294967294 is refused with 4 at place 0, a number of parts
    outside 1 to 32 with 4 at place 1; a is place 2. */
 labrador_digits_answer labrador_zq_digits(uint32_t base, uint32_t parts, uint32_t a);
 
@@ -116,6 +117,10 @@ labrador_norm_answer labrador_rq_norm(labrador_element a);
    out is shorter. Where out is shorter nothing is written; on another refusal the 2048 words are zero. out is not null. */
 labrador_status labrador_rq_digits(uint32_t base, uint32_t parts, labrador_element a, uint32_t *out, size_t length);
 
+/* The size left over of each coefficient when the parts are used up, without sign. Refused as labrador_zq_digits refuses, a's words
+   being places 2 to 65. */
+labrador_element_answer labrador_rq_left(uint32_t base, uint32_t parts, labrador_element a);
+
 /* The challenge of its words. A sign word above 1 is refused with 8 at its place. */
 labrador_element_answer labrador_challenge(labrador_challenge_words words);
 
@@ -139,9 +144,11 @@ typedef struct {
     uint64_t words;
 } labrador_need;
 
-/* number 0: accepted. 1 to 16: refused, at `place`. 21: the projection's norm (first) above its limit (second), each hi * 2^64 + lo.
-   22: row `index`; the constant term sent (first_lo) is not the one worked out (second_lo). 23: the norms of z's two parts and of the
-   digits of t, g and h together (first) above the limit (second). 24 to 29: that check failed. Fields without a meaning are zero. */
+/* number 0: accepted; cells_left is how many cells of t, g and h together have a coefficient with something left after its digits (t
+   and h in t1 parts, g in t2; each cell of a triangle once). 1 to 16: refused, at `place`. 21: the projection's norm (first) above its
+   limit (second), each hi * 2^64 + lo. 22: row `index`; the constant term sent (first_lo) is not the one worked out (second_lo). 23: the
+   norms of z's two parts and of the digits of t, g and h together (first) above the limit (second). 24 to 29: that check failed. Fields
+   without a meaning are zero. */
 typedef struct {
     uint32_t number;
     uint32_t index;
@@ -150,6 +157,7 @@ typedef struct {
     uint64_t second_hi;
     uint64_t second_lo;
     uint64_t place;
+    uint64_t cells_left;
 } labrador_verdict;
 
 /* The words of scratch that a call with this job needs, or the job's refusal. */

@@ -63,10 +63,18 @@ static int is_centre(labrador_centre_answer r, uint32_t number, uint32_t place, 
     return r.number == number && r.place == place && r.value == value;
 }
 
-/* Two digits, the other places zero. */
-static int is_digits(labrador_digits_answer r, uint32_t number, uint32_t place, uint32_t d0, uint32_t d1) {
-    return r.number == number && r.place == place && r.digits[0] == d0 && r.digits[1] == d1 && all_zero(r.digits + 2, 30);
+/* Two digits, the other places zero, and the size left over. */
+static int is_digits(labrador_digits_answer r, uint32_t number, uint32_t place, uint32_t d0, uint32_t d1, uint32_t left) {
+    return r.number == number && r.place == place && r.digits[0] == d0 && r.digits[1] == d1 && all_zero(r.digits + 2, 30) && r.left == left;
 }
+
+/* What the digit rule leaves of a size after so many parts. */
+static uint64_t left_of(uint64_t size, uint32_t base, uint32_t parts) {
+    for (uint32_t k = 0; k < parts; k++) size = size / base + (size % base > base / 2);
+    return size;
+}
+
+static uint64_t size_of(uint32_t a) { return a > 2147483647u ? Q - a : a; }
 
 static int is_element(labrador_element_answer r, labrador_element a) {
     return r.number == 0 && r.place == 0 && same(r.coeffs, a.coeffs, 64);
@@ -112,17 +120,19 @@ static void test_numbers(void) {
 }
 
 static void test_digits(void) {
-    CHECK(is_digits(labrador_zq_digits(4, 2, 7), 0, 0, NEG(1), 2));
-    CHECK(is_digits(labrador_zq_digits(4, 1, 7), 0, 0, NEG(1), 0));
-    CHECK(is_digits(labrador_zq_digits(4, 2, 4294967288u), 0, 0, 1, NEG(2)));
-    CHECK(is_digits(labrador_zq_digits(10, 2, 6), 0, 0, NEG(4), 1));
-    CHECK(is_digits(labrador_zq_digits(10, 2, 5), 0, 0, 5, 0));
-    CHECK(is_digits(labrador_zq_digits(4294967294u, 32, 5), 0, 0, 5, 0));
-    CHECK(is_digits(labrador_zq_digits(1, 0, Q), 4, 0, 0, 0));
-    CHECK(is_digits(labrador_zq_digits(Q, 1, 5), 4, 0, 0, 0));
-    CHECK(is_digits(labrador_zq_digits(4, 0, Q), 4, 1, 0, 0));
-    CHECK(is_digits(labrador_zq_digits(4, 33, 5), 4, 1, 0, 0));
-    CHECK(is_digits(labrador_zq_digits(4, 2, Q), 6, 2, 0, 0));
+    CHECK(is_digits(labrador_zq_digits(4, 2, 7), 0, 0, NEG(1), 2, 0));
+    CHECK(is_digits(labrador_zq_digits(4, 1, 7), 0, 0, NEG(1), 0, 2));
+    CHECK(is_digits(labrador_zq_digits(4, 2, 4294967288u), 0, 0, 1, NEG(2), 0));
+    CHECK(is_digits(labrador_zq_digits(4, 1, 4294967288u), 0, 0, 1, 0, 2));
+    CHECK(is_digits(labrador_zq_digits(10, 2, 6), 0, 0, NEG(4), 1, 0));
+    CHECK(is_digits(labrador_zq_digits(10, 2, 5), 0, 0, 5, 0, 0));
+    CHECK(is_digits(labrador_zq_digits(10, 2, 1234), 0, 0, 4, 3, 12));
+    CHECK(is_digits(labrador_zq_digits(4294967294u, 32, 5), 0, 0, 5, 0, 0));
+    CHECK(is_digits(labrador_zq_digits(1, 0, Q), 4, 0, 0, 0, 0));
+    CHECK(is_digits(labrador_zq_digits(Q, 1, 5), 4, 0, 0, 0, 0));
+    CHECK(is_digits(labrador_zq_digits(4, 0, Q), 4, 1, 0, 0, 0));
+    CHECK(is_digits(labrador_zq_digits(4, 33, 5), 4, 1, 0, 0, 0));
+    CHECK(is_digits(labrador_zq_digits(4, 2, Q), 6, 2, 0, 0, 0));
     for (int n = 0; n < 10000; n++) {
         /* 32 digits of any base give the value back */
         uint32_t a = draw() % Q, base = 2 + draw() % (n % 2 ? 4294967293u : 30u);
@@ -132,14 +142,10 @@ static void test_digits(void) {
             sum = (sum + r.digits[k] * power) % Q;
             power = power * base % Q;
         }
-        CHECK(r.number == 0 && r.place == 0 && sum == a);
+        CHECK(r.number == 0 && r.place == 0 && sum == a && r.left == 0);
+        uint32_t parts = 1 + draw() % 32;
+        CHECK(labrador_zq_digits(base, parts, a).left == left_of(size_of(a), base, parts));
     }
-}
-
-/* What the digit rule leaves of a size after so many parts. */
-static uint64_t left_of(uint64_t size, uint32_t base, uint32_t parts) {
-    for (uint32_t k = 0; k < parts; k++) size = size / base + (size % base > base / 2);
-    return size;
 }
 
 static void test_recompose(void) {
@@ -172,7 +178,7 @@ static void test_recompose(void) {
         labrador_digits_answer d = labrador_zq_digits(base, parts, a);
         labrador_word_answer r = labrador_recompose(base, d.digits, parts);
         CHECK(r.number == 0 && r.place == 0);
-        CHECK((r.value == a) == (left_of(a > 2147483647u ? Q - a : a, base, parts) == 0));
+        CHECK((r.value == a) == (d.left == 0) && d.left == left_of(size_of(a), base, parts));
         uint32_t needed = labrador_parts_needed(base).value;
         CHECK(left_of(2147483647u, base, needed) == 0 && left_of(2147483647u, base, needed - 1) > 0);
     }
@@ -318,6 +324,22 @@ static void test_rows(void) {
     CHECK(is_status(rows(4, 0, bad, out, 0, &kept), 4, 1) && kept);
 }
 
+static void test_left(void) {
+    for (int n = 0; n < 100; n++) {
+        labrador_element a = drawn(), sizes;
+        uint32_t base = 2 + draw() % 1000, parts = 1 + draw() % 5;
+        for (int j = 0; j < 64; j++) sizes.coeffs[j] = (uint32_t)left_of(size_of(a.coeffs[j]), base, parts);
+        CHECK(is_element(labrador_rq_left(base, parts, a), sizes));
+        CHECK(is_element(labrador_rq_left(base, 32, a), zero()));
+    }
+    labrador_element bad = monomial(Q, 63);
+    CHECK(is_element(labrador_rq_left(10, 2, monomial(NEG(1234), 63)), monomial(12, 63)));
+    CHECK(is_refused(labrador_rq_left(1, 33, bad), 4, 0));
+    CHECK(is_refused(labrador_rq_left(4, 33, bad), 4, 1));
+    CHECK(is_refused(labrador_rq_left(4, 0, bad), 4, 1));
+    CHECK(is_refused(labrador_rq_left(4, 2, bad), 6, 65));
+}
+
 static void test_challenge(void) {
     labrador_challenge_words w;
     labrador_element start = zero(), turned, shuffled;
@@ -353,8 +375,7 @@ enum { JOB = 262144, RANDOMNESS = 131072, WITNESS = 512, SCRATCH = 65536, OUTPUT
 static uint32_t job[JOB], randomness[RANDOMNESS], witness[WITNESS], scratch[SCRATCH], output[OUTPUT], joined[OUTPUT];
 static size_t job_length, randomness_length, witness_length, ends[8];
 
-static void make_job(uint32_t ring, uint32_t constant) {
-    const labrador_parameters sizes = {2, 2, 4, 1, 1, ring, constant, 32, 256, 4, 4};
+static void make_load(labrador_parameters sizes) {
     labrador_load_need need = labrador_load_needs(sizes);
     job_length = need.job;
     witness_length = need.witness;
@@ -366,6 +387,11 @@ static void make_job(uint32_t ring, uint32_t constant) {
     CHECK(ends[7] == randomness_length);
     for (size_t k = 0; k < SCRATCH; k++) scratch[k] = MARK;
     for (size_t k = 0; k < OUTPUT; k++) output[k] = joined[k] = MARK;
+}
+
+static void make_job(uint32_t ring, uint32_t constant) {
+    const labrador_parameters sizes = {2, 2, 4, 1, 1, ring, constant, 32, 256, 4, 4};
+    make_load(sizes);
 }
 
 /* First and last words of three loads, of their b0 and of their b. */
@@ -488,7 +514,7 @@ static labrador_verdict verdict_on(uint32_t *transcript, size_t length, size_t l
 
 static int is_verdict(labrador_verdict v, uint32_t number, uint64_t place) {
     return v.number == number && v.place == place && v.index == 0 && v.first_hi == 0 && v.first_lo == 0 && v.second_hi == 0 &&
-           v.second_lo == 0;
+           v.second_lo == 0 && v.cells_left == 0;
 }
 
 static void test_rounds(size_t scratch_need, size_t output_need) {
@@ -536,13 +562,13 @@ static void test_calls(void) {
     uint32_t sent = output[constant] = next(was);
     labrador_verdict v = verdict_on(output, output_need, SCRATCH);
     CHECK(v.number == 22 && v.index == 1 && v.place == 0 && v.first_hi == 0 && v.first_lo == sent && v.second_hi == 0 &&
-          v.second_lo == was);
+          v.second_lo == was && v.cells_left == 0);
     output[constant] = Q;
     CHECK(is_verdict(verdict_on(output, output_need, SCRATCH), 10, constant));
     job[12] = job[13] = job[14] = 0;
     output[constant] = 0;
     v = verdict_on(output, output_need, SCRATCH);
-    CHECK(v.number == 21 && v.index == 0 && v.first_lo > 0 && v.second_hi == 0 && v.second_lo == 0);
+    CHECK(v.number == 21 && v.index == 0 && v.first_lo > 0 && v.second_hi == 0 && v.second_lo == 0 && v.cells_left == 0);
     CHECK(all_zero(scratch, scratch_need) && scratch[scratch_need] == MARK);
     job[18] = job[19] = job[20] = 0;
     a = labrador_prove(job, job_length, randomness, randomness_length, witness, witness_length, scratch, SCRATCH, output, OUTPUT);
@@ -565,6 +591,39 @@ static void test_one_kind(void) {
         CHECK(s.number == 4 && s.place == 7 && s.words == 0);
         job[8] = 15;
         CHECK(labrador_scratch_need(job, job_length).place == 7);
+    }
+}
+
+/* How many cells of a section of the transcript have a coefficient with something left. */
+static uint64_t cells_of(const uint32_t *words, size_t cells, uint32_t base, uint32_t parts) {
+    uint64_t count = 0;
+    for (size_t c = 0; c < cells; c++) {
+        int something = 0;
+        for (int j = 0; j < 64; j++) something = something || left_of(size_of(words[64 * c + j]), base, parts) > 0;
+        count += something;
+    }
+    return count;
+}
+
+/* The number of cells that an acceptance states, for parts too few, enough and too few by one. */
+static void test_cells_left(void) {
+    const uint32_t parts[7][3] = {{256, 4, 4}, {256, 3, 3}, {256, 1, 4}, {256, 4, 1}, {2, 1, 1}, {65536, 2, 2}, {4294967294u, 1, 1}};
+    for (int k = 0; k < 7; k++) {
+        const labrador_parameters sizes = {2, 2, 4, 1, 1, 1, 1, 32, parts[k][0], parts[k][1], parts[k][2]};
+        make_load(sizes);
+        size_t scratch_need = labrador_scratch_need(job, job_length).words;
+        size_t output_need = labrador_output_need(job, job_length).words;
+        CHECK(labrador_prove(job, job_length, randomness, randomness_length, witness, witness_length, scratch, scratch_need, output,
+                             output_need)
+                  .number == 0);
+        const uint32_t *t = output + 65 + 257 + 257 + 65 + 129 + 1, *g = t + 512 + 1, *h = g + 192 + 1;
+        uint64_t count = cells_of(t, 8, sizes.b, sizes.t_1) + cells_of(g, 3, sizes.b, sizes.t_2) + cells_of(h, 3, sizes.b, sizes.t_1);
+        labrador_verdict v = verdict_on(output, output_need, scratch_need);
+        CHECK(v.number == 0 && v.place == 0 && v.cells_left == count);
+        CHECK(k < 5 || count == 0);
+        uint32_t was = output[1];
+        output[1] = next(was);
+        CHECK(is_verdict(verdict_on(output, output_need, scratch_need), 28, 0));
     }
 }
 
@@ -716,11 +775,13 @@ int main(void) {
     test_random_elements();
     test_fast_product();
     test_rows();
+    test_left();
     test_challenge();
     test_loads();
     test_recorded_loads();
     test_calls();
     test_one_kind();
+    test_cells_left();
     test_ranges();
     test_recorded_ranges();
     if (failures > 0) {

@@ -8,7 +8,7 @@ use Rattle.call_answers.specs.Calls.{labradorVerdict}
 
 -- a refusal as a verdict
 pub refused-verdict : (r : Refusal)
-    → record { number = number (ofRefusal r); index = 0; «first_hi» = 0; «first_lo» = 0; «second_hi» = 0; «second_lo» = 0; place = place (ofRefusal r) } ≡ labradorVerdict (ofRefusal r)
+    → record { number = number (ofRefusal r); index = 0; «first_hi» = 0; «first_lo» = 0; «second_hi» = 0; «second_lo» = 0; place = place (ofRefusal r); «cells_left» = 0 } ≡ labradorVerdict (ofRefusal r)
 refused-verdict (R.ScratchTooShort p) = refl
 refused-verdict (R.OutputTooShort p) = refl
 refused-verdict (R.JobLayout p) = refl

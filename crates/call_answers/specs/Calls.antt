@@ -1,7 +1,7 @@
 -- The structs of the exported calls on whole slices as answers.
 use mathlib.Core.List.{[], _∷_}
 use Prim.Native.Nat.{ℕ, _/_, _%_, _^_}
-use Rattle.definitions.specs.Answer.{Answer, fine, refused, failed, number, place, result}
+use Rattle.definitions.specs.Answer.{Answer, fine, accepted, refused, failed, number, place, result}
 use Rattle.call_answers.specs.declared.verdicts.LabradorAnswer.{LabradorAnswer}
 use Rattle.call_answers.specs.declared.verdicts.LabradorNeed.{LabradorNeed}
 use Rattle.call_answers.specs.declared.verdicts.LabradorVerdict.{LabradorVerdict}
@@ -24,12 +24,14 @@ failedCheck n index first second = record {
   «second_hi» = second / 2 ^ 64;
   «second_lo» = second % 2 ^ 64;
   place = 0;
+  «cells_left» = 0;
 }
 
--- the verdict: a refusal's number and place; a failed check's number with its values, "norm and limit", "lowest k, both values", "sum and limit"
+-- the verdict: an acceptance with the number of cells that have something left (document 02, Item 5); a refusal's number and place; a failed check's number with its values, "norm and limit", "lowest k, both values", "sum and limit"
 abbrev pub labradorVerdict : Answer → LabradorVerdict
 labradorVerdict fine = failedCheck 0 0 0 0
-labradorVerdict (refused n p) = record { number = n; index = 0; «first_hi» = 0; «first_lo» = 0; «second_hi» = 0; «second_lo» = 0; place = p }
+labradorVerdict (accepted cells) = record { number = 0; index = 0; «first_hi» = 0; «first_lo» = 0; «second_hi» = 0; «second_lo» = 0; place = 0; «cells_left» = cells }
+labradorVerdict (refused n p) = record { number = n; index = 0; «first_hi» = 0; «first_lo» = 0; «second_hi» = 0; «second_lo» = 0; place = p; «cells_left» = 0 }
 labradorVerdict (failed n []) = failedCheck n 0 0 0
 labradorVerdict (failed n (a ∷ [])) = failedCheck n 0 a 0
 labradorVerdict (failed n (a ∷ b ∷ [])) = failedCheck n 0 a b

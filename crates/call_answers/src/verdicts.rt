@@ -6,7 +6,7 @@ use definitions::answers::Refusal;
 use definitions::answers::U128;
 use definitions::answers::Verdict;
 ghost use mathlib.Core.Path.{_≡_};
-ghost use Rattle.definitions.specs.Answer.{ofRefusal, ofFailed, ofVerdict, ofProved, value128};
+ghost use Rattle.definitions.specs.Answer.{accepted, ofRefusal, ofFailed, ofVerdict, ofProved, value128};
 ghost use Rattle.call_answers.specs.Calls.{labradorAnswer, labradorVerdict, failedCheck};
 
 // A refusal's number and place, 0 and 0 where something was made.
@@ -24,7 +24,8 @@ pub struct LabradorNeed {
     pub words: u64,
 }
 
-// 0 where a transcript is accepted; a refusal's number and place; or the number of the check that fails with its index and its two values.
+// 0 where a transcript is accepted, with the number of cells that have something left; a refusal's number and place; or the number of the check that fails with its
+// index and its two values.
 #[repr(C)]
 pub struct LabradorVerdict {
     pub number: u32,
@@ -34,6 +35,7 @@ pub struct LabradorVerdict {
     pub second_hi: u64,
     pub second_lo: u64,
     pub place: u64,
+    pub cells_left: u64,
 }
 
 pub fn refusal_of(refusal: Refusal) -> LabradorAnswer
@@ -70,6 +72,7 @@ fn failed(number: u32, index: usize, first: U128, second: U128) -> LabradorVerdi
         second_hi: second.hi,
         second_lo: second.lo,
         place: 0,
+        cells_left: 0,
     }
 }
 
@@ -95,6 +98,23 @@ fn alone(number: u32) -> LabradorVerdict
         second_hi: 0,
         second_lo: 0,
         place: 0,
+        cells_left: 0,
+    }
+}
+
+// An acceptance.
+fn accepted_with(cells_left: usize) -> LabradorVerdict
+    ensures { λ r. ⌜ r ≡ labradorVerdict (accepted «cells_left») ⌝ }
+{
+    LabradorVerdict {
+        number: 0,
+        index: 0,
+        first_hi: 0,
+        first_lo: 0,
+        second_hi: 0,
+        second_lo: 0,
+        place: 0,
+        cells_left: cells_left as u64,
     }
 }
 
@@ -122,7 +142,7 @@ pub fn verdict_of(verdict: Verdict) -> LabradorVerdict
     ensures { λ r. ⌜ r ≡ labradorVerdict (ofVerdict verdict) ⌝ }
 {
     match verdict {
-        Verdict::Accepted => alone(0),
+        Verdict::Accepted(cells_left) => accepted_with(cells_left),
         Verdict::Refused(refusal) => {
             let found = numbers::number_of(refusal);
             LabradorVerdict {
@@ -133,6 +153,7 @@ pub fn verdict_of(verdict: Verdict) -> LabradorVerdict
                 second_hi: 0,
                 second_lo: 0,
                 place: found.place as u64,
+                cells_left: 0,
             }
         }
         Verdict::Failed(check) => failed_of(check),

@@ -1,6 +1,6 @@
--- Cases on a test between two numbers.
+-- Cases on tests.
 use mathlib.Core.Path.{_≡_, refl}
-use mathlib.Core.Bool.{Bool, true, false}
+use mathlib.Core.Bool.{Bool, true, false, decide}
 use Prim.Native.Nat.{ℕ, _≤_, _<_}
 use lib.Dec.{ltb}
 use borrow.Author.Tests.{ltb-true, ltb-false}
@@ -12,3 +12,15 @@ ltb-cases P a b f g = go (ltb a b) refl
     go : (t : Bool) → ltb a b ≡ t → P t
     go true e = f (ltb-true a b e)
     go false e = g (ltb-false a b e)
+
+-- a fact that holds is decided so
+pub decided {ℓ} : {A : Type ℓ} (d : Dec A) → A → decide d ≡ true
+unfolding decide
+decided (yes a) h = refl
+decided (no n) h = absurd (n h)
+
+-- a fact that does not hold is decided so
+pub not-decided {ℓ} : {A : Type ℓ} (d : Dec A) → (A → ⊥) → decide d ≡ false
+unfolding decide
+not-decided (yes a) h = absurd (h a)
+not-decided (no n) h = refl

@@ -94,6 +94,11 @@ pub enough-iff : (b n : ℕ) → 0 < b → Enough b n ↔ (2147483647 ≤ reach 
 unfolding reach
 enough-iff b n p = (λ f. leftover-zero b n 2147483647 p .0 (f 2147483647 (omega arith)), λ l a h. enough-parts b n a p l h)
 
+-- more parts than enough are enough
+pub enough-more : (b m n : ℕ) → 0 < b → m ≤ n → Enough b m → Enough b n
+unfolding reach
+enough-more b m n p l e = enough-iff b n p .1 (omega (arith, enough-iff b m p .0 e, Σ-mono m n (λ k. b / 2 * b ^ k) l))
+
 -- the parts that are needed, by their reach
 pub needed-by-reach : (b n : ℕ) → 0 < b → 2147483647 ≤ reach b n → ((fewer : ℕ) → fewer < n → reach b fewer < 2147483647) → PartsNeeded b n
 needed-by-reach b n p l f = record {

@@ -8,6 +8,8 @@ use Rattle.definitions.specs.declared.answers.Refusal.{Refusal}
 use Rattle.definitions.specs.declared.answers.Refusal.the-variants as R
 use Rattle.definitions.specs.declared.answers.FailedCheck.{FailedCheck}
 use Rattle.definitions.specs.declared.answers.FailedCheck.the-variants as F
+use Rattle.definitions.specs.declared.answers.Checked.{Checked}
+use Rattle.definitions.specs.declared.answers.Checked.the-variants as C
 use Rattle.definitions.specs.declared.answers.Verdict.{Verdict}
 use Rattle.definitions.specs.declared.answers.Verdict.the-variants as V′
 use Rattle.definitions.specs.declared.answers.Proved.{Proved}
@@ -15,27 +17,32 @@ use Rattle.definitions.specs.declared.answers.Proved.the-variants as P
 use Rattle.definitions.specs.declared.answers.Operands.{Operands}
 use Rattle.definitions.specs.declared.answers.Operands.the-variants as O
 
--- an answer of document 01: all is well; a refusal's number and place; a failed check's number and values
+-- an answer of document 01: all is well; an acceptance, which by document 02, Item 5, "states how many cells of t, g and h together have a coefficient with something left";
+-- a refusal's number and place; a failed check's number and values
 pub data Answer : Type 0 where
   fine : Answer
+  accepted : ℕ → Answer
   refused : ℕ → ℕ → Answer
   failed : ℕ → List ℕ → Answer
 
--- the number of an answer; 0 where all is well
+-- the number of an answer; 0 where all is well and of an acceptance
 abbrev pub number : Answer → ℕ
 number fine = 0
+number (accepted cells) = 0
 number (refused n p) = n
 number (failed n vs) = n
 
 -- the place of a refusal; 0 of any other answer
 abbrev pub place : Answer → ℕ
 place fine = 0
+place (accepted cells) = 0
 place (refused n p) = p
 place (failed n vs) = 0
 
--- "On a refusal the result part is zero."
+-- "On a refusal the result part is zero."; an acceptance has none
 abbrev pub result {ℓ} : {A : Type ℓ} → Answer → A → A → A
 result fine value none = value
+result (accepted cells) value none = none
 result (refused n p) value none = none
 result (failed n vs) value none = none
 
@@ -43,6 +50,7 @@ infixl 20 _then_
 -- the first of two answers that is not fine
 abbrev pub _then_ : Answer → Answer → Answer
 fine then b = b
+accepted cells then b = accepted cells
 refused n p then b = refused n p
 failed n vs then b = failed n vs
 
@@ -86,9 +94,15 @@ ofFailed F.Relation = failed 27 []
 ofFailed F.OuterCommitU1 = failed 28 []
 ofFailed F.OuterCommitU2 = failed 29 []
 
+-- what a check of the verifier finds
+abbrev pub ofChecked : Checked → Answer
+ofChecked C.Passed = fine
+ofChecked (C.Refused r) = ofRefusal r
+ofChecked (C.Failed f) = ofFailed f
+
 -- a verdict's number and values
 abbrev pub ofVerdict : Verdict → Answer
-ofVerdict V′.Accepted = fine
+ofVerdict (V′.Accepted cells) = accepted cells
 ofVerdict (V′.Refused r) = ofRefusal r
 ofVerdict (V′.Failed f) = ofFailed f
 

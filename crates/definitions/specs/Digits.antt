@@ -4,6 +4,7 @@ use mathlib.Core.List.{List}
 use Prim.Native.Nat.{ℕ, zero, suc, _+_, _-_, _/_, _%_}
 use lib.Dec.{ltb}
 use Rattle.lists.specs.Table.{table, padded}
+use Rattle.definitions.specs.declared.answers.Decomposed.{Decomposed}
 use Rattle.definitions.specs.Zq.{zneg, isLargerThanHalf, size}
 
 -- "less b if above b/2 rounded down": whether the remainder is below zero
@@ -42,6 +43,10 @@ digitPlaces b parts a = padded 32 parts 0 (digit b a)
 -- "What is left then is dropped.": the size left over after a number of parts
 unfoldable pub leftover : ℕ → ℕ → ℕ → ℕ
 leftover b parts a = sizeAfter b parts (size a)
+
+-- document 02, Item 5: "The digit rule is to return what it dropped, as the size left over, with its digits"
+abbrev pub decomposed : ℕ → ℕ → ℕ → Decomposed
+decomposed b parts a = record { digits = digitPlaces b parts a; left = leftover b parts a }
 
 -- document 02, Item 9: "the whole rest with its sign": what goes on after digit 0
 unfoldable pub rest : ℕ → ℕ → ℕ

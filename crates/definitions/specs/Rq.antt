@@ -1,14 +1,15 @@
 -- Ring elements (document 01, "What a call is handed" and "Leaves"): lists of words, coefficient of X^0 first.
 use mathlib.Core.Path.{_≡_}
-use mathlib.Core.Bool.{cond}
-use mathlib.Core.List.{List}
+use mathlib.Core.Bool.{Bool, cond, decide}
+use mathlib.Core.List.{List, List-discrete}
 use Prim.Native.Nat.{ℕ, _+_, _-_, _*_, _<_}
+use native.Mathlib.Decide.{ℕ-discrete}
 use lib.Dec.{eqb}
 use lib.ListN.{length, getD}
 use Rattle.lists.specs.Table.{table, padded}
 use Rattle.lists.specs.Sum.{Σ}
 use Rattle.definitions.specs.Zq.{Canonical, zadd, zsub, zneg, zmul}
-use Rattle.definitions.specs.Digits.{digit, rest}
+use Rattle.definitions.specs.Digits.{digit, leftover, rest}
 
 -- the coefficient of X^k
 abbrev pub coeff : List ℕ → ℕ → ℕ
@@ -25,6 +26,10 @@ Element = (a : List ℕ) × ((length a ≡ 64) × AllCanonical a)
 -- 0
 unfoldable pub rzero : List ℕ
 rzero = table 64 (λ k. 0)
+
+-- whether all 64 words are 0
+unfoldable pub isZero : List ℕ → Bool
+isZero a = decide (List-discrete ℕ-discrete a rzero)
 
 -- the sum of two elements
 unfoldable pub radd : List ℕ → List ℕ → List ℕ
@@ -61,6 +66,10 @@ rconj a = table 64 (conjCoeff a)
 -- row k of an element's digits: digit k of each coefficient
 unfoldable pub digitRow : ℕ → List ℕ → ℕ → List ℕ
 digitRow b a k = table 64 (λ j. digit b (coeff a j) k)
+
+-- document 02, Item 5: "for one element a call beside it gives the 64 sizes" left over after a number of parts
+unfoldable pub leftRow : ℕ → ℕ → List ℕ → List ℕ
+leftRow b parts a = table 64 (λ j. leftover b parts (coeff a j))
 
 -- the rest of each coefficient after its digit 0
 unfoldable pub restRow : ℕ → List ℕ → List ℕ

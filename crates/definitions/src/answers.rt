@@ -49,11 +49,24 @@ pub enum FailedCheck {
     OuterCommitU2,
 }
 
-// What the verifier answers.
-pub enum Verdict {
-    Accepted,
+// What a check of the verifier finds, and several in order.
+pub enum Checked {
+    Passed,
     Refused(Refusal),
     Failed(FailedCheck),
+}
+
+// What the verifier answers. An acceptance holds the number of cells of t, g and h with a coefficient that has something left after its digits.
+pub enum Verdict {
+    Accepted(usize),
+    Refused(Refusal),
+    Failed(FailedCheck),
+}
+
+// What the digit rule gives of a number: its digits in 32 places, and the size left over.
+pub struct Decomposed {
+    pub digits: [u32; 32],
+    pub left: u32,
 }
 
 // What the prover and its rounds answer.

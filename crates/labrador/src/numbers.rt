@@ -6,7 +6,7 @@ use leaf_calls::numbers;
 ghost use mathlib.Core.Path.{_≡_};
 ghost use mathlib.Core.List.{[], _∷_};
 ghost use Rattle.definitions.specs.Zq.{zadd, zsub, zneg, zmul, centre};
-ghost use Rattle.definitions.specs.Digits.{digitPlaces};
+ghost use Rattle.definitions.specs.Digits.{decomposed};
 ghost use Rattle.definitions.specs.Projection.{entry};
 ghost use Rattle.definitions.specs.Leaf.{canonicalWords, digitOperands};
 ghost use Rattle.leaf_answers.specs.Answers.{wordAnswer, centreAnswer, digitsAnswer};
@@ -51,10 +51,10 @@ pub extern "C" fn labrador_zq_centre(a: u32) -> CentreAnswer
     numbers::zq_centre(a)
 }
 
-// The digits of a number in 32 places.
+// The digits of a number in 32 places, and the size left over.
 #[no_mangle]
 pub extern "C" fn labrador_zq_digits(base: u32, parts: u32, a: u32) -> DigitsAnswer
-    ensures { λ r. ⌜ r ≡ digitsAnswer (digitOperands base parts (a ∷ [])) (digitPlaces base parts a) ⌝ }
+    ensures { λ r. ⌜ r ≡ digitsAnswer (digitOperands base parts (a ∷ [])) (decomposed base parts a) ⌝ }
 {
     numbers::zq_digits(base, parts, a)
 }

@@ -17,7 +17,7 @@ use Rattle.lists.proofs.Splice.{splice-eq}
 use Rattle.definitions.specs.Digits.{digit}
 use Rattle.definitions.specs.Rq.{coeff, rzero, digitRow, digitRows}
 use Rattle.definitions.specs.Leaf.{digitOperands}
-use Rattle.definitions.specs.Answer.{Answer, fine, refused, failed, result}
+use Rattle.definitions.specs.Answer.{Answer, fine, accepted, refused, failed, result}
 use Rattle.definitions.proofs.Cases.{ltb-cases}
 use Rattle.leaf_answers.specs.Rows.{rowsOrZero, rowWords, wordsWritten}
 
@@ -43,6 +43,7 @@ rows-or-zero base parts a = by (digitOperands base parts a)
   where
     by : (x : Answer) → Rows64 (result x (digitRows base parts a) (replicate 32 rzero))
     by fine = digit-rows base parts a
+    by (accepted cells) = zero-rows
     by (refused n p) = zero-rows
     by (failed n vs) = zero-rows
 

@@ -3,6 +3,7 @@ use mathlib.Core.List.{List}
 use Prim.Native.Nat.{ℕ, _/_, _%_, _^_}
 use lib.IntN.{ℤ, pos}
 use lib.ListN.{replicate, take, drop}
+use Rattle.definitions.specs.declared.answers.Decomposed.{Decomposed}
 use Rattle.definitions.specs.Answer.{Answer, number, place, result}
 use Rattle.definitions.specs.Rq.{rzero}
 use Rattle.definitions.specs.Challenge.{challenge}
@@ -26,9 +27,9 @@ wordAnswer a value = record { number = number a; place = place a; value = result
 abbrev pub centreAnswer : Answer → ℤ → CentreAnswer
 centreAnswer a value = record { number = number a; place = place a; value = result a value (pos 0) }
 
--- the digits of a number in 32 places
-abbrev pub digitsAnswer : Answer → List ℕ → DigitsAnswer
-digitsAnswer a digits = record { number = number a; place = place a; digits = result a digits (replicate 32 0) }
+-- the digits of a number in 32 places, and the size left over
+abbrev pub digitsAnswer : Answer → Decomposed → DigitsAnswer
+digitsAnswer a d = record { number = number a; place = place a; digits = result a (d .digits) (replicate 32 0); left = result a (d .left) 0 }
 
 -- an element
 abbrev pub elementAnswer : Answer → List ℕ → ElementAnswer

@@ -26,11 +26,13 @@ pub struct CentreAnswer {
     pub value: i64,
 }
 
+// The digits and the size left over (document 02, Item 5).
 #[repr(C)]
 pub struct DigitsAnswer {
     pub number: u32,
     pub place: u32,
     pub digits: [u32; 32],
+    pub left: u32,
 }
 
 #[repr(C)]

@@ -1,13 +1,17 @@
-// The call on the digits of an element.
+// The calls on the digits of an element.
 use leaf_answers::answers;
+use leaf_answers::answers::ElementAnswer;
 use leaf_answers::answers::Status;
 use leaf_answers::digits::rq_digit_operands;
 use leaf_answers::digits::rq_digit_rows;
 use leaf_answers::digits::store_rows;
 use rq::rq::Rq;
+use rq_digits::digits;
 ghost use mathlib.Core.Path.{_≡_};
 ghost use lib.ListN.{length};
-ghost use Rattle.leaf_answers.specs.Answers.{statusOf};
+ghost use Rattle.definitions.specs.Leaf.{digitOperands};
+ghost use Rattle.definitions.specs.Rq.{leftRow};
+ghost use Rattle.leaf_answers.specs.Answers.{statusOf, elementAnswer};
 ghost use Rattle.leaf_answers.specs.Rows.{wordsFound, wordsWritten};
 
 // The digits of an element, written into the first 2048 words of a lent slice.
@@ -27,4 +31,26 @@ pub fn rq_digits(base: u32, parts: u32, a: Rq, out: &mut [u32]) -> Status
     }
     store_rows(rq_digit_rows(base, parts, a), out);
     s
+}
+
+// The size left over of each coefficient after its digits (document 02, Item 5).
+pub fn rq_left(base: u32, parts: u32, a: Rq) -> ElementAnswer
+    ensures { λ r. ⌜ r ≡ elementAnswer (digitOperands base parts (a .coeffs)) (leftRow base parts (a .coeffs)) ⌝ }
+{
+    let s = answers::status_of(rq_digit_operands(base, parts, a));
+    if s.number == 0 {
+        let left = digits::left_over(a, base, parts as usize);
+        let coeffs = left.coeffs;
+        ElementAnswer {
+            number: s.number,
+            place: s.place,
+            coeffs,
+        }
+    } else {
+        ElementAnswer {
+            number: s.number,
+            place: s.place,
+            coeffs: [0u32; Rq::DEGREE],
+        }
+    }
 }

@@ -10,7 +10,7 @@ use zq::zq::Zq;
 ghost use mathlib.Core.Path.{_≡_};
 ghost use mathlib.Core.List.{[], _∷_};
 ghost use Rattle.definitions.specs.Zq.{zadd, zsub, zneg, zmul, centre};
-ghost use Rattle.definitions.specs.Digits.{digitPlaces};
+ghost use Rattle.definitions.specs.Digits.{decomposed};
 ghost use Rattle.definitions.specs.Projection.{entry};
 ghost use Rattle.definitions.specs.Leaf.{canonicalWords, digitOperands};
 ghost use Rattle.leaf_answers.specs.Answers.{wordAnswer, centreAnswer, digitsAnswer};
@@ -50,23 +50,27 @@ pub fn zq_centre(a: u32) -> CentreAnswer
     answers::centre_of(leaf::number(a), Zq(a).centered_mod())
 }
 
-// The digits of a number in 32 places.
+// The digits of a number in 32 places, and the size left over.
 pub fn zq_digits(base: u32, parts: u32, a: u32) -> DigitsAnswer
-    ensures { λ r. ⌜ r ≡ digitsAnswer (digitOperands base parts (a ∷ [])) (digitPlaces base parts a) ⌝ }
+    ensures { λ r. ⌜ r ≡ digitsAnswer (digitOperands base parts (a ∷ [])) (decomposed base parts a) ⌝ }
 {
     let words = [a];
     let s = answers::status_of(leaf::digit_operands(base, parts, &words));
     if s.number == 0 {
+        let taken = digits::decompose(Zq(a), base, parts as usize);
+        let digits = taken.digits;
         DigitsAnswer {
             number: s.number,
             place: s.place,
-            digits: digits::decompose(Zq(a), base, parts as usize),
+            digits,
+            left: taken.left,
         }
     } else {
         DigitsAnswer {
             number: s.number,
             place: s.place,
             digits: [0u32; 32],
+            left: 0,
         }
     }
 }

@@ -5,7 +5,7 @@ use Prim.Native.Nat.{ℕ, _≤_, _<_, _^_}
 use native.Mathlib.Decide.{decLe}
 use native.Mathlib.Omega.{arith}
 use lib.ListN.{length}
-use Rattle.definitions.specs.Answer.{Answer, fine, refused, failed, _then_}
+use Rattle.definitions.specs.Answer.{Answer, fine, accepted, refused, failed, _then_}
 use Rattle.protocol.specs.Checks.{require}
 use Rattle.protocol.specs.Parameters.{Parameters, parameters, limits, kappa-is-L}
 use Rattle.protocol.specs.Layout.{Section, span, counted, first-section, job-sections, witness-sections, randomness-sections, output-refusal}
@@ -61,6 +61,7 @@ all-refusals G job witness randomness = regroup (needs-refusal G) (output-refusa
   where
     regroup : (a b c d : Answer) → a then b then c then d ≡ a then (b then c then d)
     regroup fine b c d = refl
+    regroup (accepted cells) b c d = refl
     regroup (refused n p) b c d = refl
     regroup (failed n vs) b c d = refl
 

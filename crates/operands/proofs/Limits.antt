@@ -6,7 +6,7 @@ use Prim.Native.Nat.{ℕ, _≤_, _<_}
 use native.Mathlib.Omega.{arith}
 use lib.Dec.{ltb}
 use Rattle.definitions.specs.Zq.{Q}
-use Rattle.definitions.specs.Answer.{Answer, fine, refused, failed, below, _then_}
+use Rattle.definitions.specs.Answer.{Answer, fine, accepted, refused, failed, below, _then_}
 use Rattle.definitions.specs.Leaf.{limited, digitOperands}
 use Rattle.definitions.proofs.Cases.{ltb-cases}
 
@@ -17,6 +17,7 @@ never e = let z : _≡_ {A = ℕ} 0 1 = cc in absurd (omega arith)
 -- where the first of two answers that is not fine is none, both are fine
 both : (a b : Answer) → a then b ≡ fine → (a ≡ fine) × (b ≡ fine)
 both fine b e = (refl, e)
+both (accepted cells) b e = let z : _≡_ {A = ℕ} 0 1 = cc in absurd (omega arith)
 both (refused n p) b e = never e
 both (failed n vs) b e = let z : _≡_ {A = ℕ} 0 1 = cc in absurd (omega arith)
 

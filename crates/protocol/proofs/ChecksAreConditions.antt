@@ -11,22 +11,23 @@ use Rattle.lists.proofs.Cat.{cat-ext}
 use Rattle.lists.proofs.Sum.{Σ-ext}
 use Rattle.definitions.specs.Zq.{Q}
 use Rattle.definitions.specs.Norm.{square, norm}
-use Rattle.definitions.specs.Answer.{fine, refused, failed, _then_}
+use Rattle.definitions.specs.Answer.{fine, accepted, refused, failed, _then_}
 use Rattle.definitions.specs.Rq.{Element, coeff, rzero}
 use Rattle.definitions.specs.Ring.{words}
 use Rattle.protocol.specs.Checks.{require, first}
 use Rattle.protocol.specs.Views.{Public, Message}
 use Rattle.protocol.specs.Parameters.{Parameters}
 use Rattle.protocol.specs.Formulas as F
-use Rattle.protocol.specs.Formulas.{_⊕_, _⊗_, sum, pairs, rows, triangle, digits-of, norm-of, t-digits, g-digits, h-digits, a-sum, b-sum, u₁-of, u₂-of}
+use Rattle.protocol.specs.Formulas.{_⊕_, _⊗_, sum, pairs, rows, triangle, digits-of, norm-of, count-left, cells-left-of, t-digits, g-digits, h-digits, a-sum, b-sum, u₁-of, u₂-of}
 use Rattle.protocol.specs.Prover.{t-norm, g-norm, h-norm}
-use Rattle.protocol.specs.Conditions.{p-norm, psi-error, sent, computed, digit-sum, alpha-error, conditions}
+use Rattle.protocol.specs.Conditions.{p-norm, psi-error, sent, computed, digit-sum, cells-left, alpha-error, conditions}
 use Rattle.protocol.specs.Verifier.{twice, same, z-parts, check-21, check-22, check-23, check-27, check-28, check-29, checks}
 use Rattle.protocol.proofs.Agrees.{Agrees}
 use Rattle.protocol.proofs.Fine.{require-holds}
 use Rattle.protocol.proofs.Checks.{then-fine, require-iff, first-ext, first-fine}
 use Rattle.protocol.proofs.PsiRows.{psi-row-met}
 use Rattle.protocol.proofs.Norms.{norm-table, parts-of-table, digits-of-rows, digits-of-triangle}
+use Rattle.protocol.proofs.CellsLeft.{cells-left-by-formulas}
 use Rattle.protocol.proofs.Relations.{check-24-fine, check-25-fine, check-26-fine, aggregated-relation}
 
 -- rows of cells that agree
@@ -47,17 +48,34 @@ module _ (X : Public) (s : ℕ → ℕ → Element) (M : Message) (agrees : Agre
   open Public X using (P, b₀, psi, omega)
   open Parameters P using (n, r, κ, κ₁, κ₂, l, L, beta-sq, beta-prime-sq)
 
+  -- the cells of t, g and h that are sent
+  t-cells : rows r κ (M .t) ≡ rows r κ (F.t X s)
+  t-cells = rows-ext r κ (M .t) (F.t X s) (agrees .t)
+
+  g-cells : triangle r (M .g) ≡ triangle r (F.g X s)
+  g-cells = triangle-ext r (M .g) (F.g X s) (agrees .g)
+
+  h-cells : triangle r (M .h) ≡ triangle r (F.h X s)
+  h-cells = triangle-ext r (M .h) (F.h X s) (agrees .h)
+
   -- the digits of the t that is sent
   same-t : t-digits X (M .t) ≡ t-digits X (F.t X s)
-  same-t = ap (digits-of (P .b) (P .t₁)) (rows-ext r κ (M .t) (F.t X s) (agrees .t))
+  same-t = ap (digits-of (P .b) (P .t₁)) t-cells
 
   -- the digits of the g that is sent
   same-g : g-digits X (M .g) ≡ g-digits X (F.g X s)
-  same-g = ap (digits-of (P .b) (P .t₂)) (triangle-ext r (M .g) (F.g X s) (agrees .g))
+  same-g = ap (digits-of (P .b) (P .t₂)) g-cells
 
   -- the digits of the h that is sent
   same-h : h-digits X (M .h) ≡ h-digits X (F.h X s)
-  same-h = ap (digits-of (P .b) (P .t₁)) (triangle-ext r (M .h) (F.h X s) (agrees .h))
+  same-h = ap (digits-of (P .b) (P .t₁)) h-cells
+
+  -- the number of cells with something left is that of the cells by the formulas
+  pub cells-left-is : cells-left-of X (M .t) (M .g) (M .h) ≡ cells-left X s
+  unfolding cells-left-of
+  cells-left-is =
+      ap₂ _+_ (ap₂ _+_ (ap (count-left (P .b) (P .t₁)) t-cells) (ap (count-left (P .b) (P .t₂)) g-cells)) (ap (count-left (P .b) (P .t₁)) h-cells)
+      ∙ sym (cells-left-by-formulas X s)
 
   -- check 21 is the condition on the norm of p
   pub check-21-is : check-21 X M ≡ require (decLe (p-norm X s) (128 * beta-sq)) (failed 21 (p-norm X s ∷ 128 * beta-sq ∷ []))
@@ -156,5 +174,6 @@ checks-are-conditions X s M agrees e t-fine g-fine h-fine = (λ i.
     then (g-norm-is X s M agrees ∙ g-fine) i
     then check-28-fine X s M agrees i
     then (h-norm-is X s M agrees ∙ h-fine) i
-    then check-29-fine X s M agrees i)
+    then check-29-fine X s M agrees i
+    then accepted (cells-left-is X s M agrees i))
     ∙ simp then-fine

@@ -1,4 +1,4 @@
--- A witness that meets every constraint gets fine, 21 or 23 of the conditions, and nothing else.
+-- A witness that meets every constraint gets an acceptance, 21 or 23 of the conditions, and nothing else.
 use mathlib.Core.Path.{_≡_, sym, ap, _∙_}
 use mathlib.Core.List.{[], _∷_, List-discrete}
 use Prim.Native.Nat.{ℕ, _*_, _%_, _<_}
@@ -8,7 +8,7 @@ use Rattle.lists.proofs.Sum.{Σ-ext, Σ-zero}
 use Rattle.algebra.proofs.Ring.{mul-nil}
 use Rattle.algebra.proofs.Sum.{sum-is-nil}
 use Rattle.definitions.specs.Zq.{Q}
-use Rattle.definitions.specs.Answer.{failed, _then_}
+use Rattle.definitions.specs.Answer.{accepted, failed, _then_}
 use Rattle.definitions.specs.Rq.{Element, rzero}
 use Rattle.definitions.specs.Ring.{RqOps, words}
 use Rattle.definitions.proofs.RqRing.{rq-ring, words-path}
@@ -16,7 +16,7 @@ use Rattle.definitions.proofs.Bridge.{words-nil}
 use Rattle.protocol.specs.Checks.{require}
 use Rattle.protocol.specs.Views.{Public}
 use Rattle.protocol.specs.Formulas.{_⊗_}
-use Rattle.protocol.specs.Conditions.{p-norm, constant-error, psi-error, sent, computed, digit-sum, ring-error, alpha-error, conditions}
+use Rattle.protocol.specs.Conditions.{p-norm, constant-error, psi-error, sent, computed, digit-sum, cells-left, ring-error, alpha-error, conditions}
 use Rattle.protocol.proofs.Fine.{require-holds}
 use Rattle.protocol.proofs.Checks.{then-fine, first-fine}
 
@@ -35,17 +35,19 @@ module _ (X : Public) (s : ℕ → ℕ → Element) where
       ap (_⊗_ (X .alpha k)) (words-path (ring-error X s k) (RqOps .nil) (met k h ∙ sym words-nil)) ∙ mul-nil RqOps rq-ring (X .alpha k)))
       ∙ words-nil
 
--- of a witness that meets every constraint the conditions are the two on norms, in order
+-- of a witness that meets every constraint the conditions are the two on norms, in order, and then an acceptance
 pub conditions-of-met : (X : Public) (s : ℕ → ℕ → Element)
     → ((x : ℕ) → x < X .P .l → constant-error X s x ≡ 0)
     → ((k : ℕ) → k < X .P .K → words (ring-error X s k) ≡ rzero)
     → conditions X s
     ≡ require (decLe (p-norm X s) (128 * X .P .beta-sq)) (failed 21 (p-norm X s ∷ 128 * X .P .beta-sq ∷ []))
     then require (decLe (digit-sum X s) (X .P .beta-prime-sq)) (failed 23 (digit-sum X s ∷ X .P .beta-prime-sq ∷ []))
+    then accepted (cells-left X s)
 unfolding conditions
 conditions-of-met X s constants rings = (λ i.
     require (decLe (p-norm X s) (128 * X .P .beta-sq)) (failed 21 (p-norm X s ∷ 128 * X .P .beta-sq ∷ []))
     then first-fine (X .P .L) (λ k. require (ℕ-discrete (psi-error X s k) 0) (failed 22 (k ∷ sent X s k ∷ computed X s k ∷ []))) (λ k h. require-holds (ℕ-discrete (psi-error X s k) 0) _ (psi-error-zero X s constants k)) i
     then require (decLe (digit-sum X s) (X .P .beta-prime-sq)) (failed 23 (digit-sum X s ∷ X .P .beta-prime-sq ∷ []))
-    then require-holds (List-discrete ℕ-discrete (words (alpha-error X s)) rzero) (failed 27 []) (alpha-error-zero X s rings) i)
+    then require-holds (List-discrete ℕ-discrete (words (alpha-error X s)) rzero) (failed 27 []) (alpha-error-zero X s rings) i
+    then accepted (cells-left X s))
     ∙ simp then-fine

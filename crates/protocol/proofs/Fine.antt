@@ -3,7 +3,7 @@ use mathlib.Core.Path.{_≡_, refl, ap, _∙_}
 use mathlib.Core.List.{List}
 use Prim.Native.Nat.{ℕ}
 use native.Mathlib.Omega.{arith}
-use Rattle.definitions.specs.Answer.{Answer, fine, refused, failed, _then_}
+use Rattle.definitions.specs.Answer.{Answer, fine, accepted, refused, failed, _then_}
 use Rattle.protocol.specs.Checks.{require}
 
 -- a fact that holds is not complained of
@@ -21,6 +21,10 @@ pub required {ℓ} : {A : Type ℓ} (d : Dec A) (answer : Answer) → (answer �
 required (yes a) answer bad e = a
 required (no n) answer bad e = absurd (bad e)
 
+-- an acceptance is not fine
+pub accepted-not-fine : (cells : ℕ) → accepted cells ≡ fine → ⊥
+accepted-not-fine cells e = let z : _≡_ {A = ℕ} 0 1 = cc in omega arith
+
 -- a refusal is not fine
 pub refused-not-fine : (number place : ℕ) → refused number place ≡ fine → ⊥
 refused-not-fine number place e = let z : _≡_ {A = ℕ} 0 1 = cc in omega arith
@@ -33,6 +37,24 @@ failed-not-fine number values e = let z : _≡_ {A = ℕ} 0 1 = cc in omega arit
 pub failed-not-refused : (number : ℕ) (values : List ℕ) (number′ place : ℕ) → failed number values ≡ refused number′ place → ⊥
 failed-not-refused number values number′ place e = let z : _≡_ {A = ℕ} 0 1 = cc in omega arith
 
+-- a refusal is not an acceptance
+pub refused-not-accepted : (number place cells : ℕ) → refused number place ≡ accepted cells → ⊥
+refused-not-accepted number place cells e = let z : _≡_ {A = ℕ} 0 1 = cc in omega arith
+
+-- nor is a failed check
+pub failed-not-accepted : (number : ℕ) (values : List ℕ) (cells : ℕ) → failed number values ≡ accepted cells → ⊥
+failed-not-accepted number values cells e = let z : _≡_ {A = ℕ} 0 1 = cc in omega arith
+
+-- the number that an acceptance holds
+abbrev held : Answer → ℕ
+held fine = 0
+held (accepted cells) = cells
+held (refused n p) = 0
+held (failed n vs) = 0
+
+pub accepted-same : (cells cells′ : ℕ) → accepted cells ≡ accepted cells′ → cells ≡ cells′
+accepted-same cells cells′ e = ap held e
+
 -- two fine answers
 pub then-both-fine : {a b : Answer} → a ≡ fine → b ≡ fine → a then b ≡ fine
 then-both-fine {b = b} e f = ap (λ x. x then b) e ∙ f
@@ -40,12 +62,14 @@ then-both-fine {b = b} e f = ap (λ x. x then b) e ∙ f
 -- the first of two answers that are fine together
 pub then-fine-left : (a b : Answer) → a then b ≡ fine → a ≡ fine
 then-fine-left fine b e = refl
+then-fine-left (accepted cells) b e = e
 then-fine-left (refused n p) b e = e
 then-fine-left (failed n vs) b e = e
 
 -- the second of two answers that are fine together
 pub then-fine-right : (a b : Answer) → a then b ≡ fine → b ≡ fine
 then-fine-right fine b e = e
+then-fine-right (accepted cells) b e = absurd (accepted-not-fine cells e)
 then-fine-right (refused n p) b e = absurd (refused-not-fine n p e)
 then-fine-right (failed n vs) b e = absurd (failed-not-fine n vs e)
 

@@ -7,6 +7,7 @@ pub mod First
 pub mod Sections
 pub mod Flat
 pub mod Norms
+pub mod CellsLeft
 pub mod Relations
 pub mod ChecksAreConditions
 pub mod Corollary
@@ -20,6 +21,7 @@ pub mod Rounds
 pub mod Total
 pub mod Demand3
 pub mod Stated
+pub mod Unaccepted
 pub mod OneKind
 pub mod SecondPart
 pub mod LoadSections

@@ -8,18 +8,18 @@ use native.Mathlib.Omega.{arith}
 use borrow.Author.Tests.{ltb-false}
 use lib.Dec.{ltb}
 use lib.ListN.{length, take}
-use Rattle.definitions.specs.Answer.{Answer, fine, refused, _then_}
+use Rattle.definitions.specs.Answer.{Answer, fine, accepted, refused, _then_}
 use Rattle.definitions.specs.Leaf.{limited}
 use Rattle.protocol.specs.Parameters.{Parameters, parameters, some-constraint, limits, kappa-is-L}
 use Rattle.protocol.specs.Layout.{span, sections, transcript-sections, scratch-need, job-refusal, randomness-refusal, witness-refusal}
 use Rattle.protocol.specs.Views.{public, witness}
 use Rattle.protocol.specs.Prover.{whole, prove-refusal, work-refusal, prove, prove-output}
 use Rattle.protocol.specs.Verifier.{verify}
-use Rattle.protocol.specs.Conditions.{conditions}
+use Rattle.protocol.specs.Conditions.{cells-left}
 use Rattle.protocol.specs.Load.{Given, load-parameters, needs-refusal, load-witness, load-randomness, load-job, load-vectors}
 use Rattle.protocol.proofs.Fine.{require-holds, refused-not-fine, then-both-fine, then-fine-left, then-fine-right}
 use Rattle.protocol.proofs.LoadJob.{load-job-fine, load-randomness-fine, load-witness-fine, load-constant-met, load-ring-met}
-use Rattle.protocol.proofs.LoadNorms.{Ample, work-fine, conditions-fine}
+use Rattle.protocol.proofs.LoadNorms.{Ample, work-fine, conditions-accepted}
 use Rattle.protocol.proofs.Demand3.{demand-3}
 
 -- a value that is not refused is at most its greatest
@@ -89,10 +89,11 @@ module _ (G : Given) (seed : ℕ) (fits : seed < 2 ^ 32) (admitted : needs-refus
       (require-holds (decLe (span (transcript-sections P)) output) (refused 2 (span (transcript-sections P))) room))
       (work-fine (public (load-job G seed) (load-randomness G seed)) (load-vectors G seed) (ample G within))
 
-  -- the verifier accepts it
+  -- the verifier accepts it, with the number of its cells that have something left
   pub load-accepted : (scratch output : List ℕ) (lent : ℕ) → scratch-need (load-parameters G) ≤ length scratch → span (transcript-sections (load-parameters G)) ≤ length output → scratch-need (load-parameters G) ≤ lent
-      → verify (load-job G seed) (load-randomness G seed) (take (span (transcript-sections (load-parameters G))) (prove-output whole (load-job G seed) (load-randomness G seed) (load-witness G seed) scratch output)) lent ≡ fine
+      → verify (load-job G seed) (load-randomness G seed) (take (span (transcript-sections (load-parameters G))) (prove-output whole (load-job G seed) (load-randomness G seed) (load-witness G seed) scratch output)) lent
+      ≡ accepted (cells-left (public (load-job G seed) (load-randomness G seed)) (load-vectors G seed))
   unfolding load-job sections
   load-accepted scratch output lent enough room lent-enough =
       demand-3 (load-job G seed) (load-randomness G seed) (load-witness G seed) scratch output lent (load-proved (length scratch) (length output) enough room) lent-enough
-      ∙ conditions-fine (public (load-job G seed) (load-randomness G seed)) (load-vectors G seed) (ample G within) (load-constant-met G seed fits (load-randomness G seed)) (load-ring-met G seed fits (load-randomness G seed))
+      ∙ conditions-accepted (public (load-job G seed) (load-randomness G seed)) (load-vectors G seed) (ample G within) (load-constant-met G seed fits (load-randomness G seed)) (load-ring-met G seed fits (load-randomness G seed))

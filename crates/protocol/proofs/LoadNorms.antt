@@ -12,7 +12,7 @@ use Rattle.lists.proofs.Sum.{Σ-bound}
 use Rattle.lists.proofs.Table.{length-table}
 use Rattle.definitions.specs.Zq.{Canonical}
 use Rattle.definitions.specs.Norm.{square, norm}
-use Rattle.definitions.specs.Answer.{fine, refused, failed}
+use Rattle.definitions.specs.Answer.{fine, accepted, refused, failed, _then_}
 use Rattle.definitions.specs.Rq.{Element, AllCanonical, rzero, digitRow}
 use Rattle.definitions.specs.Ring.{words, canonical-mod}
 use Rattle.definitions.proofs.Centre.{size-le}
@@ -21,7 +21,7 @@ use Rattle.protocol.specs.Views.{Public}
 use Rattle.protocol.specs.Formulas as F
 use Rattle.protocol.specs.Formulas.{flat, norm-of, digit-element, rest-element, digits-of, rows, triangle}
 use Rattle.protocol.specs.Prover.{whole, witness-norm, t-norm, g-norm, h-norm, work-refusal}
-use Rattle.protocol.specs.Conditions.{two-parts-norm, digits-norm, p-norm, digit-sum, constant-error, ring-error, conditions}
+use Rattle.protocol.specs.Conditions.{two-parts-norm, digits-norm, p-norm, digit-sum, cells-left, constant-error, ring-error, conditions}
 use Rattle.protocol.proofs.Fine.{require-holds, then-both-fine}
 use Rattle.protocol.proofs.Checks.{first-fine}
 use Rattle.protocol.proofs.Flat.{length-flat, flat-canonical}
@@ -122,9 +122,10 @@ module _ (X : Public) (s : ℕ → ℕ → Element) (ample : Ample (X .P)) where
   digit-sum-le = omega (arith, z-norm-le, t-norm-le, g-norm-le, h-norm-le)
 
   -- of a witness that meets each constraint the four conditions hold: 21 and 23 can't happen
-  pub conditions-fine : ((x : ℕ) → x < P .l → constant-error X s x ≡ 0) → ((k : ℕ) → k < P .K → words (ring-error X s k) ≡ rzero) → conditions X s ≡ fine
-  conditions-fine constants rings =
+  pub conditions-accepted : ((x : ℕ) → x < P .l → constant-error X s x ≡ 0) → ((k : ℕ) → k < P .K → words (ring-error X s k) ≡ rzero) → conditions X s ≡ accepted (cells-left X s)
+  conditions-accepted constants rings =
       conditions-of-met X s constants rings
-      ∙ then-both-fine
+      ∙ ap (λ a. a then accepted (cells-left X s))
+      (then-both-fine
       (require-holds (decLe (p-norm X s) (128 * beta-sq)) (failed 21 (p-norm X s ∷ 128 * beta-sq ∷ [])) p-norm-le)
-      (require-holds (decLe (digit-sum X s) beta-prime-sq) (failed 23 (digit-sum X s ∷ beta-prime-sq ∷ [])) digit-sum-le)
+      (require-holds (decLe (digit-sum X s) beta-prime-sq) (failed 23 (digit-sum X s ∷ beta-prime-sq ∷ [])) digit-sum-le))

@@ -1,6 +1,6 @@
 -- Demand 3 in its own words (`Demand-3` in specs/Conditions): of a transcript that the prover makes, the verifier accepts exactly when the four conditions hold, never refuses, and
 -- otherwise names the first of the four that fails, with its figures; of a witness that meets all constraints it accepts or names a norm.
-use mathlib.Core.Path.{_≡_, refl, sym, subst}
+use mathlib.Core.Path.{_≡_, refl, sym, ap, subst, _∙_}
 use mathlib.Core.Logic.{_⊎_, inl, inr}
 use mathlib.Core.List.{List, [], _∷_, List-discrete}
 use Prim.Native.Nat.{ℕ, zero, suc, _*_, _≤_, _<_}
@@ -8,7 +8,7 @@ use native.Mathlib.Nat.{not-suc-le-zero, eq-or-lt-of-le}
 use native.Mathlib.Decide.{decLe, ℕ-discrete}
 use native.Mathlib.Omega.{arith}
 use lib.ListN.{length, take}
-use Rattle.definitions.specs.Answer.{Answer, fine, refused, failed, number, _then_}
+use Rattle.definitions.specs.Answer.{Answer, fine, accepted, refused, failed, number, _then_}
 use Rattle.definitions.specs.Rq.{Element, rzero}
 use Rattle.definitions.specs.Ring.{words}
 use Rattle.protocol.specs.Checks.{require, first}
@@ -17,8 +17,8 @@ use Rattle.protocol.specs.Layout.{span, transcript-sections, scratch-nee
 use Rattle.protocol.specs.Views.{Public, public, witness}
 use Rattle.protocol.specs.Prover.{whole, prove, prove-output}
 use Rattle.protocol.specs.Verifier.{verify}
-use Rattle.protocol.specs.Conditions.{p-norm, psi-error, sent, computed, digit-sum, alpha-error, conditions, Held, Named, all-hold, by-21, by-22, by-23, by-27, Meets, Demand-3}
-use Rattle.protocol.proofs.Fine.{refused-not-fine, failed-not-fine, failed-not-refused}
+use Rattle.protocol.specs.Conditions.{p-norm, psi-error, sent, computed, digit-sum, cells-left, alpha-error, conditions, Held, Named, all-hold, by-21, by-22, by-23, by-27, Meets, Demand-3}
+use Rattle.protocol.proofs.Fine.{failed-not-accepted, failed-not-refused, refused-not-accepted, accepted-same}
 use Rattle.protocol.proofs.Corollary.{psi-error-zero, alpha-error-zero}
 use Rattle.protocol.proofs.Demand3.{demand-3}
 
@@ -50,7 +50,7 @@ module _ (X : Public) (s : ℕ → ℕ → Element) where
   -- what the conditions answer, once each of the four is decided
   named-by : (d₁ : Dec (p-norm X s ≤ 128 * X .P .beta-sq)) (a : Answer) → Lowest (psi-error X s) (λ k. k ∷ sent X s k ∷ computed X s k ∷ []) (X .P .L) a
       → (d₃ : Dec (digit-sum X s ≤ X .P .beta-prime-sq)) (d₄ : Dec (words (alpha-error X s) ≡ rzero))
-      → Named X s (require d₁ (failed 21 (p-norm X s ∷ 128 * X .P .beta-sq ∷ [])) then a then require d₃ (failed 23 (digit-sum X s ∷ X .P .beta-prime-sq ∷ [])) then require d₄ (failed 27 []))
+      → Named X s (require d₁ (failed 21 (p-norm X s ∷ 128 * X .P .beta-sq ∷ [])) then a then require d₃ (failed 23 (digit-sum X s ∷ X .P .beta-prime-sq ∷ [])) then require d₄ (failed 27 []) then accepted (cells-left X s))
   named-by (no bad) a l d₃ d₄ = by-21 (omega arith)
   named-by (yes h) _ (lowest k below before bad) d₃ d₄ = by-22 k h below before bad
   named-by (yes h) _ (none zeros) (no bad) d₄ = by-23 h zeros (omega arith)
@@ -65,32 +65,32 @@ module _ (X : Public) (s : ℕ → ℕ → Element) where
       (List-discrete ℕ-discrete (words (alpha-error X s)) rzero)
 
 module _ {X : Public} {s : ℕ → ℕ → Element} where
-  -- only an acceptance is fine
-  named-fine : {a : Answer} → Named X s a → a ≡ fine → Held X s
-  named-fine (all-hold h) e = h
-  named-fine (by-21 f) e = absurd (failed-not-fine _ _ e)
-  named-fine (by-22 k f l before bad) e = absurd (failed-not-fine _ _ e)
-  named-fine (by-23 f zeros g) e = absurd (failed-not-fine _ _ e)
-  named-fine (by-27 f zeros g bad) e = absurd (failed-not-fine _ _ e)
+  -- where the answer is an acceptance, the four hold, and it has the number of cells with something left
+  named-accepted : {a : Answer} → Named X s a → (cells : ℕ) → a ≡ accepted cells → Held X s × (cells ≡ cells-left X s)
+  named-accepted (all-hold h) cells e = (h, sym (accepted-same (cells-left X s) cells e))
+  named-accepted (by-21 f) cells e = absurd (failed-not-accepted _ _ cells e)
+  named-accepted (by-22 k f l before bad) cells e = absurd (failed-not-accepted _ _ cells e)
+  named-accepted (by-23 f zeros g) cells e = absurd (failed-not-accepted _ _ cells e)
+  named-accepted (by-27 f zeros g bad) cells e = absurd (failed-not-accepted _ _ cells e)
 
   -- where the four hold, none is named
-  held-fine : {a : Answer} → Named X s a → Held X s → a ≡ fine
-  held-fine (all-hold h) four = refl
-  held-fine (by-21 f) four = let l = four .projection in absurd (omega arith)
-  held-fine (by-22 k f l before bad) four = absurd (bad (four .psi k l))
-  held-fine (by-23 f zeros g) four = let l = four .digits in absurd (omega arith)
-  held-fine (by-27 f zeros g bad) four = absurd (bad (four .alpha))
+  held-accepted : {a : Answer} → Named X s a → Held X s → a ≡ accepted (cells-left X s)
+  held-accepted (all-hold h) four = refl
+  held-accepted (by-21 f) four = let l = four .projection in absurd (omega arith)
+  held-accepted (by-22 k f l before bad) four = absurd (bad (four .psi k l))
+  held-accepted (by-23 f zeros g) four = let l = four .digits in absurd (omega arith)
+  held-accepted (by-27 f zeros g bad) four = absurd (bad (four .alpha))
 
   -- no refusal is named
   named-not-refused : {a : Answer} → Named X s a → (number place : ℕ) → a ≡ refused number place → ⊥
-  named-not-refused (all-hold h) number place e = refused-not-fine number place (sym e)
+  named-not-refused (all-hold h) number place e = refused-not-accepted number place (cells-left X s) (sym e)
   named-not-refused (by-21 f) number place e = failed-not-refused _ _ number place e
   named-not-refused (by-22 k f l before bad) number place e = failed-not-refused _ _ number place e
   named-not-refused (by-23 f zeros g) number place e = failed-not-refused _ _ number place e
   named-not-refused (by-27 f zeros g bad) number place e = failed-not-refused _ _ number place e
 
   -- where all constraints are met, only a norm is named
-  named-norm : {a : Answer} → Named X s a → Meets X s → (a ≡ fine) ⊎ ((number a ≡ 21) ⊎ (number a ≡ 23))
+  named-norm : {a : Answer} → Named X s a → Meets X s → (a ≡ accepted (cells-left X s)) ⊎ ((number a ≡ 21) ⊎ (number a ≡ 23))
   named-norm (all-hold h) met = inl refl
   named-norm (by-21 f) met = inr (inl refl)
   named-norm (by-22 k f l before bad) met = absurd (bad (psi-error-zero X s (met .constants) k))
@@ -102,7 +102,7 @@ pub stated : {X : Public} {s : ℕ → ℕ → Element} {a : Answer} → a ≡ c
 stated {X} {s} {a} e =
     let named : Named X s a = subst (Named X s) (sym e) (conditions-named X s) in
     record {
-      accepts-exactly-when = (named-fine named, held-fine named);
+      accepts-exactly-when = λ cells. (named-accepted named cells, λ four. held-accepted named (four .0) ∙ ap accepted (sym (four .1)));
       never-refuses = named-not-refused named;
       names-the-first = named;
       by-norm-only = named-norm named;

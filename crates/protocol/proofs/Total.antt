@@ -6,14 +6,14 @@ use native.Mathlib.Decide.{decLe}
 use native.Mathlib.Omega.{arith}
 use lib.ListN.{length, take, drop, replicate, length-append, length-drop, length-replicate}
 use lib.Seq.{take-at, drop-at}
-use Rattle.definitions.specs.Answer.{Answer, fine, refused, failed, result, _then_}
+use Rattle.definitions.specs.Answer.{Answer, fine, accepted, refused, failed, result, _then_}
 use Rattle.protocol.specs.Parameters.{parameters}
 use Rattle.protocol.specs.Layout.{span, job-refusal, randomness-refusal, transcript-refusal, scratch-refusal, scratch-need}
 use Rattle.protocol.specs.Views.{public, witness}
 use Rattle.protocol.specs.Kept.{Kept}
 use Rattle.protocol.specs.Prover.{Call, made-sections, prove-refusal, work-refusal, made, zeroed, prove-output, prove-scratch}
 use Rattle.protocol.specs.Verifier.{verify-refusal, verify-scratch}
-use Rattle.protocol.proofs.Fine.{required, refused-not-fine, failed-not-fine, then-fine-right}
+use Rattle.protocol.proofs.Fine.{required, accepted-not-fine, refused-not-fine, failed-not-fine, then-fine-right}
 use Rattle.protocol.proofs.Accepted.{admitted, length-made}
 
 -- a buffer that is left
@@ -30,12 +30,14 @@ kept-written need new buffer e h = record {
 -- a value that depends on whether an answer is fine
 result-cases {ℓ} : {A : Type ℓ} (C : A → Type 0) (a : Answer) (value none : A) → (a ≡ fine → C value) → ((a ≡ fine → ⊥) → C none) → C (result a value none)
 result-cases C fine value none f g = f refl
+result-cases C (accepted cells) value none f g = g (accepted-not-fine cells)
 result-cases C (refused n p) value none f g = g (refused-not-fine n p)
 result-cases C (failed n vs) value none f g = g (failed-not-fine n vs)
 
 -- a value for answers that are not fine
 result-none {ℓ} : {A : Type ℓ} (a : Answer) (value none : A) → (a ≡ fine → ⊥) → result a value none ≡ none
 result-none fine value none h = absurd (h refl)
+result-none (accepted cells) value none h = refl
 result-none (refused n p) value none h = refl
 result-none (failed n vs) value none h = refl
 

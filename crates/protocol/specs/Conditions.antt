@@ -1,5 +1,6 @@
 -- Demand 3's four conditions, of job, randomness and witness alone (document 01, "What the prover works out", its last two paragraphs).
 use mathlib.Core.Path.{_≡_}
+use mathlib.Core.Bool.{cond}
 use mathlib.Core.Logic.{_↔_, _⊎_}
 use mathlib.Core.List.{List, [], _∷_}
 use Prim.Native.Nat.{ℕ, _+_, _*_, _%_, _≤_, _<_}
@@ -7,14 +8,14 @@ use native.Mathlib.Decide.{decLe, ℕ-discrete}
 use Rattle.lists.specs.Sum.{Σ}
 use Rattle.definitions.specs.Zq.{Q, zsub}
 use Rattle.definitions.specs.Norm.{square, norm}
-use Rattle.definitions.specs.Answer.{Answer, fine, refused, failed, number, _then_}
+use Rattle.definitions.specs.Answer.{Answer, accepted, refused, failed, number, _then_}
 use Rattle.definitions.specs.Rq.{Element, coeff, rzero, rsub, digitRow, restRow}
 use Rattle.definitions.specs.Ring.{words, element}
 use mathlib.Core.List.{List-discrete}
 use Rattle.protocol.specs.Checks.{require, first}
 use Rattle.protocol.specs.Parameters.{Parameters}
 use Rattle.protocol.specs.Views.{Public}
-use Rattle.protocol.specs.Formulas.{_⊗_, sum, left, t, g, h, z, p, b″}
+use Rattle.protocol.specs.Formulas.{_⊗_, sum, left, nothing-left, t, g, h, z, p, b″}
 
 -- the norms of digit 0 of an element and of the rest together (document 02, Item 9)
 abbrev pub two-parts-norm : ℕ → Element → ℕ
@@ -23,6 +24,10 @@ two-parts-norm b e = norm (digitRow b (words e) 0) + norm (restRow b (words e))
 -- the norms of an element's digits in a number of parts together
 abbrev pub digits-norm : ℕ → ℕ → Element → ℕ
 digits-norm b parts e = Σ parts (λ q. norm (digitRow b (words e) q))
+
+-- 1 of a cell that has a coefficient with something left, 0 of any other (document 02, Item 5)
+abbrev pub one-if-left : ℕ → ℕ → Element → ℕ
+one-if-left b parts e = cond (nothing-left b parts e) 0 1
 
 module _ (X : Public) (s : ℕ → ℕ → Element) where
   open Public X using (P, a′, φ′, b₀, a, φ, b, psi, omega, alpha)
@@ -55,6 +60,13 @@ module _ (X : Public) (s : ℕ → ℕ → Element) where
       + Σ r (λ i. Σ (i + 1) (λ j. digits-norm (P .b) t₂ (g X s i j)))
       + Σ r (λ i. Σ (i + 1) (λ j. digits-norm (P .b) t₁ (h X s i j)))
 
+  -- document 02, Item 5: "how many cells of t, g and h together have a coefficient with something left": each cell of a triangle once
+  unfoldable pub cells-left : ℕ
+  cells-left =
+      Σ r (λ i. Σ κ (λ k. one-if-left (P .b) t₁ (t X s i k)))
+      + Σ r (λ i. Σ (i + 1) (λ j. one-if-left (P .b) t₂ (g X s i j)))
+      + Σ r (λ i. Σ (i + 1) (λ j. one-if-left (P .b) t₁ (h X s i j)))
+
   -- the error of ring constraint k
   unfoldable pub ring-error : ℕ → Element
   ring-error k = element (rsub (words (left P (a k) (φ k) s)) (words (b k)))
@@ -70,6 +82,7 @@ module _ (X : Public) (s : ℕ → ℕ → Element) where
       then first L (λ k. require (ℕ-discrete (psi-error k) 0) (failed 22 (k ∷ sent k ∷ computed k ∷ [])))
       then require (decLe digit-sum beta-prime-sq) (failed 23 (digit-sum ∷ beta-prime-sq ∷ []))
       then require (List-discrete ℕ-discrete (words alpha-error) rzero) (failed 27 [])
+      then accepted cells-left
 
   -- "It accepts exactly when: the projection's norm is within its limit; for each psi row the weighted errors of the constant-term constraints sum to zero; the digit norms together are within their limit; the alpha-weighted errors of the ring constraints sum to zero."
   pub record Held : Type 0 where
@@ -80,7 +93,7 @@ module _ (X : Public) (s : ℕ → ℕ → Element) where
 
   -- "Otherwise it names the first of these four, in this order, that fails, with its figures": what an answer says of the four
   pub data Named : Answer → Type 0 where
-    all-hold : Held → Named fine
+    all-hold : Held → Named (accepted cells-left)
     by-21 : 128 * beta-sq < p-norm → Named (failed 21 (p-norm ∷ 128 * beta-sq ∷ []))
     by-22 : (k : ℕ) → p-norm ≤ 128 * beta-sq → k < L → ((j : ℕ) → j < k → psi-error j ≡ 0) → (psi-error k ≡ 0 → ⊥) → Named (failed 22 (k ∷ sent k ∷ computed k ∷ []))
     by-23 : p-norm ≤ 128 * beta-sq → ((k : ℕ) → k < L → psi-error k ≡ 0) → beta-prime-sq < digit-sum → Named (failed 23 (digit-sum ∷ beta-prime-sq ∷ []))
@@ -93,11 +106,11 @@ module _ (X : Public) (s : ℕ → ℕ → Element) where
 
   -- demand 3's sentences, of an answer
   pub record Demand-3 (verdict : Answer) : Type 0 where
-    -- "It accepts exactly when" the four hold
-    pub accepts-exactly-when : (verdict ≡ fine) ↔ Held
+    -- "It accepts exactly when" the four hold; the acceptance has the number of cells with something left
+    pub accepts-exactly-when : (cells : ℕ) → (verdict ≡ accepted cells) ↔ (Held × (cells ≡ cells-left))
     -- "the verifier never refuses it"
     pub never-refuses : (number place : ℕ) → verdict ≡ refused number place → ⊥
     -- "it names the first of these four, in this order, that fails, with its figures, and none of document 01's other checks ever fails"
     pub names-the-first : Named verdict
     -- "A witness that meets all constraints can fail by norm only, the projection's or the digits'."
-    pub by-norm-only : Meets → (verdict ≡ fine) ⊎ ((number verdict ≡ 21) ⊎ (number verdict ≡ 23))
+    pub by-norm-only : Meets → (verdict ≡ accepted cells-left) ⊎ ((number verdict ≡ 21) ⊎ (number verdict ≡ 23))

@@ -1,4 +1,5 @@
 -- What the prover works out (document 01, the section of that name), from the public values X and the witness s.
+use mathlib.Core.Bool.{Bool, cond}
 use mathlib.Core.List.{List, [], _∷_, flatMap}
 use Prim.Native.Nat.{ℕ, _+_, _*_, _/_, _%_}
 use lib.ListN.{length, getD}
@@ -7,7 +8,7 @@ use Rattle.lists.specs.Sum.{Σ}
 use Rattle.algebra.specs.Ops as Ops
 use Rattle.definitions.specs.Zq.{Q}
 use Rattle.definitions.specs.Norm.{norm}
-use Rattle.definitions.specs.Rq.{Element, coeff, digitRow, restRow}
+use Rattle.definitions.specs.Rq.{Element, coeff, isZero, digitRow, leftRow, restRow}
 use Rattle.definitions.specs.Ring.{RqOps, words, element, scale, conj}
 use Rattle.protocol.specs.Parameters.{Parameters}
 use Rattle.protocol.specs.Views.{Public}
@@ -57,6 +58,14 @@ two-parts b e = digit-element b e 0 ∷ rest-element b e ∷ []
 -- "Digits(t) lists each cell's t1 digits, lowest first, cell after cell"
 unfoldable pub digits-of : ℕ → ℕ → List Element → List Element
 digits-of b parts = flatMap (λ e. table parts (digit-element b e))
+
+-- document 02, Item 5: whether no coefficient of a cell has something left after a number of parts
+unfoldable pub nothing-left : ℕ → ℕ → Element → Bool
+nothing-left b parts e = isZero (leftRow b parts (words e))
+
+-- how many of the cells "have a coefficient with something left"
+unfoldable pub count-left : ℕ → ℕ → List Element → ℕ
+count-left b parts cells = length (flatMap (λ e. cond (nothing-left b parts e) [] (e ∷ [])) cells)
 
 -- the words of elements one after the other
 unfoldable pub flat : List Element → List ℕ
@@ -110,6 +119,10 @@ module _ (X : Public) where
 
   abbrev pub h-digits : (ℕ → ℕ → Element) → List Element
   h-digits h = digits-of (P .b) t₁ (triangle r h)
+
+  -- document 02, Item 5: "how many cells of t, g and h together have a coefficient with something left", in the parts of their digits
+  unfoldable pub cells-left-of : (t g h : ℕ → ℕ → Element) → ℕ
+  cells-left-of t g h = count-left (P .b) t₁ (rows r κ t) + count-left (P .b) t₂ (triangle r g) + count-left (P .b) t₁ (triangle r h)
 
   unfoldable pub u₁-of : (ℕ → ℕ → Element) → (ℕ → ℕ → Element) → ℕ → Element
   u₁-of t g k = times B (t-digits t) k ⊕ times C (g-digits g) k

@@ -7,6 +7,7 @@ pub mod Formulas
 pub mod Prover
 pub mod Verifier
 pub mod Conditions
+pub mod CellsBack
 pub mod Kept
 pub mod Ranges
 pub mod Load

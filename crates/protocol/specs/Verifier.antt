@@ -8,14 +8,14 @@ use Rattle.lists.specs.Table.{table}
 use Rattle.lists.specs.Sum.{Σ}
 use Rattle.definitions.specs.Zq.{Q}
 use Rattle.definitions.specs.Norm.{norm}
-use Rattle.definitions.specs.Answer.{Answer, failed, result, _then_}
+use Rattle.definitions.specs.Answer.{Answer, accepted, failed, result, _then_}
 use Rattle.definitions.specs.Rq.{Element, coeff}
 use Rattle.definitions.specs.Ring.{words}
 use Rattle.protocol.specs.Checks.{require, first}
 use Rattle.protocol.specs.Parameters.{Parameters, parameters}
 use Rattle.protocol.specs.Layout.{job-refusal, randomness-refusal, transcript-refusal, scratch-refusal, scratch-need}
 use Rattle.protocol.specs.Views.{Public, Message, public, message}
-use Rattle.protocol.specs.Formulas.{_⊕_, _⊗_, sum, dot, pairs, norm-of, two-parts, t-digits, g-digits, h-digits, a-sum, φ-sum, b-sum, u₁-of, u₂-of}
+use Rattle.protocol.specs.Formulas.{_⊕_, _⊗_, sum, dot, pairs, norm-of, two-parts, t-digits, g-digits, h-digits, a-sum, φ-sum, b-sum, cells-left-of, u₁-of, u₂-of}
 use Rattle.protocol.specs.Prover.{t-norm, g-norm, h-norm, zeroed}
 
 -- whether two elements are the same
@@ -77,7 +77,7 @@ module _ (X : Public) (M : Message) where
   unfoldable pub check-29 : Answer
   check-29 = first κ₂ (λ k. require (same (u₂ k) (u₂-of X h k)) (failed 29 []))
 
-  -- the first check that fails: 21 to 27, "Then 14, 15, 28 u1 differs; 16, 29 u2 differs."
+  -- the first check that fails: 21 to 27, "Then 14, 15, 28 u1 differs; 16, 29 u2 differs." Else "an accepted verdict states how many cells" (document 02, Item 5)
   unfoldable pub checks : Answer
   checks =
       check-21
@@ -92,6 +92,7 @@ module _ (X : Public) (M : Message) where
       then check-28
       then h-norm X h
       then check-29
+      then accepted (cells-left-of X t g h)
 
 -- "3, 4, 5; 3, 6; 7, 8; 9, 10; 1": "The verifier has no output and no 2."
 unfoldable pub verify-refusal : (J R T : List ℕ) → (scratch : ℕ) → Answer

@@ -7,12 +7,14 @@ use lib.Seq.{take-at}
 use Rattle.definitions.specs.declared.answers.Proved.{Proved}
 use Rattle.definitions.specs.declared.answers.Proved.the-variants as P
 use Rattle.definitions.specs.declared.answers.Verdict.{Verdict}
-use Rattle.definitions.specs.Answer.{fine, ofProved, ofVerdict}
+use Rattle.definitions.specs.Answer.{fine, accepted, ofProved, ofVerdict}
 use Rattle.protocol.specs.Parameters.{parameters}
 use Rattle.protocol.specs.Layout.{span, transcript-sections, scratch-need}
 use Rattle.protocol.specs.Prover.{whole, prove, prove-output}
+use Rattle.protocol.specs.Views.{public}
 use Rattle.protocol.specs.Verifier.{verify}
-use Rattle.protocol.specs.Load.{Given, load-parameters, needs-refusal, load-refusal, load-job, load-witness, load-randomness, loaded, job-need, witness-need, randomness-need}
+use Rattle.protocol.specs.Conditions.{cells-left}
+use Rattle.protocol.specs.Load.{Given, load-parameters, needs-refusal, load-refusal, load-job, load-witness, load-randomness, load-vectors, loaded, job-need, witness-need, randomness-need}
 use Rattle.protocol.proofs.Fine.{then-fine-left}
 use Rattle.protocol.proofs.LoadJob.{load-job-parameters}
 use Rattle.protocol.proofs.Load.{load-proved, load-accepted}
@@ -61,9 +63,10 @@ module _ (G : Given) (seed : ℕ) (fits : seed < 2 ^ 32) (job wit rnd : List ℕ
       pub load-is-proved : (p : Proved) → ofProved p ≡ prove whole J R W (length scratch) (length output) → ofProved p ≡ fine
       load-is-proved p answer = answer ∙ (λ i. prove whole (J-is i) (R-is i) (W-is i) (length scratch) (length output)) ∙ load-proved G seed fits admitted (length scratch) (length output) enough room
 
-      -- the verifier's verdict on its output
+      -- the verifier's verdict on its output: accepted, with the number of its cells that have something left
       pub load-is-accepted : (v : Verdict) (exit : List ℕ) (lent : ℕ) → scratch-need (load-parameters G) ≤ lent → exit ≡ prove-output whole J R W scratch output
-          → ofVerdict v ≡ verify J R (take (span (transcript-sections (load-parameters G))) exit) lent → ofVerdict v ≡ fine
+          → ofVerdict v ≡ verify J R (take (span (transcript-sections (load-parameters G))) exit) lent
+          → ofVerdict v ≡ accepted (cells-left (public (load-job G seed) (load-randomness G seed)) (load-vectors G seed))
       load-is-accepted v exit lent lent-enough left judged =
           judged
           ∙ ap (λ o. verify J R (take (span (transcript-sections (load-parameters G))) o) lent) left

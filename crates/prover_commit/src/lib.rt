@@ -36,7 +36,7 @@ fn check_t(p: EnvironmentParameters, q: Regions, scratch: &[u32]) -> Proved
         cells,
         parts: p.t_1,
     };
-    if common_instances::digits_within(scratch, digits, p.b, p.bound_b) {
+    if common_instances::digits_within(scratch, digits, p.b, p.bound_b).within {
         Proved::Made
     } else {
         Proved::Refused(Refusal::DigitsOfT)
@@ -53,7 +53,7 @@ fn check_g(p: EnvironmentParameters, q: Regions, scratch: &[u32]) -> Proved
         cells: slices::triangle(p.multiplicity),
         parts: p.t_2,
     };
-    if common_instances::digits_within(scratch, digits, p.b, p.bound_c) {
+    if common_instances::digits_within(scratch, digits, p.b, p.bound_c).within {
         Proved::Made
     } else {
         Proved::Refused(Refusal::DigitsOfG)
@@ -70,7 +70,7 @@ fn check_h(p: EnvironmentParameters, q: Regions, scratch: &[u32]) -> Proved
         cells: slices::triangle(p.multiplicity),
         parts: p.t_1,
     };
-    if common_instances::digits_within(scratch, digits, p.b, p.bound_d) {
+    if common_instances::digits_within(scratch, digits, p.b, p.bound_d).within {
         Proved::Made
     } else {
         Proved::Refused(Refusal::DigitsOfH)

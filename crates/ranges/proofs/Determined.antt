@@ -10,7 +10,7 @@ use lib.Dec.{ltb}
 use lib.IntN.{ℤ}
 use Rattle.lists.specs.Table.{table, padded}
 use Rattle.lists.proofs.Table.{table-ext}
-use Rattle.definitions.specs.Answer.{Answer, fine, refused, failed}
+use Rattle.definitions.specs.Answer.{Answer, fine, accepted, refused, failed}
 use Rattle.protocol.specs.Parameters.{Parameters}
 use Rattle.protocol.specs.Ranges.{vector, unused, AllHold}
 use Rattle.protocol.proofs.Ranges.{holds-unique}
@@ -39,5 +39,6 @@ determined P lows highs a r s x y = x .answer ∙ same a (x .hold) (y .hold) ∙
       vectors = padded-ext 16 (P .r) (rangeNorms unused) (λ j. rangeNorms (x .vectors j)) (λ j. rangeNorms (y .vectors j))
           (λ j l. ap rangeNorms (holds-unique (vector P lows j) (vector P highs j) (P .bound-A) (x .vectors j) (y .vectors j) (f refl j l) (g refl j l))) i;
     }
+    same (accepted cells) f g = refl
     same (refused n p) f g = refl
     same (failed n vs) f g = refl

@@ -46,6 +46,7 @@ fn verdict_of(answer: LabradorAnswer) -> LabradorVerdict {
         second_hi: 0,
         second_lo: 0,
         place: answer.place,
+        cells_left: 0,
     }
 }
 
@@ -77,6 +78,7 @@ fn same_answer(body: &[u8], found: LabradorVerdict) -> bool {
         && found.first_hi == words::at_64(body, 9)
         && found.second_lo == words::at_64(body, 11)
         && found.second_hi == words::at_64(body, 13)
+        && found.cells_left == words::at_64(body, 18)
 }
 
 // Makes the recorded call with the first words of two buffers, and compares its answer; false where a buffer is too short.

@@ -1,4 +1,4 @@
-// The leaf calls on elements, of kinds 8 to 15.
+// The leaf calls on elements, of kinds 8 to 16.
 use crate::answers;
 use labrador::digits;
 use labrador::elements;
@@ -39,6 +39,15 @@ fn digit_rows(body: &[u8]) -> bool {
     answers::same_refusal(body, 66, answer.number, answer.place) && words::same(body, 68, &rows)
 }
 
+fn left_over(body: &[u8]) -> bool {
+    let answer = digits::labrador_rq_left(
+        words::at(body, 0),
+        words::at(body, 1),
+        words::element(body, 2),
+    );
+    answers::same_rq(body, 66, answer)
+}
+
 fn challenge(body: &[u8]) -> bool {
     let mut drawn = [0u32; 104];
     words::copy(body, 0, &mut drawn);
@@ -59,6 +68,7 @@ pub fn same(kind: u32, body: &[u8]) -> bool {
         13 => norm(body),
         14 => digit_rows(body),
         15 => challenge(body),
+        16 => left_over(body),
         _ => false,
     }
 }

@@ -6,7 +6,7 @@ use crate::numbers;
 pub fn same(kind: u32, body: &[u8]) -> bool {
     match kind {
         1..=7 => numbers::same(kind, body),
-        8..=15 => elements::same(kind, body),
+        8..=16 => elements::same(kind, body),
         _ => false,
     }
 }

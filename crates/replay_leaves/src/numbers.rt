@@ -26,7 +26,9 @@ fn digits(body: &[u8]) -> bool {
         words::at(body, 2),
     );
     let digits = answer.digits;
-    answers::same_refusal(body, 3, answer.number, answer.place) && words::same(body, 5, &digits)
+    answers::same_refusal(body, 3, answer.number, answer.place)
+        && words::same(body, 5, &digits)
+        && answer.left == words::at(body, 37)
 }
 
 // Whether the call of a record's kind gives the recorded answer.

@@ -46,7 +46,7 @@ pub fn print_name(kind: u32) {
         io::write_all(STDOUT_FILENO, b"call");
     } else {
         print_name_of(
-            b" zq_add zq_sub zq_mul zq_neg zq_centre zq_digits projection_entry rq_add rq_sub rq_mul rq_scale rq_conj rq_norm rq_digits challenge",
+            b" zq_add zq_sub zq_mul zq_neg zq_centre zq_digits projection_entry rq_add rq_sub rq_mul rq_scale rq_conj rq_norm rq_digits challenge rq_left",
             kind,
         );
     }

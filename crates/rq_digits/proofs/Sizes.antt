@@ -6,8 +6,8 @@ use native.Mathlib.Numerals.{add-one}
 use Rattle.lists.specs.Table.{table}
 use Rattle.lists.proofs.Table.{table-ext, getD-table}
 use Rattle.definitions.specs.Zq.{size}
-use Rattle.definitions.specs.Digits.{nextSize, sizeAfter, digit}
-use Rattle.definitions.specs.Rq.{coeff, digitRow}
+use Rattle.definitions.specs.Digits.{nextSize, sizeAfter, digit, leftover}
+use Rattle.definitions.specs.Rq.{coeff, digitRow, leftRow}
 use Rattle.rq_digits.specs.Digits.{digitOf}
 
 -- the sizes after k digits
@@ -32,3 +32,8 @@ pub row-is : (b : ℕ) (a sizes row : List ℕ) (k : ℕ) → sizes ≡ sizesAft
 unfolding sizesAfter digitOf digit digitRow
 row-is b a sizes row k e r =
     r ∙ rw e (table-ext 64 _ _ (λ j h. ap (digitOf b (coeff a j)) (getD-table 64 (λ j. sizeAfter b k (size (coeff a j))) j 0 h)))
+
+-- the sizes after the last digit are those left over
+pub sizes-left : (b parts k : ℕ) (a sizes : List ℕ) → k ≡ parts → sizes ≡ sizesAfter b a k → sizes ≡ leftRow b parts a
+unfolding sizesAfter leftRow leftover
+sizes-left b parts k a sizes n e = e ∙ ap (λ k. table 64 (λ j. sizeAfter b k (size (coeff a j)))) n

@@ -7,7 +7,7 @@ ghost use Prim.Native.Nat.{_≤_, _<_};
 ghost use Rattle.lists.specs.Table.{table};
 ghost use Rattle.definitions.specs.Zq.{size};
 ghost use Rattle.definitions.specs.Digits.{nextSize};
-ghost use Rattle.definitions.specs.Rq.{coeff, digitRows};
+ghost use Rattle.definitions.specs.Rq.{coeff, isZero, digitRows, leftRow};
 ghost use Rattle.rq_digits.specs.Digits.{digitOf};
 
 // The sizes of the coefficients' centres.
@@ -59,4 +59,35 @@ pub fn decompose(a: Rq, base: u32, parts: usize) -> [[u32; 64]; 32]
         k += 1;
     }
     rows
+}
+
+// The size left over of each coefficient after its digits (document 02, Item 5).
+pub fn left_over(a: Rq, base: u32, parts: usize) -> Rq
+    requires { ⌜ 1 < base ⌝ }
+    ensures { λ r. ⌜ r .coeffs ≡ leftRow base parts (a .coeffs) ⌝ }
+{
+    let coeffs = a.coeffs;
+    let mut sizes = sizes_of(coeffs);
+    let mut k = 0;
+    while k < parts {
+        let taken = take_row(coeffs, base, sizes);
+        let next = taken.sizes;
+        sizes = next;
+        k += 1;
+    }
+    Rq { coeffs: sizes }
+}
+
+// Whether nothing goes on: all sizes are zero.
+pub fn is_zero(sizes: [u32; 64]) -> bool
+    ensures { λ r. ⌜ r ≡ isZero sizes ⌝ }
+{
+    let mut j = 0;
+    while j < Rq::DEGREE {
+        if sizes[j] != 0 {
+            return false;
+        }
+        j += 1;
+    }
+    true
 }

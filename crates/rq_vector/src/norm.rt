@@ -2,15 +2,16 @@
 use definitions::answers::U128;
 use rq_digits::digits;
 ghost use mathlib.Core.Path.{_≡_};
+ghost use mathlib.Core.Bool.{cond};
 ghost use Prim.Native.Nat.{_+_, _*_, _≤_, _<_, _^_};
 ghost use lib.ListN.{length};
 ghost use Rattle.lists.specs.Table.{table};
 ghost use Rattle.lists.specs.Sum.{Σ};
 ghost use Rattle.definitions.specs.Answer.{value128};
 ghost use Rattle.definitions.specs.Norm.{norm};
-ghost use Rattle.definitions.specs.Rq.{digitRow};
+ghost use Rattle.definitions.specs.Rq.{isZero, digitRow, leftRow};
 ghost use Rattle.inner_product.specs.Run.{run};
-ghost use Rattle.protocol.specs.Formulas.{norm-of, digits-of};
+ghost use Rattle.protocol.specs.Formulas.{norm-of, digits-of, count-left};
 
 // The squared norm of the `count` elements from `at` on.
 pub fn elements_norm(from: &[u32], at: usize, count: usize) -> U128
@@ -20,12 +21,19 @@ pub fn elements_norm(from: &[u32], at: usize, count: usize) -> U128
     norms::norm_of(from, at, 64 * count)
 }
 
-// The sum with the squared norm of an element's digits added, row by row.
-pub fn add_digits_norm(sum: U128, a: [u32; 64], base: u32, parts: usize) -> U128
-    requires { ⌜ (1 < base) × (sum .hi + 64 * parts < 2 ^ 64) ⌝ }
-    ensures { λ r. ⌜ (value128 r ≡ value128 sum + Σ parts (λ q. norm (digitRow base a q))) × (r .hi ≤ sum .hi + 64 * parts) ⌝ }
+// The squared norm of the digits of cells, and how many of the cells have a coefficient with something left (document 02, Item 5).
+pub struct DigitsNorm {
+    pub norm: U128,
+    pub cells_left: usize,
+}
+
+// The sum with one more cell: the squared norm of its digits added row by row, and the cell counted where a size is left after the last row.
+pub fn add_digits_norm(sum: DigitsNorm, a: [u32; 64], base: u32, parts: usize) -> DigitsNorm
+    requires { ⌜ (1 < base) × (sum .norm .hi + 64 * parts < 2 ^ 64) × (sum .«cells_left» + 1 < 2 ^ 64) ⌝ }
+    ensures { λ r. ⌜ (value128 (r .norm) ≡ value128 (sum .norm) + Σ parts (λ q. norm (digitRow base a q))) × (r .norm .hi ≤ sum .norm .hi + 64 * parts) ⌝ }
+    ensures { λ r. ⌜ r .«cells_left» ≡ sum .«cells_left» + cond (isZero (leftRow base parts a)) 0 1 ⌝ }
 {
-    let mut total = sum;
+    let mut total = sum.norm;
     let mut sizes = digits::sizes_of(a);
     let mut k = 0;
     while k < parts {
@@ -36,15 +44,27 @@ pub fn add_digits_norm(sum: U128, a: [u32; 64], base: u32, parts: usize) -> U128
         sizes = next;
         k += 1;
     }
-    total
+    let cells_left = if digits::is_zero(sizes) {
+        sum.cells_left
+    } else {
+        sum.cells_left + 1
+    };
+    DigitsNorm {
+        norm: total,
+        cells_left,
+    }
 }
 
-// The squared norm of the digits of the `cells` elements from `at` on.
-pub fn digits_norm(from: &[u32], at: usize, cells: usize, base: u32, parts: usize) -> U128
+// The squared norm of the digits of the `cells` elements from `at` on, and how many of these have something left.
+pub fn digits_norm(from: &[u32], at: usize, cells: usize, base: u32, parts: usize) -> DigitsNorm
     requires { ⌜ (at + 64 * cells ≤ length (now from)) × (1 < base) × (parts ≤ 32) × (cells ≤ 2 ^ 20) ⌝ }
-    ensures { λ r. ⌜ (value128 r ≡ norm-of (digits-of base parts (table cells (run (now (from .entry)) at 64)))) × (r .hi ≤ 2048 * cells) ⌝ }
+    ensures { λ r. ⌜ (value128 (r .norm) ≡ norm-of (digits-of base parts (table cells (run (now (from .entry)) at 64)))) × (r .norm .hi ≤ 2048 * cells) ⌝ }
+    ensures { λ r. ⌜ r .«cells_left» ≡ count-left base parts (table cells (run (now (from .entry)) at 64)) ⌝ }
 {
-    let mut total = U128 { hi: 0, lo: 0 };
+    let mut total = DigitsNorm {
+        norm: U128 { hi: 0, lo: 0 },
+        cells_left: 0,
+    };
     let mut place = at;
     let mut c = 0;
     while c < cells {

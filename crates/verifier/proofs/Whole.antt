@@ -5,15 +5,16 @@ use Prim.Native.Nat.{ℕ, _≤_}
 use native.Mathlib.Omega.{arith}
 use lib.ListN.{length, replicate, take, drop, length-append, length-replicate, length-drop}
 use Rattle.lists.specs.Part.{splice}
-use Rattle.definitions.specs.Answer.{Answer, ofRefusal, result, _then_}
+use Rattle.definitions.specs.Answer.{Answer, accepted, ofRefusal, result, _then_}
 use Rattle.definitions.specs.declared.answers.Refusal.{Refusal}
 use Rattle.protocol.specs.Parameters.{parameters}
 use Rattle.protocol.specs.Layout.{randomness-sections, scratch-need}
 use Rattle.protocol.specs.Views.{Public, Message, public, message}
-use Rattle.protocol.specs.Formulas.{u₁-of, u₂-of}
+use Rattle.protocol.specs.Formulas.{cells-left-of, u₁-of, u₂-of}
 use Rattle.protocol.specs.Prover.{t-norm, g-norm, h-norm, zeroed}
 use Rattle.protocol.specs.Verifier.{check-21, check-22, check-23, check-24, check-25, check-26, check-27, check-28, check-29, checks, verify-refusal, verify, verify-scratch}
 use Rattle.protocol.proofs.Then.{then-assoc}
+use Rattle.protocol.proofs.Unaccepted.{Unaccepted, norms-no}
 use Rattle.layout.specs.Laid.{Laid}
 use Rattle.layout.proofs.Then.{goes-on}
 use Rattle.regions.specs.declared.Regions.{Regions}
@@ -29,6 +30,7 @@ use Rattle.workspace.specs.Ready.{Ready, Drawn}
 use Rattle.workspace.specs.Holds.{Kept}
 use Rattle.workspace.proofs.Kept.{kept-clear}
 use Rattle.verifier_common.specs.Work.{Sent}
+use Rattle.verifier_common.specs.Answers.{cells-left}
 use Rattle.verifier_norms.specs.Order.{norms}
 use Rattle.verifier_relations.specs.Order.{relations}
 use Rattle.verifier_commitments.specs.Order.{commitments}
@@ -56,21 +58,31 @@ norms-are : (J R T : List ℕ) → norms J R T ≡ check-21 (public J R) (messag
 unfolding check-21 check-23
 norms-are J R T = refl
 
+pub norms-unaccepted : (J R T : List ℕ) → Unaccepted (norms J R T)
+unfolding check-21 check-23
+norms-unaccepted J R T = norms-no (public J R) (message (parameters J) T)
+
+cells-are : (J R T : List ℕ) → cells-left (parameters J) T ≡ cells-left-of (public J R) (message (parameters J) T .t) (message (parameters J) T .g) (message (parameters J) T .h)
+unfolding cells-left-of
+cells-are J R T = refl
+
 commitments-are : (J R T : List ℕ) → commitments J T ≡ of-commitments (public J R) (message (parameters J) T)
 unfolding t-norm g-norm h-norm check-28 check-29 u₁-of u₂-of
 commitments-are J R T = refl
 
--- the groups of checks are all checks in order
-pub groups-are : (J R T : List ℕ) → norms J R T then rest J R T ≡ all-checks J R T
+-- the groups of checks, and then the number of cells, are all checks in order
+pub groups-are : (J R T : List ℕ) → norms J R T then rest J R T then accepted (cells-left (parameters J) T) ≡ all-checks J R T
 unfolding checks
 groups-are J R T =
     let X = public J R in
     let M = message (parameters J) T in
     let one = check-21 X M then check-22 X M then check-23 X M in
-    ap₂ (λ a b. a then (relations J R T then b)) (norms-are J R T) (commitments-are J R T)
+    ap₂ (λ a n. a then accepted n)
+    (ap₂ (λ a b. a then (relations J R T then b)) (norms-are J R T) (commitments-are J R T)
     ∙ sym (then-assoc one (relations J R T) (of-commitments X M))
     ∙ ap (λ y. y then of-commitments X M) (pairs-after one (check-24 X M) (check-25 X M) (check-26 X M) (check-27 X M))
-    ∙ five-after (one then check-24 X M then check-25 X M then check-26 X M then check-27 X M) (t-norm X (M .t)) (g-norm X (M .g)) (check-28 X M) (h-norm X (M .h)) (check-29 X M)
+    ∙ five-after (one then check-24 X M then check-25 X M then check-26 X M then check-27 X M) (t-norm X (M .t)) (g-norm X (M .g)) (check-28 X M) (h-norm X (M .h)) (check-29 X M))
+    (cells-are J R T)
 
 -- a call that is refused nothing before its work
 module _ (J R T : List ℕ) (p : EnvironmentParameters) where

@@ -1,15 +1,17 @@
 // The verifier's call on whole slices, for every input.
 use admission::answers::Admitted;
 use admission_order::verifier;
+use definitions::answers::Checked;
 use definitions::answers::Verdict;
 use regions::Regions;
 use relation::env_params::EnvironmentParameters;
 use sizes::buffers;
 use verifier_commitments::outer_commitments;
+use verifier_common::verdict;
 use verifier_norms::norm_checks;
 use verifier_relations::relations;
 ghost use mathlib.Core.Path.{_≡_};
-ghost use Rattle.definitions.specs.Answer.{ofVerdict};
+ghost use Rattle.definitions.specs.Answer.{ofChecked, ofVerdict};
 ghost use Rattle.protocol.specs.Parameters.{parameters};
 ghost use lib.ListN.{length};
 ghost use Rattle.protocol.specs.Layout.{scratch-need};
@@ -29,19 +31,19 @@ fn check_rest(
     p: EnvironmentParameters,
     q: Regions,
     scratch: &mut [u32],
-) -> Verdict
+) -> Checked
     requires { ⌜ Sent (now job) (now randomness) (now transcript) p × Ready (now job) p q (now scratch) ⌝ }
-    ensures { λ v. ⌜ ofVerdict v ≡ rest (now (job .entry)) (now (randomness .entry)) (now (transcript .entry)) ⌝ }
+    ensures { λ v. ⌜ ofChecked v ≡ rest (now (job .entry)) (now (randomness .entry)) (now (transcript .entry)) ⌝ }
     ensures { λ v. ⌜ Kept (scratch-need (parameters (now (job .entry)))) (now (scratch .entry)) (now (scratch .exit)) ⌝ }
 {
     let first = relations::check_relations(job, randomness, transcript, p, q, scratch);
-    let Verdict::Accepted = first else {
+    let Checked::Passed = first else {
         return first;
     };
     outer_commitments::check_commitments(job, transcript, p, q, scratch)
 }
 
-// All checks, in order.
+// All checks, in order; an acceptance has the number of cells with something left.
 pub fn check_all(
     job: &[u32],
     randomness: &[u32],
@@ -55,10 +57,11 @@ pub fn check_all(
     ensures { λ v. ⌜ Kept (scratch-need (parameters (now (job .entry)))) (now (scratch .entry)) (now (scratch .exit)) ⌝ }
 {
     let first = norm_checks::check_norms(job, randomness, transcript, p);
-    let Verdict::Accepted = first else {
+    let Verdict::Accepted(cells_left) = first else {
         return first;
     };
-    check_rest(job, randomness, transcript, p, q, scratch)
+    let rest = check_rest(job, randomness, transcript, p, q, scratch);
+    verdict::verdict_of(rest, cells_left)
 }
 
 // The work of a call that is refused nothing before it: "After any later answer scratch is zero to the length needed".
@@ -74,10 +77,10 @@ fn work_and_clear(
     ensures { λ v. ⌜ now (scratch .exit) ≡ zeroed (scratch-need (parameters (now (job .entry)))) (now (scratch .entry)) ⌝ }
 {
     let q = regions::lay_out(p.rank, p.multiplicity, p.kappa, p.const_agg_length);
-    let verdict = check_all(job, randomness, transcript, p, q, scratch);
+    let answer = check_all(job, randomness, transcript, p, q, scratch);
     let need = buffers::scratch_length(p);
     words::clear(scratch, need);
-    verdict
+    answer
 }
 
 // The verifier: its verdict and scratch.

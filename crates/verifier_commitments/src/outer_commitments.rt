@@ -2,16 +2,16 @@
 use commitments::common_instances;
 use commitments::outer_commitments;
 use commitments::outer_commitments::Digits;
+use definitions::answers::Checked;
 use definitions::answers::FailedCheck;
 use definitions::answers::Refusal;
-use definitions::answers::Verdict;
 use regions::Regions;
 use relation::env_params::EnvironmentParameters;
 use sizes::offsets;
 use sizes::slices;
 use verifier_common::equal;
 ghost use mathlib.Core.Path.{_≡_};
-ghost use Rattle.definitions.specs.Answer.{ofVerdict};
+ghost use Rattle.definitions.specs.Answer.{ofChecked};
 ghost use Rattle.protocol.specs.Parameters.{parameters};
 ghost use Rattle.protocol.specs.Layout.{scratch-need};
 ghost use Rattle.workspace.specs.Ready.{Ready};
@@ -28,9 +28,9 @@ pub fn check_u1(
     p: EnvironmentParameters,
     q: Regions,
     scratch: &mut [u32],
-) -> Verdict
+) -> Checked
     requires { ⌜ Posed (now job) (now transcript) p × Ready (now job) p q (now scratch) ⌝ }
-    ensures { λ v. ⌜ ofVerdict v ≡ u1-differs (now (job .entry)) (now (transcript .entry)) ⌝ }
+    ensures { λ v. ⌜ ofChecked v ≡ u1-differs (now (job .entry)) (now (transcript .entry)) ⌝ }
     ensures { λ v. ⌜ Kept (scratch-need (parameters (now (job .entry)))) (now (scratch .entry)) (now (scratch .exit)) ⌝ }
 {
     let t = Digits {
@@ -54,9 +54,9 @@ pub fn check_u1(
         q.u,
         64 * rows,
     ) {
-        Verdict::Accepted
+        Checked::Passed
     } else {
-        Verdict::Failed(FailedCheck::OuterCommitU1)
+        Checked::Failed(FailedCheck::OuterCommitU1)
     }
 }
 
@@ -67,9 +67,9 @@ pub fn check_u2(
     p: EnvironmentParameters,
     q: Regions,
     scratch: &mut [u32],
-) -> Verdict
+) -> Checked
     requires { ⌜ Posed (now job) (now transcript) p × Ready (now job) p q (now scratch) ⌝ }
-    ensures { λ v. ⌜ ofVerdict v ≡ u2-differs (now (job .entry)) (now (transcript .entry)) ⌝ }
+    ensures { λ v. ⌜ ofChecked v ≡ u2-differs (now (job .entry)) (now (transcript .entry)) ⌝ }
     ensures { λ v. ⌜ Kept (scratch-need (parameters (now (job .entry)))) (now (scratch .entry)) (now (scratch .exit)) ⌝ }
 {
     let h = Digits {
@@ -87,16 +87,16 @@ pub fn check_u2(
         q.u,
         64 * rows,
     ) {
-        Verdict::Accepted
+        Checked::Passed
     } else {
-        Verdict::Failed(FailedCheck::OuterCommitU2)
+        Checked::Failed(FailedCheck::OuterCommitU2)
     }
 }
 
 // "14 digits of t above B's bound, 15 of g above C's"
-pub fn check_t_and_g(transcript: &[u32], p: EnvironmentParameters) -> Verdict
+pub fn check_t_and_g(transcript: &[u32], p: EnvironmentParameters) -> Checked
     requires { ⌜ Received (now transcript) p ⌝ }
-    ensures { λ v. ⌜ ofVerdict v ≡ t-and-g-bounds (parametersOf p) (now (transcript .entry)) ⌝ }
+    ensures { λ v. ⌜ ofChecked v ≡ t-and-g-bounds (parametersOf p) (now (transcript .entry)) ⌝ }
 {
     let t = Digits {
         at: offsets::of_transcript(p, 5),
@@ -108,29 +108,29 @@ pub fn check_t_and_g(transcript: &[u32], p: EnvironmentParameters) -> Verdict
         cells: slices::triangle(p.multiplicity),
         parts: p.t_2,
     };
-    if !common_instances::digits_within(transcript, t, p.b, p.bound_b) {
-        return Verdict::Refused(Refusal::DigitsOfT);
+    if !common_instances::digits_within(transcript, t, p.b, p.bound_b).within {
+        return Checked::Refused(Refusal::DigitsOfT);
     }
-    if !common_instances::digits_within(transcript, g, p.b, p.bound_c) {
-        return Verdict::Refused(Refusal::DigitsOfG);
+    if !common_instances::digits_within(transcript, g, p.b, p.bound_c).within {
+        return Checked::Refused(Refusal::DigitsOfG);
     }
-    Verdict::Accepted
+    Checked::Passed
 }
 
 // "16 of h above D's"
-pub fn check_h(transcript: &[u32], p: EnvironmentParameters) -> Verdict
+pub fn check_h(transcript: &[u32], p: EnvironmentParameters) -> Checked
     requires { ⌜ Received (now transcript) p ⌝ }
-    ensures { λ v. ⌜ ofVerdict v ≡ h-bound (parametersOf p) (now (transcript .entry)) ⌝ }
+    ensures { λ v. ⌜ ofChecked v ≡ h-bound (parametersOf p) (now (transcript .entry)) ⌝ }
 {
     let h = Digits {
         at: offsets::of_transcript(p, 7),
         cells: slices::triangle(p.multiplicity),
         parts: p.t_1,
     };
-    if common_instances::digits_within(transcript, h, p.b, p.bound_d) {
-        Verdict::Accepted
+    if common_instances::digits_within(transcript, h, p.b, p.bound_d).within {
+        Checked::Passed
     } else {
-        Verdict::Refused(Refusal::DigitsOfH)
+        Checked::Refused(Refusal::DigitsOfH)
     }
 }
 
@@ -141,13 +141,13 @@ pub fn check_first_commitment(
     p: EnvironmentParameters,
     q: Regions,
     scratch: &mut [u32],
-) -> Verdict
+) -> Checked
     requires { ⌜ Posed (now job) (now transcript) p × Ready (now job) p q (now scratch) ⌝ }
-    ensures { λ v. ⌜ ofVerdict v ≡ first-commitment (now (job .entry)) (now (transcript .entry)) ⌝ }
+    ensures { λ v. ⌜ ofChecked v ≡ first-commitment (now (job .entry)) (now (transcript .entry)) ⌝ }
     ensures { λ v. ⌜ Kept (scratch-need (parameters (now (job .entry)))) (now (scratch .entry)) (now (scratch .exit)) ⌝ }
 {
     let bounds = check_t_and_g(transcript, p);
-    let Verdict::Accepted = bounds else {
+    let Checked::Passed = bounds else {
         return bounds;
     };
     check_u1(job, transcript, p, q, scratch)
@@ -160,13 +160,13 @@ pub fn check_second_commitment(
     p: EnvironmentParameters,
     q: Regions,
     scratch: &mut [u32],
-) -> Verdict
+) -> Checked
     requires { ⌜ Posed (now job) (now transcript) p × Ready (now job) p q (now scratch) ⌝ }
-    ensures { λ v. ⌜ ofVerdict v ≡ second-commitment (now (job .entry)) (now (transcript .entry)) ⌝ }
+    ensures { λ v. ⌜ ofChecked v ≡ second-commitment (now (job .entry)) (now (transcript .entry)) ⌝ }
     ensures { λ v. ⌜ Kept (scratch-need (parameters (now (job .entry)))) (now (scratch .entry)) (now (scratch .exit)) ⌝ }
 {
     let bound = check_h(transcript, p);
-    let Verdict::Accepted = bound else {
+    let Checked::Passed = bound else {
         return bound;
     };
     check_u2(job, transcript, p, q, scratch)
@@ -179,13 +179,13 @@ pub fn check_commitments(
     p: EnvironmentParameters,
     q: Regions,
     scratch: &mut [u32],
-) -> Verdict
+) -> Checked
     requires { ⌜ Posed (now job) (now transcript) p × Ready (now job) p q (now scratch) ⌝ }
-    ensures { λ v. ⌜ ofVerdict v ≡ commitments (now (job .entry)) (now (transcript .entry)) ⌝ }
+    ensures { λ v. ⌜ ofChecked v ≡ commitments (now (job .entry)) (now (transcript .entry)) ⌝ }
     ensures { λ v. ⌜ Kept (scratch-need (parameters (now (job .entry)))) (now (scratch .entry)) (now (scratch .exit)) ⌝ }
 {
     let first = check_first_commitment(job, transcript, p, q, scratch);
-    let Verdict::Accepted = first else {
+    let Checked::Passed = first else {
         return first;
     };
     check_second_commitment(job, transcript, p, q, scratch)

@@ -9,20 +9,9 @@ use Rattle.lists.specs.Part.{part}
 use Rattle.lists.proofs.Table.{table-ext}
 use Rattle.lists.proofs.Splice.{getD-part, part-table}
 use Rattle.definitions.specs.Answer.{Answer, fine}
+use Rattle.definitions.proofs.Cases.{decided, not-decided}
 use Rattle.protocol.specs.Checks.{require}
 use Rattle.verifier_common.specs.Work.{equal}
-
--- a fact that holds is decided so
-decided {ℓ} : {A : Type ℓ} (d : Dec A) → A → decide d ≡ true
-unfolding decide
-decided (yes a) h = refl
-decided (no n) h = absurd (n h)
-
--- a fact that does not hold is decided so
-not-decided {ℓ} : {A : Type ℓ} (d : Dec A) → (A → ⊥) → decide d ≡ false
-unfolding decide
-not-decided (yes a) h = absurd (h a)
-not-decided (no n) h = refl
 
 -- a test by what is decided
 require-decided {ℓ} : {A : Type ℓ} (d : Dec A) (answer : Answer) → require d answer ≡ cond (decide d) fine answer

@@ -4,6 +4,7 @@ use Prim.Native.Nat.{ℕ}
 use Rattle.definitions.specs.Answer.{Answer, _then_}
 use Rattle.protocol.specs.Parameters.{Parameters, parameters}
 use Rattle.protocol.specs.Views.{Public, public, message}
+use Rattle.protocol.specs.Formulas.{cells-left-of}
 use Rattle.protocol.specs.Prover.{t-norm, g-norm, h-norm}
 use Rattle.protocol.specs.Verifier.{check-21, check-22, check-23, check-24, check-25, check-26, check-27, check-28, check-29}
 
@@ -40,6 +41,10 @@ module _ (P : Parameters) (T : List ℕ) where
   -- "23 digit norms of z with two" parts, "t and h with t1, g with t2 sum above beta_prime_sq"
   abbrev pub norm-sum : Answer
   norm-sum = check-23 (bare P) (message P T)
+
+  -- document 02, Item 5: "how many cells of t, g and h together have a coefficient with something left"
+  abbrev pub cells-left : ℕ
+  cells-left = cells-left-of (bare P) (message P T .t) (message P T .g) (message P T .h)
 
   -- "14 digits of t above B's bound, 15 of g above C's"
   abbrev pub t-and-g-bounds : Answer

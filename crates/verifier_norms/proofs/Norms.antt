@@ -19,13 +19,13 @@ use Rattle.protocol.specs.Checks.{require}
 use Rattle.protocol.specs.Parameters.{triangular}
 use Rattle.protocol.specs.Layout.{start, transcript-sections}
 use Rattle.protocol.specs.Views.{message}
-use Rattle.protocol.specs.Formulas.{norm-of, two-parts, digits-of, t-digits, g-digits, h-digits}
+use Rattle.protocol.specs.Formulas.{norm-of, two-parts, digits-of, count-left, cells-left-of, t-digits, g-digits, h-digits}
 use Rattle.protocol.specs.Verifier.{check-21, check-23, z-parts}
 use Rattle.commitments.proofs.Answers.{require-by}
 use Rattle.commitments.proofs.Formula.{vectors-cells, triangle-cells}
 use Rattle.relation.specs.declared.env_params.EnvironmentParameters.{EnvironmentParameters}
 use Rattle.relation.specs.Parameters.{parametersOf}
-use Rattle.verifier_common.specs.Answers.{bare}
+use Rattle.verifier_common.specs.Answers.{bare, cells-left}
 
 -- a test of a norm and a limit, both given, by the boolean's value
 limited-is : (number x y a b : ℕ) (t : Bool) → a ≡ x → b ≡ y → t ≡ leb a b → require (decLe x y) (failed number (x ∷ y ∷ [])) ≡ cond t fine (failed number (a ∷ b ∷ []))
@@ -112,3 +112,25 @@ module _ (T : List ℕ) (p : EnvironmentParameters) where
       (four s₃ s₂ s₁ z t g h _ _ _ _ e₃ e₂ e₁ (z-norm z-at z (f .z-place) (f .z-is)) (t-norm t-at t (f .t-place) (f .t-is)) (g-norm g-at g cells (f .g-place) (f .size) (f .g-is)) (h-norm h-at h cells (f .h-place) (f .size) (f .h-is)))
       limit
       test
+
+  -- the cells with something left, by the three numbers that the code counts
+  pub cells-left-is : (cells t-at g-at h-at t g h : ℕ) → cells ≡ triangular (p .multiplicity)
+      → t-at ≡ start (transcript-sections (parametersOf p)) 5 → g-at ≡ start (transcript-sections (parametersOf p)) 6 → h-at ≡ start (transcript-sections (parametersOf p)) 7
+      → t ≡ count-left (p .b) (p .«t_1») (table (p .multiplicity * p .kappa) (run T t-at 64))
+      → g ≡ count-left (p .b) (p .«t_2») (table cells (run T g-at 64))
+      → h ≡ count-left (p .b) (p .«t_1») (table cells (run T h-at 64))
+      → t + g + h ≡ cells-left (parametersOf p) T
+  unfolding cells-left-of
+  cells-left-is cells t-at g-at h-at t g h size t-place g-place h-place t-is g-is h-is =
+      let P = parametersOf p in
+      ap₂ _+_
+      (ap₂ _+_
+      (t-is
+      ∙ ap (λ at. count-left (P .b) (P .t₁) (table (P .r * P .κ) (run T at 64))) t-place
+      ∙ ap (count-left (P .b) (P .t₁)) (vectors-cells T (start (transcript-sections P) 5) (P .r) (P .κ) (message P T .t) (λ i k h l. refl)))
+      (g-is
+      ∙ ap₂ (λ at cells. count-left (P .b) (P .t₂) (table cells (run T at 64))) g-place size
+      ∙ ap (count-left (P .b) (P .t₂)) (triangle-cells T (start (transcript-sections P) 6) (P .r) (message P T .g) (λ i j h l. refl))))
+      (h-is
+      ∙ ap₂ (λ at cells. count-left (P .b) (P .t₁) (table cells (run T at 64))) h-place size
+      ∙ ap (count-left (P .b) (P .t₁)) (triangle-cells T (start (transcript-sections P) 7) (P .r) (message P T .h) (λ i j h l. refl)))

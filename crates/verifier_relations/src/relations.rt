@@ -1,7 +1,7 @@
 // The relations between what the prover sends and the statement: checks 24 to 27.
 use aggregate;
+use definitions::answers::Checked;
 use definitions::answers::FailedCheck;
-use definitions::answers::Verdict;
 use inner_product;
 use regions::Regions;
 use relation::env_params::EnvironmentParameters;
@@ -10,7 +10,7 @@ use sizes::offsets;
 use verifier_common::equal;
 use workspace;
 ghost use mathlib.Core.Path.{_≡_};
-ghost use Rattle.definitions.specs.Answer.{ofVerdict};
+ghost use Rattle.definitions.specs.Answer.{ofChecked};
 ghost use Rattle.protocol.specs.Parameters.{parameters};
 ghost use Rattle.protocol.specs.Layout.{scratch-need};
 ghost use Rattle.workspace.specs.Ready.{Ready};
@@ -28,9 +28,9 @@ pub fn check_az(
     p: EnvironmentParameters,
     q: Regions,
     scratch: &[u32],
-) -> Verdict
+) -> Checked
     requires { ⌜ Sent (now job) (now randomness) (now transcript) p × Ready (now job) p q (now scratch) × Challenged (now job) (now randomness) q (now scratch) ⌝ }
-    ensures { λ v. ⌜ ofVerdict v ≡ az (now (job .entry)) (now (randomness .entry)) (now (transcript .entry)) ⌝ }
+    ensures { λ v. ⌜ ofChecked v ≡ az (now (job .entry)) (now (randomness .entry)) (now (transcript .entry)) ⌝ }
 {
     let a_at = offsets::of_job(p, 6);
     let z_at = offsets::of_transcript(p, 4);
@@ -51,11 +51,11 @@ pub fn check_az(
             p.multiplicity,
         );
         if !equal::same(left, right) {
-            return Verdict::Failed(FailedCheck::Az);
+            return Checked::Failed(FailedCheck::Az);
         }
         k += 1;
     }
-    Verdict::Accepted
+    Checked::Passed
 }
 
 // "25 ⟨z,z⟩ is not Σ g_ij·c_i·c_j."
@@ -66,18 +66,18 @@ pub fn check_z_inner(
     p: EnvironmentParameters,
     q: Regions,
     scratch: &[u32],
-) -> Verdict
+) -> Checked
     requires { ⌜ Sent (now job) (now randomness) (now transcript) p × Ready (now job) p q (now scratch) × Challenged (now job) (now randomness) q (now scratch) ⌝ }
-    ensures { λ v. ⌜ ofVerdict v ≡ z-inner (now (job .entry)) (now (randomness .entry)) (now (transcript .entry)) ⌝ }
+    ensures { λ v. ⌜ ofChecked v ≡ z-inner (now (job .entry)) (now (randomness .entry)) (now (transcript .entry)) ⌝ }
 {
     let z_at = offsets::of_transcript(p, 4);
     let g_at = offsets::of_transcript(p, 6);
     let left = inner_product::inner_product(transcript, z_at, 64, transcript, z_at, 64, p.rank);
     let right = rq_matrix::sum_of_weighted(transcript, g_at, scratch, q.challenges, p.multiplicity);
     if equal::same(left, right) {
-        Verdict::Accepted
+        Checked::Passed
     } else {
-        Verdict::Failed(FailedCheck::ZInner)
+        Checked::Failed(FailedCheck::ZInner)
     }
 }
 
@@ -89,9 +89,9 @@ pub fn check_phi(
     p: EnvironmentParameters,
     q: Regions,
     scratch: &[u32],
-) -> Verdict
+) -> Checked
     requires { ⌜ Sent (now job) (now randomness) (now transcript) p × Ready (now job) p q (now scratch) × Lined (now job) (now randomness) q (now scratch) ⌝ }
-    ensures { λ v. ⌜ ofVerdict v ≡ phi (now (job .entry)) (now (randomness .entry)) (now (transcript .entry)) ⌝ }
+    ensures { λ v. ⌜ ofChecked v ≡ phi (now (job .entry)) (now (randomness .entry)) (now (transcript .entry)) ⌝ }
 {
     let z_at = offsets::of_transcript(p, 4);
     let h_at = offsets::of_transcript(p, 7);
@@ -108,9 +108,9 @@ pub fn check_phi(
     let right = rq_matrix::sum_of_weighted(transcript, h_at, scratch, q.challenges, p.multiplicity);
     let twice = lines.add(lines);
     if equal::same(twice, right) {
-        Verdict::Accepted
+        Checked::Passed
     } else {
-        Verdict::Failed(FailedCheck::Phi)
+        Checked::Failed(FailedCheck::Phi)
     }
 }
 
@@ -122,9 +122,9 @@ pub fn check_relation(
     p: EnvironmentParameters,
     q: Regions,
     scratch: &[u32],
-) -> Verdict
+) -> Checked
     requires { ⌜ Sent (now job) (now randomness) (now transcript) p × Ready (now job) p q (now scratch) × Multiplied (now job) (now randomness) q (now scratch) ⌝ }
-    ensures { λ v. ⌜ ofVerdict v ≡ relation (now (job .entry)) (now (randomness .entry)) (now (transcript .entry)) ⌝ }
+    ensures { λ v. ⌜ ofChecked v ≡ relation (now (job .entry)) (now (randomness .entry)) (now (transcript .entry)) ⌝ }
 {
     let g_at = offsets::of_transcript(p, 6);
     let h_at = offsets::of_transcript(p, 7);
@@ -147,9 +147,9 @@ pub fn check_relation(
     let twice = products.add(products);
     let left = twice.add(diagonal);
     if equal::same(left, b.add(b)) {
-        Verdict::Accepted
+        Checked::Passed
     } else {
-        Verdict::Failed(FailedCheck::Relation)
+        Checked::Failed(FailedCheck::Relation)
     }
 }
 
@@ -161,15 +161,15 @@ pub fn check_openings(
     p: EnvironmentParameters,
     q: Regions,
     scratch: &mut [u32],
-) -> Verdict
+) -> Checked
     requires { ⌜ Sent (now job) (now randomness) (now transcript) p × Ready (now job) p q (now scratch) ⌝ }
-    ensures { λ v. ⌜ ofVerdict v ≡ openings (now (job .entry)) (now (randomness .entry)) (now (transcript .entry)) ⌝ }
+    ensures { λ v. ⌜ ofChecked v ≡ openings (now (job .entry)) (now (randomness .entry)) (now (transcript .entry)) ⌝ }
     ensures { λ v. ⌜ Kept (scratch-need (parameters (now (job .entry)))) (now (scratch .entry)) (now (scratch .exit)) ⌝ }
     ensures { λ v. ⌜ Challenged (now (job .entry)) (now (randomness .entry)) q (now (scratch .exit)) ⌝ }
 {
     workspace::generate_challenges(job, randomness, p, q, scratch);
     let first = check_az(job, randomness, transcript, p, q, scratch);
-    let Verdict::Accepted = first else {
+    let Checked::Passed = first else {
         return first;
     };
     check_z_inner(job, randomness, transcript, p, q, scratch)
@@ -183,15 +183,15 @@ pub fn check_aggregated(
     p: EnvironmentParameters,
     q: Regions,
     scratch: &mut [u32],
-) -> Verdict
+) -> Checked
     requires { ⌜ Sent (now job) (now randomness) (now transcript) p × Ready (now job) p q (now scratch) × Challenged (now job) (now randomness) q (now scratch) ⌝ }
-    ensures { λ v. ⌜ ofVerdict v ≡ aggregated (now (job .entry)) (now (randomness .entry)) (now (transcript .entry)) ⌝ }
+    ensures { λ v. ⌜ ofChecked v ≡ aggregated (now (job .entry)) (now (randomness .entry)) (now (transcript .entry)) ⌝ }
     ensures { λ v. ⌜ Kept (scratch-need (parameters (now (job .entry)))) (now (scratch .entry)) (now (scratch .exit)) ⌝ }
 {
     workspace::double_prime(job, randomness, p, q, scratch);
     workspace::phi(job, randomness, p, q, scratch);
     let first = check_phi(job, randomness, transcript, p, q, scratch);
-    let Verdict::Accepted = first else {
+    let Checked::Passed = first else {
         return first;
     };
     workspace::a(job, randomness, p, q, scratch);
@@ -206,13 +206,13 @@ pub fn check_relations(
     p: EnvironmentParameters,
     q: Regions,
     scratch: &mut [u32],
-) -> Verdict
+) -> Checked
     requires { ⌜ Sent (now job) (now randomness) (now transcript) p × Ready (now job) p q (now scratch) ⌝ }
-    ensures { λ v. ⌜ ofVerdict v ≡ relations (now (job .entry)) (now (randomness .entry)) (now (transcript .entry)) ⌝ }
+    ensures { λ v. ⌜ ofChecked v ≡ relations (now (job .entry)) (now (randomness .entry)) (now (transcript .entry)) ⌝ }
     ensures { λ v. ⌜ Kept (scratch-need (parameters (now (job .entry)))) (now (scratch .entry)) (now (scratch .exit)) ⌝ }
 {
     let first = check_openings(job, randomness, transcript, p, q, scratch);
-    let Verdict::Accepted = first else {
+    let Checked::Passed = first else {
         return first;
     };
     check_aggregated(job, randomness, transcript, p, q, scratch)

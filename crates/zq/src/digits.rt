@@ -1,11 +1,12 @@
 // The digits of one number (`Zq::decompose` of ring/zq.rs).
 use crate::zq::Zq;
+use definitions::answers::Decomposed;
 ghost use mathlib.Core.Path.{_≡_};
 ghost use mathlib.Core.Bool.{xor};
 ghost use Prim.Native.Nat.{_+_, _≤_, _<_};
 ghost use lib.ListN.{replicate};
 ghost use Rattle.definitions.specs.Zq.{isLargerThanHalf, size};
-ghost use Rattle.definitions.specs.Digits.{remBelow, remSize, nextSize, signed, digitPlaces};
+ghost use Rattle.definitions.specs.Digits.{remBelow, remSize, nextSize, signed, decomposed};
 
 // The digit that a size gives, with the value's sign.
 pub fn digit(negative: bool, base: u32, size: u32) -> u32
@@ -38,10 +39,10 @@ pub fn next_size(base: u32, size: u32) -> u32
     }
 }
 
-// The digits in 32 places, lowest first; those past the parts are zero.
-pub fn decompose(value: Zq, base: u32, parts: usize) -> [u32; 32]
+// The digits in 32 places, lowest first, those past the parts zero, and the size left over.
+pub fn decompose(value: Zq, base: u32, parts: usize) -> Decomposed
     requires { ⌜ (1 < base) × (parts ≤ 32) ⌝ }
-    ensures { λ r. ⌜ r ≡ digitPlaces base parts (value .0) ⌝ }
+    ensures { λ r. ⌜ r ≡ decomposed base parts (value .0) ⌝ }
 {
     let negative = value.is_larger_than_half();
     let mut size = value.size();
@@ -52,5 +53,8 @@ pub fn decompose(value: Zq, base: u32, parts: usize) -> [u32; 32]
         size = next_size(base, size);
         k += 1;
     }
-    places
+    Decomposed {
+        digits: places,
+        left: size,
+    }
 }

@@ -56,6 +56,7 @@ pub const CALLS: &str = "answers of the calls";
 pub const CONDITIONS: &str = "demand 3's conditions";
 pub const PURPOSES: &str = "purposes";
 pub const LEFT: &str = "23 with something left of z, by the Rust";
+pub const OF_CELLS: &str = "cells of t, g and h with something left, of acceptances";
 
 /// The comparisons of calls on whole slices.
 pub const PLANTED: &str = "model: refusals 1 to 12 with the fault planted";
@@ -73,6 +74,9 @@ pub const LARGE: &str = "library: calls on whole slices with the model's, 23 wit
 pub const FOUR_LARGE: &str = "model: the four conditions with its verdict, 23 with something left of z";
 pub const SMALLER: &str = "model: 23 with something left of z, the Rust's sum smaller or within the limit";
 pub const REFUSED: &str = "library: refusals 1 to 12 with the model's";
+/// Of every verdict in the work: the Rust has no such number (document 02, Item 5).
+pub const CELLS: &str = "library: cells with something left with the model's";
+pub const FOUR_CELLS: &str = "model: cells with something left by the formulas with those of its verdict";
 pub const JUDGED: &str = "library: the tests before the work with the model's";
 
 /// Whose answer is expected of a call that reaches the work.
@@ -125,6 +129,10 @@ impl Context {
         }
         tally.must_compare(&[PLANTED, PROVER, TRANSCRIPT, VERIFIER, FOUR, FOUR_OURS, WORKED, REFUSED]);
         tally.must_compare(&[BROKEN, JUDGED, MODELLED, FOUR_MODELLED, LARGE, FOUR_LARGE, SMALLER]);
+        tally.must_compare(&[CELLS, FOUR_CELLS]);
+        for row in [NONE, ONE, SOME, ALL] {
+            tally.must_occur(OF_CELLS, row);
+        }
         for row in [FAILED, PASSED] {
             tally.must_occur(LEFT, row);
         }
@@ -229,7 +237,10 @@ impl Context {
             Source::OneKind => FOUR_MODELLED,
             Source::LargeZ => FOUR_LARGE,
         };
-        self.tally.compare(kind, &breach, &verdict, described);
+        self.tally
+            .compare(kind, &without_cells(breach), &without_cells(verdict), described);
+        self.tally
+            .compare(FOUR_CELLS, &breach.cells_left, &verdict.cells_left, described);
         let ours = prove_then_verify(&job, &randomness, &witness, p.scratch_need(), transcript.len());
         self.tally.compare(FOUR_OURS, &ours, &breach, described);
         self.tally.occurred(CONDITIONS, format!("{:>2}", breach.number));
@@ -252,8 +263,12 @@ impl Context {
         let answer = match Source::of(Call::Verify, p, transcript, &modelled) {
             Source::Rust => {
                 let answer = by_the_rust();
-                self.tally.compare(VERIFIER, &modelled, &answer, described);
-                answer
+                self.tally
+                    .compare(VERIFIER, &without_cells(modelled), &answer, described);
+                Answer {
+                    cells_left: modelled.cells_left,
+                    ..answer
+                }
             }
             Source::OneKind => modelled,
             Source::LargeZ => {
@@ -261,6 +276,9 @@ impl Context {
                 modelled
             }
         };
+        if answer.is_fine() {
+            self.tally.occurred(OF_CELLS, of_cells(p, answer.cells_left));
+        }
         self.take(Case {
             purpose,
             call: Call::Verify,
@@ -275,6 +293,29 @@ impl Context {
             },
         });
         answer
+    }
+}
+
+/// A verdict as the Rust gives it: without the number of cells.
+fn without_cells(verdict: Answer) -> Answer {
+    Answer {
+        cells_left: 0,
+        ..verdict
+    }
+}
+
+/// How many of the cells of an acceptance have something left.
+const NONE: &str = "none";
+const ONE: &str = "one";
+const SOME: &str = "some";
+const ALL: &str = "all";
+
+fn of_cells(p: &Parameters, cells_left: u64) -> &'static str {
+    match cells_left as usize {
+        0 => NONE,
+        1 => ONE,
+        n if n < p.r * p.kappa + p.r * (p.r + 1) => SOME,
+        _ => ALL,
     }
 }
 
@@ -309,7 +350,7 @@ fn by_the_rust(job: &[u32], randomness: &[u32], witness: &[u32]) -> (Answer, Vec
 impl Tally {
     /// Compares the library's answer with the expected one.
     pub fn library(&mut self, case: &Case) {
-        let expected = Seen {
+        let mut expected = Seen {
             answer: case.expected.answer,
             ..Seen::default()
         };
@@ -321,7 +362,16 @@ impl Tally {
             Some(Source::LargeZ) => LARGE,
             None => REFUSED,
         };
-        self.compare(kind, &ours(case), &expected, || case.describe());
+        let mut seen = ours(case);
+        if case.call == Call::Verify && kind != REFUSED {
+            let cells = &expected.answer.cells_left;
+            self.compare(CELLS, &seen.answer.cells_left, cells, || case.describe());
+        }
+        if kind == WORKED {
+            seen.answer = without_cells(seen.answer);
+            expected.answer = without_cells(expected.answer);
+        }
+        self.compare(kind, &seen, &expected, || case.describe());
         if case.call == Call::Prove {
             let slices = [&case.job[..], &case.randomness, &case.third];
             let ours = library::slices::judged(slices, case.scratch, case.output);

@@ -5,19 +5,34 @@ use crate::random::Random;
 use crate::record::Recorder;
 use crate::rust;
 use crate::tally::Tally;
-use model::calls::{self, Leaf};
-use model::leaves::{DEGREE, Q};
+use model::calls::{self, Leaf, LeafAnswer};
+use model::leaves::{left, DEGREE, Q};
 use model::words::{SHUFFLES, SIGNS};
 
 /// Heading of the tally.
 pub const LEAVES: &str = "answers of the leaf calls";
+const SIZES: &str = "sizes left over after digits";
+const NOTHING: &str = "nothing left";
+const SOMETHING: &str = "something left";
 
 /// The comparisons of leaf calls.
 const MODELLED: &str = "model: leaf calls with the Rust's";
 const OURS: &str = "library: leaf calls with the Rust's";
 const REFUSED: &str = "library: refusals of leaf calls with the model's";
+/// The sizes left over, of which the Rust says nothing (document 02, Item 5).
+pub const LEFT: &str = "library: sizes left over with the model's";
 
-/// The result of fit operands by the published Rust.
+/// An answer without the sizes left over, and these.
+pub fn without_left(leaf: Leaf, mut answer: LeafAnswer) -> (LeafAnswer, Vec<u32>) {
+    let left = match leaf {
+        Leaf::ZqDigits => answer.result.split_off(32),
+        Leaf::RqLeft => std::mem::take(&mut answer.result),
+        _ => vec![],
+    };
+    (answer, left)
+}
+
+/// The result of fit operands by the published Rust, with the sizes left over by the model.
 fn rust_value(leaf: Leaf, w: &[u32]) -> Vec<u32> {
     use rust::leaf::*;
     match leaf {
@@ -26,7 +41,13 @@ fn rust_value(leaf: Leaf, w: &[u32]) -> Vec<u32> {
         Leaf::ZqMul => vec![zq_mul(w[0], w[1])],
         Leaf::ZqNeg => vec![zq_neg(w[0])],
         Leaf::ZqCentre => calls::centre_words(zq_centre(w[0])),
-        Leaf::ZqDigits => zq_digits(w[0], w[1] as usize, w[2]),
+        Leaf::ZqDigits => {
+            let mut digits = zq_digits(w[0], w[1] as usize, w[2]);
+            digits.resize(32, 0);
+            digits.push(left(w[0], w[1] as usize, w[2]));
+            digits
+        }
+        Leaf::RqLeft => calls::value(leaf, w),
         Leaf::ProjectionEntry => vec![projection_entry(w[0])],
         Leaf::RqAdd => rq_add(&w[..64], &w[64..]),
         Leaf::RqSub => rq_sub(&w[..64], &w[64..]),
@@ -46,7 +67,10 @@ pub struct Leaves<'a> {
 
 impl Leaves<'_> {
     pub fn must_occur(tally: &mut Tally) {
-        tally.must_compare(&[MODELLED, OURS, REFUSED]);
+        tally.must_compare(&[MODELLED, OURS, REFUSED, LEFT]);
+        for row in [NOTHING, SOMETHING] {
+            tally.must_occur(SIZES, row);
+        }
         for leaf in Leaf::ALL {
             for number in leaf.answers() {
                 tally.must_occur(LEAVES, row(leaf, *number));
@@ -60,15 +84,24 @@ impl Leaves<'_> {
         let described = || format!("{} {operands:?}", leaf.name());
         self.tally.occurred(LEAVES, row(leaf, expected.number));
         let ours = library::leaf(leaf, operands);
-        if expected.number == 0 {
-            let modelled = leaf.answer(operands, calls::value);
-            self.tally.compare(MODELLED, &modelled, &expected, described);
-            self.tally.compare(OURS, &ours, &expected, described);
-        } else {
-            self.tally.compare(REFUSED, &ours, &expected, described);
-        }
         if let Some(recorder) = self.recorder {
             recorder.leaf(leaf, operands, &expected);
+        }
+        if expected.number > 0 {
+            self.tally.compare(REFUSED, &ours, &expected, described);
+            return;
+        }
+        let modelled = leaf.answer(operands, calls::value);
+        let [(modelled, _), (ours, our_left), (expected, left)] =
+            [modelled, ours, expected].map(|answer| without_left(leaf, answer));
+        if !left.is_empty() {
+            let nothing = left.iter().all(|&size| size == 0);
+            self.tally.occurred(SIZES, if nothing { NOTHING } else { SOMETHING });
+            self.tally.compare(LEFT, &our_left, &left, described);
+        }
+        if leaf != Leaf::RqLeft {
+            self.tally.compare(MODELLED, &modelled, &expected, described);
+            self.tally.compare(OURS, &ours, &expected, described);
         }
     }
 
@@ -117,6 +150,7 @@ impl Leaves<'_> {
                 if (taken / WORDS.len()).is_multiple_of(step) {
                     let element = boundary_element(random);
                     self.take(Leaf::RqDigits, &[&[base, part], &element[..]].concat());
+                    self.take(Leaf::RqLeft, &[&[base, part], &element[..]].concat());
                 }
             }
         }
@@ -131,12 +165,14 @@ impl Leaves<'_> {
             if random.below(4) == 0 {
                 let element = any_element(random);
                 self.take(Leaf::RqDigits, &[&[base, part], &element[..]].concat());
+                self.take(Leaf::RqLeft, &[&[base, part], &element[..]].concat());
             }
         }
         for at in PLACES {
             let mut operands = [&[16, 3], &any_element(random)[..]].concat();
             operands[2 + at] = Q;
             self.take(Leaf::RqDigits, &operands);
+            self.take(Leaf::RqLeft, &operands);
         }
     }
 

@@ -82,6 +82,8 @@ fn compare(seed: u64, count: u64, largest: bool) -> bool {
     context.tally.stage("constraints of one kind only");
     whole::large_z(&mut context, &mut random, &base);
     context.tally.stage("something left of z after two digits");
+    whole::lossy(&mut context, &mut random);
+    context.tally.stage("something left of t, g and h after their digits");
     for i in 0..count as usize {
         let parameters = small(&mut random, i);
         whole::random_instance(&mut context, &mut random, parameters);
@@ -113,6 +115,7 @@ fn record(folder: &Path) -> bool {
     whole::few(&mut context, &mut random);
     whole::one_kind(&mut context, &mut random, 0);
     whole::large_z(&mut context, &mut random, &base);
+    whole::lossy(&mut context, &mut random);
     context.tally.stage("recorded answers, made again");
     let recorder = context.recorder.take().expect("a recorder");
     recorder.write(folder).expect("the folder can be written");

@@ -3,8 +3,8 @@
 
 use crate::random::Random;
 use crate::tally::Tally;
-use model::leaves::{digits, Q};
-use model::recompose::{base_operand, left, operands, parts_needed, recompose};
+use model::leaves::{digits, left, Q};
+use model::recompose::{base_operand, operands, parts_needed, recompose};
 use model::Answer;
 
 /// Heading of the tally.

@@ -167,6 +167,7 @@ impl Recorder {
             body.extend((0..4).map(|k| (figure >> (32 * k)) as u32));
         }
         body.extend([left, start as u32, length as u32]);
+        body.extend([answer.cells_left as u32, (answer.cells_left >> 32) as u32]);
         self.calls.record(CALL, &body);
     }
 }

@@ -1,6 +1,7 @@
 //! Reads recorded answers back, as a program with fixed buffers does.
 
-use crate::cases::{Case, Expected, JUDGED, LARGE, MODELLED, REFUSED, WORKED};
+use crate::cases::{Case, Expected, CELLS, JUDGED, LARGE, MODELLED, REFUSED, WORKED};
+use crate::leaves::{without_left, LEFT};
 use crate::record::*;
 use crate::tally::Tally;
 use model::calls::{self, Leaf, LeafAnswer};
@@ -48,6 +49,8 @@ pub fn replay(folder: &Path) -> bool {
         LARGE,
         REFUSED,
         JUDGED,
+        CELLS,
+        LEFT,
     ]);
     let leaves_whole = records(&folder.join("leaves"), |kind, body| leaf(&mut tally, kind, body));
     tally.compare(WHOLE, &leaves_whole, &true, || "leaves".into());
@@ -80,7 +83,12 @@ fn leaf(tally: &mut Tally, kind: u32, body: &[u32]) {
     let described = || format!("{} {operands:?}", leaf.name());
     let modelled = leaf.answer(operands, calls::value);
     tally.compare(MODELLED_LEAF, &modelled, &recorded, described);
-    tally.compare(LEAF, &library::leaf(leaf, operands), &recorded, described);
+    let ours = library::leaf(leaf, operands);
+    let ((ours, our_left), (recorded, left)) = (without_left(leaf, ours), without_left(leaf, recorded));
+    tally.compare(LEFT, &our_left, &left, described);
+    if leaf != Leaf::RqLeft {
+        tally.compare(LEAF, &ours, &recorded, described);
+    }
 }
 
 fn call(tally: &mut Tally, slices: &[(Vec<u32>, usize); 4], body: &[u32]) {
@@ -92,6 +100,7 @@ fn call(tally: &mut Tally, slices: &[(Vec<u32>, usize); 4], body: &[u32]) {
         place: u64::from(body[5]) | u64::from(body[6]) << 32,
         first: figure(7),
         second: figure(11),
+        cells_left: u64::from(body[18]) | u64::from(body[19]) << 32,
     };
     let (start, length) = (body[16] as usize, body[17] as usize);
     let worked = match body[15] {

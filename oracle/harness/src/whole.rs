@@ -6,6 +6,7 @@ use crate::random::Random;
 use crate::unfit::unfit;
 use model::formulas::{cell_digits, digits_norms, elements_norm, outer_u1, outer_u2};
 use model::leaves::{add, Q};
+use model::recompose::parts_needed;
 use model::words::*;
 use model::Call;
 
@@ -353,6 +354,40 @@ pub fn large_z(context: &mut Context, random: &mut Random, instance: &Instance) 
             context.prover(purpose, &large, 0);
         }
     }
+}
+
+/// Parts too few for some cells and for all, exactly enough and one too few; and one cell with one coefficient alone
+/// that has something left (document 02, Item 5).
+pub fn lossy(context: &mut Context, random: &mut Random) {
+    let with = |b, t1, t2| Parameters {
+        r: if t1 > 4 { 1 } else { 2 },
+        b,
+        t1,
+        t2,
+        ..pair_parameters()
+    };
+    let needed = |b| parts_needed(b) as usize;
+    let all = [
+        ("t1 and t2 too small for all cells", with(2, 1, 1), Size::Any),
+        ("t1 too small", with(256, 1, needed(256)), Size::Any),
+        ("t2 too small", with(256, needed(256), 1), Size::Any),
+        ("t1 and t2 exactly enough", with(65536, needed(65536), needed(65536)), Size::Ends),
+        ("t1 and t2 exactly enough", with(3, needed(3), needed(3)), Size::Any),
+        ("t1 and t2 one part too few", with(3, needed(3) - 1, needed(3) - 1), Size::Any),
+    ];
+    for (purpose, parameters, size) in all {
+        let instance = Instance::random(random, parameters, size);
+        context.prover(purpose, &instance, 0);
+    }
+    // t and h are zero, and so is g but for coefficient 0 of its first cell
+    let mut single = Instance::random(random, with(65536, 2, 1), Size::Zero);
+    for section in [0, 1, 3, 4, 6] {
+        single.job[section].fill(0);
+    }
+    single.randomness[2].fill(0);
+    single.witness[0] = 300;
+    single.meet();
+    context.prover("one coefficient of one cell with something left", &single, 0);
 }
 
 /// An instance for the families below, whose projection's norm 128 divides.

@@ -41,6 +41,7 @@ pub mod leaf_calls {
         pub number: u32,
         pub place: u32,
         pub digits: [u32; 32],
+        pub left: u32,
     }
 
     #[repr(C)]
@@ -80,6 +81,7 @@ pub mod leaf_calls {
         pub fn labrador_rq_conj(a: Element) -> RqAnswer;
         pub fn labrador_rq_norm(a: Element) -> NormAnswer;
         pub fn labrador_rq_digits(base: u32, parts: u32, a: Element, out: *mut u32, length: usize) -> RowsAnswer;
+        pub fn labrador_rq_left(base: u32, parts: u32, a: Element) -> RqAnswer;
         pub fn labrador_challenge(words: ChallengeWords) -> RqAnswer;
     }
 }
@@ -100,6 +102,7 @@ pub mod whole_calls {
         pub second_hi: u64,
         pub second_lo: u64,
         pub place: u64,
+        pub cells_left: u64,
     }
 
     macro_rules! provers {
@@ -155,7 +158,7 @@ pub fn leaf(leaf: Leaf, w: &[u32]) -> LeafAnswer {
             }
             Leaf::ZqDigits => {
                 let a = labrador_zq_digits(w[0], w[1], w[2]);
-                (a.number, a.place, a.digits.to_vec())
+                (a.number, a.place, [&a.digits[..], &[a.left]].concat())
             }
             Leaf::RqAdd => element(labrador_rq_add(at(0), at(64))),
             Leaf::RqSub => element(labrador_rq_sub(at(0), at(64))),
@@ -172,6 +175,7 @@ pub fn leaf(leaf: Leaf, w: &[u32]) -> LeafAnswer {
                 let words = w.try_into().expect("104 words");
                 element(labrador_challenge(ChallengeWords { words }))
             }
+            Leaf::RqLeft => element(labrador_rq_left(w[0], w[1], at(2))),
             Leaf::RqNorm => {
                 let a = labrador_rq_norm(at(0));
                 let norm = u128::from(a.hi) << 64 | u128::from(a.lo);
@@ -236,6 +240,7 @@ pub fn whole(call: Call, handed: Handed) -> Answer {
                 index: a.index,
                 first: u128::from(a.first_hi) << 64 | u128::from(a.first_lo),
                 second: u128::from(a.second_hi) << 64 | u128::from(a.second_lo),
+                cells_left: a.cells_left,
             };
         }
     };

@@ -22,10 +22,12 @@ pub enum Leaf {
     RqNorm = 13,
     RqDigits = 14,
     Challenge = 15,
+    /// Document 02, Item 5.
+    RqLeft = 16,
 }
 
-/// A leaf call's answer. The centre is an i64 in two words, a norm four words, both least first; an element's digits
-/// are 32 rows of 64.
+/// A leaf call's answer. The centre is an i64 in two words, a norm four words, both least first; a number's digits are
+/// 32 words and then the size left over, an element's 32 rows of 64.
 #[derive(Clone, Debug, PartialEq, Eq)]
 pub struct LeafAnswer {
     pub number: u32,
@@ -34,7 +36,7 @@ pub struct LeafAnswer {
 }
 
 impl Leaf {
-    pub const ALL: [Leaf; 15] = [
+    pub const ALL: [Leaf; 16] = [
         Leaf::ZqAdd,
         Leaf::ZqSub,
         Leaf::ZqMul,
@@ -50,6 +52,7 @@ impl Leaf {
         Leaf::RqNorm,
         Leaf::RqDigits,
         Leaf::Challenge,
+        Leaf::RqLeft,
     ];
 
     pub fn name(self) -> &'static str {
@@ -69,6 +72,7 @@ impl Leaf {
             Leaf::RqNorm => "rq_norm",
             Leaf::RqDigits => "rq_digits",
             Leaf::Challenge => "challenge",
+            Leaf::RqLeft => "rq_left",
         }
     }
 
@@ -81,7 +85,7 @@ impl Leaf {
             Leaf::RqAdd | Leaf::RqSub | Leaf::RqMul => 128,
             Leaf::RqScale => 65,
             Leaf::RqConj | Leaf::RqNorm => 64,
-            Leaf::RqDigits => 66,
+            Leaf::RqDigits | Leaf::RqLeft => 66,
             Leaf::Challenge => 104,
         }
     }
@@ -91,7 +95,7 @@ impl Leaf {
         match self {
             Leaf::ZqAdd | Leaf::ZqSub | Leaf::ZqMul | Leaf::ZqNeg | Leaf::ProjectionEntry => 1,
             Leaf::ZqCentre => 2,
-            Leaf::ZqDigits => 32,
+            Leaf::ZqDigits => 33,
             Leaf::RqNorm => 4,
             Leaf::RqDigits => 32 * 64,
             _ => 64,
@@ -101,7 +105,7 @@ impl Leaf {
     /// The answers that the call can give.
     pub fn answers(self) -> &'static [u32] {
         match self {
-            Leaf::ZqDigits | Leaf::RqDigits => &[0, 4, 6],
+            Leaf::ZqDigits | Leaf::RqDigits | Leaf::RqLeft => &[0, 4, 6],
             Leaf::Challenge => &[0, 8],
             _ => &[0, 6],
         }
@@ -110,7 +114,7 @@ impl Leaf {
     /// The refusal of operands, or none.
     pub fn refusal(self, w: &[u32]) -> Answer {
         match self {
-            Leaf::ZqDigits | Leaf::RqDigits => digit_operands(w[0], w[1], &w[2..]),
+            Leaf::ZqDigits | Leaf::RqDigits | Leaf::RqLeft => digit_operands(w[0], w[1], &w[2..]),
             Leaf::Challenge => challenge_operands(&w[..SIGNS]),
             _ => operands(w),
         }
@@ -148,7 +152,12 @@ pub fn value(leaf: Leaf, w: &[u32]) -> Vec<u32> {
         Leaf::ZqMul => vec![mul(w[0], w[1])],
         Leaf::ZqNeg => vec![neg(w[0])],
         Leaf::ZqCentre => centre_words(centre(w[0])),
-        Leaf::ZqDigits => digits(w[0], w[1] as usize, w[2]),
+        Leaf::ZqDigits => {
+            let (mut digits, left) = decomposed(w[0], w[1] as usize, w[2]);
+            digits.resize(32, 0);
+            digits.push(left);
+            digits
+        }
         Leaf::ProjectionEntry => vec![canonical(entry(w[0]))],
         Leaf::RqAdd => radd(&at(0), &at(64)).to_vec(),
         Leaf::RqSub => rsub(&at(0), &at(64)).to_vec(),
@@ -158,5 +167,6 @@ pub fn value(leaf: Leaf, w: &[u32]) -> Vec<u32> {
         Leaf::RqNorm => norm_words(norm(w)),
         Leaf::RqDigits => rdigits(w[0], w[1] as usize, &at(2)).concat(),
         Leaf::Challenge => challenge(&w[..SIGNS], &w[SIGNS..]).to_vec(),
+        Leaf::RqLeft => rleft(w[0], w[1] as usize, &at(2)).to_vec(),
     }
 }

@@ -2,7 +2,6 @@
 
 use crate::formulas::*;
 use crate::leaves::*;
-use crate::recompose::left;
 use crate::words::*;
 use crate::Answer;
 
@@ -107,5 +106,5 @@ pub fn verdict(job: &Job, x: &Randomness, sent: &Transcript) -> Answer {
     if sent.u2 != outer_u2(job, &sent.h) {
         return Answer::failed(29);
     }
-    Answer::FINE
+    Answer::accepted(cells_left(p, &sent.t, &sent.g, &sent.h))
 }

@@ -6,7 +6,7 @@ use crate::leaves::*;
 use crate::words::*;
 use crate::Answer;
 
-/// The first of the four conditions that fails, as 21, 22, 23 or 27 with its figures.
+/// The first of the four conditions that fails, as 21, 22, 23 or 27 with its figures; else an acceptance with its number.
 pub fn first_breach(job: &Job, x: &Randomness, s: &[Vec<Element>]) -> Answer {
     let p = &job.parameters;
     let of_projection = projection(x, s);
@@ -62,5 +62,5 @@ pub fn first_breach(job: &Job, x: &Randomness, s: &[Vec<Element>]) -> Answer {
     if dot(&ring_errors, &x.alpha) != ZERO {
         return Answer::failed(27);
     }
-    Answer::FINE
+    Answer::accepted(cells_left(p, &t, &g, &h))
 }

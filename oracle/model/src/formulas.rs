@@ -169,6 +169,13 @@ pub fn digits_norms(p: &Parameters, t: &[Vec<Element>], g: &[Element], h: &[Elem
     ]
 }
 
+/// Document 02, Item 5: "how many cells of t, g and h together have a coefficient with something left". A triangle has
+/// each cell once.
+pub fn cells_left(p: &Parameters, t: &[Vec<Element>], g: &[Element], h: &[Element]) -> usize {
+    let count = |parts: usize, cells: &[Element]| cells.iter().filter(|e| rleft(p.b, parts, e) != ZERO).count();
+    count(p.t1, &t.concat()) + count(p.t2, g) + count(p.t1, h)
+}
+
 /// Everything that the prover works out, and its refusal 13 to 16 if there is one.
 pub fn transcript(job: &Job, x: &Randomness, s: &[Vec<Element>]) -> (Transcript, Answer) {
     let p = &job.parameters;

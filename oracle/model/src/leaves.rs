@@ -54,16 +54,27 @@ pub fn step(base: u32, size: i64) -> (i64, i64) {
     (rem, (size - rem) / b)
 }
 
-pub fn digits(base: u32, parts: usize, a: u32) -> Vec<u32> {
+/// The digit rule with "what it dropped, as the size left over, with its digits" (document 02, Item 5).
+pub fn decomposed(base: u32, parts: usize, a: u32) -> (Vec<u32>, u32) {
     let sign = centre(a).signum();
     let mut size = centre(a).abs();
-    (0..parts)
+    let digits = (0..parts)
         .map(|_| {
             let (rem, next) = step(base, size);
             size = next;
             canonical(sign * rem)
         })
-        .collect()
+        .collect();
+    (digits, size as u32)
+}
+
+pub fn digits(base: u32, parts: usize, a: u32) -> Vec<u32> {
+    decomposed(base, parts, a).0
+}
+
+/// What the digit rule has left of a value after so many parts.
+pub fn left(base: u32, parts: usize, a: u32) -> u32 {
+    decomposed(base, parts, a).1
 }
 
 /// Document 02, Item 9: "the whole rest with its sign", after digit 0.
@@ -119,6 +130,11 @@ pub fn rconj(a: &Element) -> Element {
 pub fn rdigits(base: u32, parts: usize, a: &Element) -> Vec<Element> {
     let columns: Vec<Vec<u32>> = a.iter().map(|&c| digits(base, parts, c)).collect();
     (0..parts).map(|k| element(|j| columns[j][k])).collect()
+}
+
+/// "for one element a call beside it gives the 64 sizes".
+pub fn rleft(base: u32, parts: usize, a: &Element) -> Element {
+    element(|k| left(base, parts, a[k]))
 }
 
 /// The challenge of 41 sign words and 63 shuffle words.

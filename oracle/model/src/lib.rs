@@ -12,7 +12,8 @@ pub mod recompose;
 pub mod refusals;
 pub mod words;
 
-/// An answer in document 01's numbers: 0, or a refusal with its place, or a failed check with its values.
+/// An answer in document 01's numbers: 0, or a refusal with its place, or a failed check with its values. An accepted
+/// verdict is 0 with the number of cells that have something left (document 02, Item 5).
 #[derive(Clone, Copy, Debug, Default, PartialEq, Eq)]
 pub struct Answer {
     pub number: u32,
@@ -23,6 +24,8 @@ pub struct Answer {
     /// Of checks 21 to 23.
     pub first: u128,
     pub second: u128,
+    /// Of an accepted verdict.
+    pub cells_left: u64,
 }
 
 impl Answer {
@@ -32,6 +35,7 @@ impl Answer {
         index: 0,
         first: 0,
         second: 0,
+        cells_left: 0,
     };
 
     pub fn refused(number: u32, place: usize) -> Answer {
@@ -52,6 +56,14 @@ impl Answer {
             number,
             first,
             second: limit,
+            ..Answer::FINE
+        }
+    }
+
+    /// An accepted verdict.
+    pub fn accepted(cells_left: usize) -> Answer {
+        Answer {
+            cells_left: cells_left as u64,
             ..Answer::FINE
         }
     }

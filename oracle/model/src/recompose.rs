@@ -1,18 +1,12 @@
 //! Document 02, Item 2: digits put together again, and the number of parts that a base needs.
 
-use crate::leaves::{below, centre, step, Q};
+use crate::leaves::{below, left, Q};
 use crate::Answer;
 
 /// "Σ digit·b^i modulo Q", from the highest digit down.
 pub fn recompose(base: u32, digits: &[u32]) -> u32 {
     let step = |sum: u64, &digit: &u32| (sum * u64::from(base) + u64::from(digit)) % u64::from(Q);
     digits.iter().rev().fold(0, step) as u32
-}
-
-/// What the digit rule has left of a value after so many parts.
-pub fn left(base: u32, parts: usize, a: u32) -> u64 {
-    let size = (0..parts).fold(centre(a).abs(), |size, _| step(base, size).1);
-    size.unsigned_abs()
 }
 
 /// "for a base, the smallest number of parts that leaves nothing of any value". A larger size leaves no less, so the two

@@ -16,7 +16,7 @@ returns c =
     let g = lower-part (a .first .hi) (a .first .lo) h in
     let p = upper-part (a .second .hi) (a .second .lo) k in
     let q = lower-part (a .second .hi) (a .second .lo) k in
-    λ i. record { number = a .number; index = a .index % 2 ^ 32; «first_hi» = f i; «first_lo» = g i; «second_hi» = p i; «second_lo» = q i; place = 0 }
+    λ i. record { number = a .number; index = a .index % 2 ^ 32; «first_hi» = f i; «first_lo» = g i; «second_hi» = p i; «second_lo» = q i; place = 0; «cells_left» = 0 }
 
 pub failed-spec : {M : Type 1} → statement M
 failed-spec = tie.close (tie.spec (λ c. omega arith) returns)

@@ -1,5 +1,7 @@
 -- `add_digits_norm` meets its contract. The invariant: the sizes are those after k digits, and the first k rows' norms are added.
 use mathlib.Core.Path.{_≡_, refl, sym, _∙_, ap, ap₂}
+use mathlib.Core.Bool.{Bool, cond}
+use mathlib.Core.List.{List}
 use Prim.Native.Nat.{ℕ, _+_, _-_, _*_, _≤_}
 use native.Mathlib.Nat.{add-zero, add-assoc}
 use native.Mathlib.Omega.{arith}
@@ -10,20 +12,24 @@ use Rattle.lists.specs.Sum.{Σ}
 use Rattle.lists.proofs.Sum.{Σ-suc}
 use Rattle.definitions.specs.Answer.{value128}
 use Rattle.definitions.specs.Norm.{norm}
-use Rattle.definitions.specs.Rq.{digitRow}
-use Rattle.rq_digits.proofs.Sizes.{sizesAfter, sizes-first, sizes-next, row-is}
+use Rattle.definitions.specs.Rq.{isZero, digitRow, leftRow}
+use Rattle.rq_digits.proofs.Sizes.{sizesAfter, sizes-first, sizes-next, sizes-left, row-is}
 use Rattle.rq_vector.proofs.norm.add_digits_norm.Statement.{statement}
 use Rattle.rq_vector.proofs.norm.add_digits_norm.Tie as tie
 
+-- whether nothing goes on after the last row is whether nothing is left
+nothing-left : (b parts k : ℕ) (a sizes : List ℕ) {t : Bool} → k ≡ parts → sizes ≡ sizesAfter b a k → t ≡ isZero sizes → isZero (leftRow b parts a) ≡ t
+nothing-left b parts k a sizes n e z = sym (z ∙ ap isZero (sizes-left b parts k a sizes n e))
+
 abbrev Inv-loop : tie.InvT-loop
-Inv-loop a base parts total₀ sizes₀ k₀ total sizes k =
+Inv-loop sum a base parts total₀ sizes₀ k₀ total sizes k =
     (k ≤ parts)
     × (sizes ≡ sizesAfter base a k)
-    × (value128 total ≡ value128 total₀ + Σ k (λ q. norm (digitRow base a q)))
-    × (total .hi ≤ total₀ .hi + 64 * k)
+    × (value128 total ≡ value128 (sum .norm) + Σ k (λ q. norm (digitRow base a q)))
+    × (total .hi ≤ sum .norm .hi + 64 * k)
 
 abbrev μ-loop : tie.MeasureT-loop
-μ-loop a base parts total₀ sizes₀ k₀ total sizes k = parts - k
+μ-loop sum a base parts total₀ sizes₀ k₀ total sizes k = parts - k
 
 loop-holds : tie.Need-loop-holds Inv-loop μ-loop
 unfolding Σ
@@ -39,7 +45,7 @@ add-norm-requires c κs =
 
 loop-again : tie.Need-loop-again Inv-loop μ-loop
 loop-again c =
-    let s = c .before .before .before .before .before .before .before .before .args in
+    let s = c .before .before .before .before .before .before .before .before .before .args in
     let l = c .before .before .before .before .before .before .loop in
     let taken = c .before .before .before .before .take-row in
     let n : length (taken .result .row) ≡ 64 = search needs in
@@ -49,17 +55,30 @@ loop-again c =
       sizes-next (s .base) (s .a) (l .sizes) (taken .result .sizes) (l .k) (l .inv .1) (taken .ensures .1),
       c .add-norm .ensures .0
           ∙ ap₂ _+_ (l .inv .2) (ap norm (take-all 64 (taken .result .row) (omega arith) ∙ row))
-          ∙ add-assoc (value128 (s .sum)) (Σ (l .k) f) (f (l .k))
-          ∙ ap (λ x. value128 (s .sum) + x) (sym (Σ-suc (l .k) f)),
+          ∙ add-assoc (value128 (s .sum .norm)) (Σ (l .k) f) (f (l .k))
+          ∙ ap (λ x. value128 (s .sum .norm) + x) (sym (Σ-suc (l .k) f)),
       omega arith,
     )
 
 returns : tie.Need-returns Inv-loop μ-loop
 returns c =
-    let s = c .before .before .before .args in
-    let l = c .before .loop in
+    let s = c .before .before .before .before .before .before .args in
+    let l = c .before .before .before .loop in
     let n : l .k ≡ s .parts = omega arith in
-    (l .inv .2 ∙ ap (λ k. value128 (s .sum) + Σ k (λ q. norm (digitRow (s .base) (s .a) q))) n, omega arith)
+    let left = nothing-left (s .base) (s .parts) (l .k) (s .a) (l .sizes) n (l .inv .1) (c .before .is-zero .ensures) in (
+      (l .inv .2 ∙ ap (λ k. value128 (s .sum .norm) + Σ k (λ q. norm (digitRow (s .base) (s .a) q))) n, omega arith),
+      sym (ap (λ t. s .sum .«cells_left» + cond t 0 1) (left ∙ c .if1 .taken) ∙ add-zero (s .sum .«cells_left»)),
+    )
+
+returns-2 : tie.Need-returns-2 Inv-loop μ-loop
+returns-2 c =
+    let s = c .before .before .before .before .before .before .before .args in
+    let l = c .before .before .before .before .loop in
+    let n : l .k ≡ s .parts = omega arith in
+    let left = nothing-left (s .base) (s .parts) (l .k) (s .a) (l .sizes) n (l .inv .1) (c .before .before .is-zero .ensures) in (
+      (l .inv .2 ∙ ap (λ k. value128 (s .sum .norm) + Σ k (λ q. norm (digitRow (s .base) (s .a) q))) n, omega arith),
+      sym (ap (λ t. s .sum .«cells_left» + cond t 0 1) (left ∙ c .before .if1 .left)),
+    )
 
 pub add-digits-norm-spec : {M : Type 1} → statement M
 add-digits-norm-spec =
@@ -75,4 +94,7 @@ add-digits-norm-spec =
     (λ c. omega arith)
     (λ c. omega arith)
     loop-again
-    returns)
+    (λ c κs. search needs)
+    (λ c. omega arith)
+    returns
+    returns-2)

@@ -1,7 +1,7 @@
 -- `check_first_commitment` meets its contract.
 use mathlib.Core.Path.{_≡_, ap, _∙_}
 use borrow.Author.Needs.{needs}
-use Rattle.definitions.specs.Answer.{ofVerdict}
+use Rattle.definitions.specs.Answer.{ofChecked}
 use Rattle.protocol.specs.Parameters.{Parameters, parameters}
 use Rattle.workspace.proofs.Kept.{kept-refl}
 use Rattle.verifier_common.specs.Answers.{t-and-g-bounds, u1-differs}
@@ -13,7 +13,7 @@ use Rattle.verifier_commitments.proofs.outer_commitments.check_first_co
 -- 14 and 15, of the job's parameters
 bounded : (c : tie.After-check-t-and-g)
     → let s = c .before .before .before .before .args in
-    ofVerdict (c .check-t-and-g .result) ≡ t-and-g-bounds (parameters (s .job .now)) (s .transcript .now)
+    ofChecked (c .check-t-and-g .result) ≡ t-and-g-bounds (parameters (s .job .now)) (s .transcript .now)
 bounded c =
     let s = c .before .before .before .before in
     c .check-t-and-g .ensures ∙ ap (λ (P : Parameters). t-and-g-bounds P (s .args .transcript .now)) (s .pre .0 .same)

@@ -23,10 +23,10 @@ digits-within-requires c κs =
 -- the test by the boolean's value
 answer : (c : tie.After-digits-within)
     → let s = c .before .before .before .before .args in
-    cond (c .digits-within .result) fine (refused 16 0) ≡ h-bound (parametersOf (s .p)) (s .transcript .now)
+    cond (c .digits-within .result .within) fine (refused 16 0) ≡ h-bound (parametersOf (s .p)) (s .transcript .now)
 answer c =
     let s = c .before .before .before .before in
-    h-answer (s .args .transcript .now) (s .args .p) (s .pre) _ _ (c .digits-within .result) (c .before .before .of-transcript .ensures) (c .before .triangle .ensures .0) (c .digits-within .ensures)
+    h-answer (s .args .transcript .now) (s .args .p) (s .pre) _ _ (c .digits-within .result .within) (c .before .before .of-transcript .ensures) (c .before .triangle .ensures .0) (c .digits-within .ensures .0)
 
 returns : tie.Need-returns
 returns c = ap (λ t. cond t fine (refused 16 0)) (sym (c .if1 .taken)) ∙ answer (c .before)

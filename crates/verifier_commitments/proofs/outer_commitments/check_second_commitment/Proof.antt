@@ -1,7 +1,7 @@
 -- `check_second_commitment` meets its contract.
 use mathlib.Core.Path.{_≡_, ap, _∙_}
 use borrow.Author.Needs.{needs}
-use Rattle.definitions.specs.Answer.{ofVerdict}
+use Rattle.definitions.specs.Answer.{ofChecked}
 use Rattle.protocol.specs.Parameters.{Parameters, parameters}
 use Rattle.workspace.proofs.Kept.{kept-refl}
 use Rattle.verifier_common.specs.Answers.{h-bound, u2-differs}
@@ -13,7 +13,7 @@ use Rattle.verifier_commitments.proofs.outer_commitments.check_second_c
 -- 16, of the job's parameters
 bounded : (c : tie.After-check-h)
     → let s = c .before .before .before .before .args in
-    ofVerdict (c .check-h .result) ≡ h-bound (parameters (s .job .now)) (s .transcript .now)
+    ofChecked (c .check-h .result) ≡ h-bound (parameters (s .job .now)) (s .transcript .now)
 bounded c =
     let s = c .before .before .before .before in
     c .check-h .ensures ∙ ap (λ (P : Parameters). h-bound P (s .args .transcript .now)) (s .pre .0 .same)

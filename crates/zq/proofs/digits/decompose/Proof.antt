@@ -1,5 +1,5 @@
 -- `decompose` meets its contract. The invariant: the size is that after k digits, and the first k places have them.
-use mathlib.Core.Path.{_≡_, refl, sym, _∙_, ap}
+use mathlib.Core.Path.{_≡_, refl, _∙_, ap, ap₂}
 use mathlib.Core.Bool.{Bool, xor}
 use Prim.Native.Nat.{ℕ, _+_, _-_, _≤_, _<_}
 use native.Mathlib.Numerals.{add-one}
@@ -8,7 +8,7 @@ use borrow.Author.Needs.{needs}
 use Rattle.lists.specs.Table.{padded}
 use Rattle.lists.proofs.Padded.{padded-none, padded-next}
 use Rattle.definitions.specs.Zq.{isLargerThanHalf, size}
-use Rattle.definitions.specs.Digits.{sizeAfter, nextSize, signed, remBelow, remSize, digit, digitPlaces}
+use Rattle.definitions.specs.Digits.{sizeAfter, nextSize, signed, remBelow, remSize, digit, digitPlaces, leftover}
 use Rattle.zq.proofs.digits.decompose.Statement.{statement}
 use Rattle.zq.proofs.digits.decompose.Tie as tie
 
@@ -53,9 +53,15 @@ loop-again c =
     )
 
 returns : tie.Need-returns Inv-loop μ-loop
+unfolding leftover
 returns c =
-    c .before .loop .inv .2
-    ∙ filled _ _ _ _ _ _ (omega arith) (c .before .before .before .is-larger-than-half .ensures) (c .before .before .size .ensures)
+    let l = c .before .loop in
+    let s = c .before .before .before .before .args in
+    let n : l .k ≡ s .parts = omega arith in
+    λ i. record {
+      digits = (l .inv .2 ∙ filled (s .base) (s .parts) (l .k) (s .value .0) _ _ n (c .before .before .before .is-larger-than-half .ensures) (c .before .before .size .ensures)) i;
+      left = (l .inv .1 ∙ ap₂ (λ k x. sizeAfter (s .base) k x) n (c .before .before .size .ensures)) i;
+    }
 
 pub decompose-spec : {M : Type 1} → statement M
 decompose-spec =
