@@ -95,7 +95,7 @@ pub fn b_double_prime(
     requires { ⌜ FormedRows (now scratch) «a_at» «g_at» «phi_at» r n (now witness) «s_at» rows to ⌝ }
     ensures { λ _. ⌜ now (scratch .exit) ≡ splice (now (scratch .entry)) to (b″-words (now (scratch .entry)) «a_at» «g_at» «phi_at» r n (now (witness .entry)) «s_at» rows) ⌝ }
 {
-    let cells = r * (r + 1) / 2;
+    let cells = triangles::cells(r);
     let width = r * n;
     let mut a = a_at;
     let mut phi = phi_at;

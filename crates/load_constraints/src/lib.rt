@@ -99,6 +99,6 @@ pub fn add_left(
     requires { ⌜ Placed (now job) t a0 a (triangular r) × Placed (now job) t phi0 phi (r * n) × Reduced (now job) t × («s_at» + 64 * (r * n) ≤ length (now s)) × (r ≤ 16) × (n ≤ 64) ⌝ }
     ensures { λ _. ⌜ now (job .exit) ≡ plus (now (job .entry)) t (left-of (now (job .entry)) a0 phi0 (now (s .entry)) «s_at» r n) (left-of (now (job .entry)) a phi (now (s .entry)) «s_at» r n) ⌝ }
 {
-    add_triangle(job, t, a0, a, r * (r + 1) / 2, s, s_at, r, n);
+    add_triangle(job, t, a0, a, triangles::cells(r), s, s_at, r, n);
     add_line(job, t, phi0, phi, r * n, s, s_at);
 }

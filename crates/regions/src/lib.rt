@@ -29,7 +29,7 @@ pub fn lay_out(n: usize, r: usize, kappa: usize, l: usize) -> Regions
     ensures { λ s. ⌜ Laid n r kappa l s ⌝ }
 {
     let width = r * n;
-    let cells = r * (r + 1) / 2;
+    let cells = triangles::cells(r);
     let phi2 = 0;
     let a2 = phi2 + 64 * (l * width);
     let phi = a2 + 64 * (l * cells);

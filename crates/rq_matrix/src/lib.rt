@@ -19,9 +19,9 @@ pub fn cell(i: usize, j: usize) -> usize
     ensures { λ r. ⌜ r ≡ place-of i j ⌝ }
 {
     if j <= i {
-        i * (i + 1) / 2 + j
+        triangles::cells(i) + j
     } else {
-        j * (j + 1) / 2 + i
+        triangles::cells(j) + i
     }
 }
 

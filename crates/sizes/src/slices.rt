@@ -9,12 +9,12 @@ ghost use Rattle.protocol.specs.Layout.{job-sections, randomness-sections, witn
 ghost use Rattle.relation.specs.Parameters.{parametersOf};
 ghost use Rattle.sizes.specs.Sizes.{Sized, IsTable};
 
-// T = r(r+1)/2
+// T, of at most 16 rows.
 pub fn triangle(r: usize) -> usize
     requires { ⌜ r ≤ 16 ⌝ }
     ensures { λ t. ⌜ (t ≡ triangular r) × (t ≤ 136) ⌝ }
 {
-    r * (r + 1) / 2
+    triangles::cells(r)
 }
 
 // "constant-term constraints: l triangles a', then l·r·n elements φ', then l words b0; ring constraints: K triangles a, K·r·n elements φ,

@@ -28,19 +28,13 @@ Inv-loop scratch₀ a-at g-at phi-at r n witness s-at rows to cells width a₀ p
 abbrev μ-loop : tie.MeasureT-loop
 μ-loop scratch₀ a-at g-at phi-at r n witness s-at rows to cells width a₀ phi₀ k₀ scratch a phi k = rows - k
 
-mul-cells : tie.Need-mul-cells Inv-loop μ-loop
-mul-cells c =
-    let h = c .before .before .pre in
-    let rows : c .before .before .args .r + 1 ≤ 65 = omega arith in
-    omega (arith, mul-le-mul (h .5) rows)
-
 mul-width : tie.Need-mul-width Inv-loop μ-loop
-mul-width c = let h = c .before .before .pre in omega (arith, mul-le-mul (h .5) (h .6))
+mul-width c = let h = c .before .before .before .pre in omega (arith, mul-le-mul (h .5) (h .6))
 
 form-requires : tie.Need-form-requires Inv-loop μ-loop
 form-requires c κs =
-    let s = c .before .before .before .before .before .args in
-    let h = c .before .before .before .before .before .pre in
+    let s = c .before .before .before .before .before .before .args in
+    let h = c .before .before .before .before .before .before .pre in
     let l = c .before .before .loop in
     let more : l .k < s .rows = omega arith in
     record {
@@ -55,14 +49,14 @@ form-requires c κs =
 -- where a'' and φ'' of the turn's k end
 abbrev Ends : tie.After-slice-known2 Inv-loop μ-loop → Type 0
 Ends c =
-    let s = c .before .before .before .before .before .before .before .before .before .before .args in
+    let s = c .before .before .before .before .before .before .before .before .before .before .before .args in
     let l = c .before .before .before .before .before .before .before .loop in
     (s .a-at + 64 * (l .k * triangular (s .r)) + 64 * triangular (s .r) ≤ s .to) × (s .phi-at + 64 * (l .k * (s .r * s .n)) + 64 * (s .r * s .n) ≤ s .to)
 
 ends : (c : tie.After-slice-known2 Inv-loop μ-loop) → Ends c
 ends c =
-    let s = c .before .before .before .before .before .before .before .before .before .before .args in
-    let h = c .before .before .before .before .before .before .before .before .before .before .pre in
+    let s = c .before .before .before .before .before .before .before .before .before .before .before .args in
+    let h = c .before .before .before .before .before .before .before .before .before .before .before .pre in
     let l = c .before .before .before .before .before .before .before .loop in
     let more : l .k < s .rows = omega arith in
     (row-within (s .a-at) (l .k) (s .rows) (triangular (s .r)) (s .to) more (h .0), row-within (s .phi-at) (l .k) (s .rows) (s .r * s .n) (s .to) more (h .2))
@@ -75,14 +69,15 @@ add-phi c = omega (arith, ends c .1)
 
 loop-again : tie.Need-loop-again Inv-loop μ-loop
 loop-again c =
-    let s = c .before .before .before .before .before .before .before .before .before .before .args in
-    let h = c .before .before .before .before .before .before .before .before .before .before .pre in
+    let s = c .before .before .before .before .before .before .before .before .before .before .before .args in
+    let h = c .before .before .before .before .before .before .before .before .before .before .before .pre in
     let l = c .before .before .before .before .before .before .before .loop in
+    let T = c .before .before .before .before .before .before .before .before .cells .ensures in
     let e = c .before .before .before .before .form .ensures
     ∙ ap₂ (λ a phi. words (formed (l .scratch) a (s .g-at) phi (s .r) (s .n) (s .witness .now) (s .s-at))) (l .inv .1) (l .inv .2)
     ∙ ap words (formed-before (s .scratch .now) (s .a-at + 64 * (l .k * triangular (s .r))) (s .g-at) (s .phi-at + 64 * (l .k * (s .r * s .n))) (s .r) (s .n) (s .witness .now) (s .s-at) (s .to) _ (ends c .0) (h .1) (ends c .1) (l .scratch) (l .inv .3)) in
     let w = c .before .before .store .ensures ∙ stored-next _ _ _ (l .k) _ _ (l .inv .3) e in
-    (omega arith, row-next (s .a-at) (l .k) (triangular (s .r)) (l .a) (l .inv .1), row-next (s .phi-at) (l .k) (s .r * s .n) (l .phi) (l .inv .2), w, ap length w ∙ length-splice _ _ _)
+    (omega arith, ap (λ t. l .a + 64 * t) T ∙ row-next (s .a-at) (l .k) (triangular (s .r)) (l .a) (l .inv .1), row-next (s .phi-at) (l .k) (s .r * s .n) (l .phi) (l .inv .2), w, ap length w ∙ length-splice _ _ _)
 
 pub b-double-prime-spec : {M : Type 1} → statement M
 b-double-prime-spec =
@@ -90,8 +85,7 @@ b-double-prime-spec =
     (tie.spec
     Inv-loop
     μ-loop
-    (λ c. omega arith)
-    mul-cells
+    (λ c κs. omega arith)
     mul-width
     (λ c. (omega arith, omega arith, omega arith, stored-none _ _ _, refl))
     form-requires

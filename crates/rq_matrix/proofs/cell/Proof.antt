@@ -1,5 +1,6 @@
 -- `cell` meets its contract.
-use mathlib.Core.Path.{sym}
+use mathlib.Core.Path.{_∙_, ap, sym}
+use Prim.Native.Nat.{_+_}
 use native.Mathlib.Omega.{arith}
 use Rattle.protocol.proofs.Flat.{cell-lower, cell-upper}
 use Rattle.rq_matrix.proofs.Place.{product-bound}
@@ -10,11 +11,9 @@ pub cell-spec : {M : Type 1} → statement M
 cell-spec =
     tie.close
     (tie.spec
-    (λ c. omega arith)
-    (λ c. omega (arith, product-bound (c .before .args .i) (c .before .args .i) (omega arith) (omega arith), product-bound (c .before .args .j) (c .before .args .j) (omega arith) (omega arith)))
-    (λ c. omega (arith, product-bound (c .before .args .i) (c .before .args .i) (omega arith) (omega arith), product-bound (c .before .args .j) (c .before .args .j) (omega arith) (omega arith)))
-    (λ c. omega arith)
-    (λ c. omega (arith, product-bound (c .before .args .i) (c .before .args .i) (omega arith) (omega arith), product-bound (c .before .args .j) (c .before .args .j) (omega arith) (omega arith)))
-    (λ c. omega (arith, product-bound (c .before .args .i) (c .before .args .i) (omega arith) (omega arith), product-bound (c .before .args .j) (c .before .args .j) (omega arith) (omega arith)))
-    (λ c. sym (cell-lower (c .before .args .i) (c .before .args .j) (omega arith)))
-    (λ c. sym (cell-upper (c .before .args .i) (c .before .args .j) (omega arith))))
+    (λ c κs. omega arith)
+    (λ c. omega (arith, c .cells .ensures, product-bound (c .before .before .args .i) (c .before .before .args .i) (omega arith) (omega arith)))
+    (λ c κs. omega arith)
+    (λ c. omega (arith, c .cells2 .ensures, product-bound (c .before .before .args .j) (c .before .before .args .j) (omega arith) (omega arith)))
+    (λ c. ap (λ t. t + c .before .before .args .j) (c .cells .ensures) ∙ sym (cell-lower (c .before .before .args .i) (c .before .before .args .j) (omega arith)))
+    (λ c. ap (λ t. t + c .before .before .args .i) (c .cells2 .ensures) ∙ sym (cell-upper (c .before .before .args .i) (c .before .before .args .j) (omega arith))))
