@@ -27,22 +27,22 @@ fits-product a b h k = let m : a * b ≤ 256 = small-product a b h k in record {
 
 module _ (J : List ℕ) (p : EnvironmentParameters) (q : Regions) (S : List ℕ) (h : Ready J p q S) where
   -- the matrices by the code's parameters
-  pub B-room : (at : ℕ) → at ≡ 30 + start (job-sections (parametersOf p)) 7 → at + 64 * (p .«kappa_1» * (p .multiplicity * p .kappa * p .«t_1»)) ≤ length J
+  pub B-room : (at : ℕ) → at ≡ 31 + start (job-sections (parametersOf p)) 7 → at + 64 * (p .«kappa_1» * (p .multiplicity * p .kappa * p .«t_1»)) ≤ length J
   B-room at e =
       subst (λ a. a + 64 * (p .«kappa_1» * (p .multiplicity * p .kappa * p .«t_1»)) ≤ length J) (sym e)
-      (subst (λ P. 30 + start (job-sections P) 7 + 64 * (P .κ₁ * (P .r * P .κ * P .t₁)) ≤ length J) (sym (h .same)) (B-within J p q S h))
+      (subst (λ P. 31 + start (job-sections P) 7 + 64 * (P .κ₁ * (P .r * P .κ * P .t₁)) ≤ length J) (sym (h .same)) (B-within J p q S h))
 
-  pub C-room : (at cells : ℕ) → at ≡ 30 + start (job-sections (parametersOf p)) 8 → cells ≡ triangular (p .multiplicity) → at + 64 * (p .«kappa_1» * (cells * p .«t_2»)) ≤ length J
+  pub C-room : (at cells : ℕ) → at ≡ 31 + start (job-sections (parametersOf p)) 8 → cells ≡ triangular (p .multiplicity) → at + 64 * (p .«kappa_1» * (cells * p .«t_2»)) ≤ length J
   C-room at cells e f =
       subst (λ a. a + 64 * (p .«kappa_1» * (cells * p .«t_2»)) ≤ length J) (sym e)
-      (subst (λ k. 30 + start (job-sections (parametersOf p)) 8 + 64 * (p .«kappa_1» * (k * p .«t_2»)) ≤ length J) (sym f)
-      (subst (λ P. 30 + start (job-sections P) 8 + 64 * (P .κ₁ * (T P * P .t₂)) ≤ length J) (sym (h .same)) (C-within J p q S h)))
+      (subst (λ k. 31 + start (job-sections (parametersOf p)) 8 + 64 * (p .«kappa_1» * (k * p .«t_2»)) ≤ length J) (sym f)
+      (subst (λ P. 31 + start (job-sections P) 8 + 64 * (P .κ₁ * (T P * P .t₂)) ≤ length J) (sym (h .same)) (C-within J p q S h)))
 
-  pub D-room : (at cells : ℕ) → at ≡ 30 + start (job-sections (parametersOf p)) 9 → cells ≡ triangular (p .multiplicity) → at + 64 * (p .«kappa_2» * (cells * p .«t_1»)) ≤ length J
+  pub D-room : (at cells : ℕ) → at ≡ 31 + start (job-sections (parametersOf p)) 9 → cells ≡ triangular (p .multiplicity) → at + 64 * (p .«kappa_2» * (cells * p .«t_1»)) ≤ length J
   D-room at cells e f =
       subst (λ a. a + 64 * (p .«kappa_2» * (cells * p .«t_1»)) ≤ length J) (sym e)
-      (subst (λ k. 30 + start (job-sections (parametersOf p)) 9 + 64 * (p .«kappa_2» * (k * p .«t_1»)) ≤ length J) (sym f)
-      (subst (λ P. 30 + start (job-sections P) 9 + 64 * (P .κ₂ * (T P * P .t₁)) ≤ length J) (sym (h .same)) (D-within J p q S h)))
+      (subst (λ k. 31 + start (job-sections (parametersOf p)) 9 + 64 * (p .«kappa_2» * (k * p .«t_1»)) ≤ length J) (sym f)
+      (subst (λ P. 31 + start (job-sections P) 9 + 64 * (P .κ₂ * (T P * P .t₁)) ≤ length J) (sym (h .same)) (D-within J p q S h)))
 
   -- the regions by the code's parameters
   t-room : q .t + 64 * (p .multiplicity * p .kappa) ≤ length S

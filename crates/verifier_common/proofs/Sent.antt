@@ -45,10 +45,10 @@ module _ {J T : List ℕ} {p : EnvironmentParameters} (w : Posed J T p) where
   received = record { sized = reckoned; transcript = subst (λ (P : Parameters). Laid T 0 (transcript-sections P)) (sym (w .same)) (w .transcript) }
 
   -- the words of a section of the job
-  pub job-room : (m at : ℕ) → m < 10 → at ≡ 30 + start (job-sections (parametersOf p)) m → at + nth (job-sections (parametersOf p)) m .count ≤ length J
+  pub job-room : (m at : ℕ) → m < 10 → at ≡ 31 + start (job-sections (parametersOf p)) m → at + nth (job-sections (parametersOf p)) m .count ≤ length J
   job-room m at h e =
       subst (λ x. x + nth (job-sections (parametersOf p)) m .count ≤ length J) (sym e)
-      (subst (λ (P : Parameters). 30 + start (job-sections P) m + nth (job-sections P) m .count ≤ length J) (sym (w .same)) (w .job .inside m h))
+      (subst (λ (P : Parameters). 31 + start (job-sections P) m + nth (job-sections P) m .count ≤ length J) (sym (w .same)) (w .job .inside m h))
 
   -- of the transcript
   pub transcript-room : (m at : ℕ) → m < 8 → at ≡ start (transcript-sections (parametersOf p)) m → at + nth (transcript-sections (parametersOf p)) m .count ≤ length T

@@ -99,7 +99,7 @@ module _ {J R T : List ℕ} {p : EnvironmentParameters} (w : Sent J R T p) where
       subst (λ i. getD T (i + 64 * k) 0 < Q) (zero-add at-b″) (w .posed .transcript .ranges 2 (64 * k) (omega arith) (b-index k (P .κ) h))
 
   -- at the places of the sections
-  at-sections : Terms J R T (P .κ) (P .l) (30 + start (job-sections P) 2) (start (randomness-sections P) 1) (start (randomness-sections P) 2) (start (transcript-sections P) 1) (start (transcript-sections P) 2)
+  at-sections : Terms J R T (P .κ) (P .l) (31 + start (job-sections P) 2) (start (randomness-sections P) 1) (start (randomness-sections P) 2) (start (transcript-sections P) 1) (start (transcript-sections P) 2)
   at-sections = record {
     rows = refl;
     few = w .posed .sound .within .κ .1;
@@ -113,7 +113,7 @@ module _ {J R T : List ℕ} {p : EnvironmentParameters} (w : Sent J R T p) where
     computed-is = λ k.
         let psi = start (randomness-sections P) 1 in
         let om = start (randomness-sections P) 2 in
-        let b0 = 30 + start (job-sections P) 2 in
+        let b0 = 31 + start (job-sections P) 2 in
         let pr = start (transcript-sections P) 1 in
         ap₂ (λ x y. (x + y) % Q)
         (Σ-ext (P .l) (λ x. getD R (psi + (k * P .l + x)) 0 * getD J (b0 + x) 0) (λ x. getD R (psi + k * P .l + x) 0 * getD J (b0 + x) 0)
@@ -123,16 +123,16 @@ module _ {J R T : List ℕ} {p : EnvironmentParameters} (w : Sent J R T p) where
   }
 
   -- at the places that `offsets` gives
-  pub terms : (b0 psi om projection at : ℕ) → b0 ≡ 30 + start (job-sections (parametersOf p)) 2 → psi ≡ start (randomness-sections (parametersOf p)) 1
+  pub terms : (b0 psi om projection at : ℕ) → b0 ≡ 31 + start (job-sections (parametersOf p)) 2 → psi ≡ start (randomness-sections (parametersOf p)) 1
       → om ≡ start (randomness-sections (parametersOf p)) 2 → projection ≡ start (transcript-sections (parametersOf p)) 1 → at ≡ start (transcript-sections (parametersOf p)) 2
       → Terms J R T (p .kappa) (p .«constraint_l») b0 psi om projection at
   terms b0 psi om projection at e₁ e₂ e₃ e₄ e₅ =
       subst (λ b0. Terms J R T (p .kappa) (p .«constraint_l») b0 psi om projection at) (sym e₁)
-      (subst (λ psi. Terms J R T (p .kappa) (p .«constraint_l») (30 + start (job-sections (parametersOf p)) 2) psi om projection at) (sym e₂)
-      (subst (λ om. Terms J R T (p .kappa) (p .«constraint_l») (30 + start (job-sections (parametersOf p)) 2) (start (randomness-sections (parametersOf p)) 1) om projection at) (sym e₃)
-      (subst (λ pr. Terms J R T (p .kappa) (p .«constraint_l») (30 + start (job-sections (parametersOf p)) 2) (start (randomness-sections (parametersOf p)) 1) (start (randomness-sections (parametersOf p)) 2) pr at) (sym e₄)
-      (subst (λ at. Terms J R T (p .kappa) (p .«constraint_l») (30 + start (job-sections (parametersOf p)) 2) (start (randomness-sections (parametersOf p)) 1) (start (randomness-sections (parametersOf p)) 2) (start (transcript-sections (parametersOf p)) 1) at) (sym e₅)
-      (subst (λ (P : Parameters). Terms J R T (P .κ) (P .l) (30 + start (job-sections P) 2) (start (randomness-sections P) 1) (start (randomness-sections P) 2) (start (transcript-sections P) 1) (start (transcript-sections P) 2)) (sym (w .posed .same)) at-sections)))))
+      (subst (λ psi. Terms J R T (p .kappa) (p .«constraint_l») (31 + start (job-sections (parametersOf p)) 2) psi om projection at) (sym e₂)
+      (subst (λ om. Terms J R T (p .kappa) (p .«constraint_l») (31 + start (job-sections (parametersOf p)) 2) (start (randomness-sections (parametersOf p)) 1) om projection at) (sym e₃)
+      (subst (λ pr. Terms J R T (p .kappa) (p .«constraint_l») (31 + start (job-sections (parametersOf p)) 2) (start (randomness-sections (parametersOf p)) 1) (start (randomness-sections (parametersOf p)) 2) pr at) (sym e₄)
+      (subst (λ at. Terms J R T (p .kappa) (p .«constraint_l») (31 + start (job-sections (parametersOf p)) 2) (start (randomness-sections (parametersOf p)) 1) (start (randomness-sections (parametersOf p)) 2) (start (transcript-sections (parametersOf p)) 1) at) (sym e₅)
+      (subst (λ (P : Parameters). Terms J R T (P .κ) (P .l) (31 + start (job-sections P) 2) (start (randomness-sections P) 1) (start (randomness-sections P) 2) (start (transcript-sections P) 1) (start (transcript-sections P) 2)) (sym (w .posed .same)) at-sections)))))
 
 module _ {J R T : List ℕ} {κ l b0 psi om projection at : ℕ} (m : Terms J R T κ l b0 psi om projection at) where
   -- the test of row k by the values that the code has
