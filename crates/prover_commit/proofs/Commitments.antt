@@ -186,7 +186,7 @@ module _ (J W : List ℕ) (p : EnvironmentParameters) (q : Regions) (S : List �
         omega (arith, ag, gb),
         gb,
         omega (arith, φa, ag, gb),
-        omega (arith, b″-end J p q S k, k .sound .aggregated .1),
+        omega (arith, b″-end J p q S k, k .sound .within .L .1),
         witness-fits,
         omega (arith, k .sound .within .r .1),
         k .sound .within .n .1,
@@ -204,8 +204,7 @@ module _ (J W : List ℕ) (p : EnvironmentParameters) (q : Regions) (S : List �
       ∙ ap (splice S (q .b2))
       (ap (λ Q. flat (table (Q .L) (λ k. formed S (q .a2 + 64 * (k * T Q)) (q .g) (q .phi2 + 64 * (k * (Q .r * Q .n))) (Q .r) (Q .n) W 1))) (h .ready .same)
       ∙ ap (λ x. flat (table (P .L) (λ k. formed S (q .a2 + 64 * (k * T P)) (q .g) (q .phi2 + 64 * (k * (P .r * P .n))) (P .r) (P .n) W x))) (sym (witness-start P))
-      ∙ ap flat (table-ext (P .L) (λ k. formed S (q .a2 + 64 * (k * T P)) (q .g) (q .phi2 + 64 * (k * (P .r * P .n))) (P .r) (P .n) W (start (witness-sections P) 0)) (F.b″ (X J R) (s J W)) (λ k l. one k l))
-      ∙ ap (λ k. flat (table k (F.b″ (X J R) (s J W)))) (sym (h .ready .sound .kappa)))
+      ∙ ap flat (table-ext (P .L) (λ k. formed S (q .a2 + 64 * (k * T P)) (q .g) (q .phi2 + 64 * (k * (P .r * P .n))) (P .r) (P .n) W (start (witness-sections P) 0)) (F.b″ (X J R) (s J W)) (λ k l. one k l)))
     where
       one : (k : ℕ) → k < P .L → formed S (q .a2 + 64 * (k * T P)) (q .g) (q .phi2 + 64 * (k * (P .r * P .n))) (P .r) (P .n) W (start (witness-sections P) 0) ≡ F.b″ (X J R) (s J W) k
       one k l =

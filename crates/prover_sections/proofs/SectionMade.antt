@@ -85,7 +85,7 @@ module _ (J R W : List ℕ) (p : EnvironmentParameters) (q : Regions) (S : List 
 
   -- b'', t, g and h
   pub b″-made : Holds S (q .b2) (b″-words J R W) → b″-in (parametersOf p) q S ≡ b″-words J R W
-  b″-made held = ap (λ P. b″-in P q S) same ∙ taken S (q .b2) (64 * parameters J .κ) (b″-words J R W) (length-b″ J R W) held
+  b″-made held = ap (λ P. b″-in P q S) same ∙ taken S (q .b2) (64 * parameters J .L) (b″-words J R W) (length-b″ J R W) held
 
   pub t-made : Committed J W q S → t-in (parametersOf p) q S ≡ t-words J W
   t-made held = ap (λ P. t-in P q S) same ∙ taken S (q .t) _ (t-words J W) (length-t J W) (held .t)

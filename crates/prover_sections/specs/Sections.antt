@@ -18,7 +18,7 @@ use Rattle.relation.specs.Parameters.{parametersOf}
 use Rattle.sizes.specs.Sizes.{Sized}
 
 module _ (P : Parameters) where
-  open Parameters P using (n, r, κ, κ₁, κ₂, b, t₁, t₂)
+  open Parameters P using (n, r, κ, κ₁, κ₂, b, t₁, t₂, L)
 
   -- "p = Σ Π_i·s_i over coefficients"
   abbrev pub p-in : (R W : List ℕ) → List ℕ
@@ -44,7 +44,7 @@ module _ (P : Parameters) where
 
     -- b'', t, g and h as they stand
     abbrev pub b″-in : List ℕ
-    b″-in = part scratch (q .b2) (64 * κ)
+    b″-in = part scratch (q .b2) (64 * L)
 
     abbrev pub t-in : List ℕ
     t-in = part scratch (q .t) (64 * (r * κ))
