@@ -10,8 +10,8 @@
 
 #define Q 4294967295u
 
-/* n elements a vector, r vectors, K = l constraints of each kind, kappa = L */
-enum { N = 4, R = 3, T = R * (R + 1) / 2, K = 2, KAPPA = 4, KAPPA_1 = 4, KAPPA_2 = 4, PARTS = 4, MOST = 1 << 20 };
+/* n elements a vector, r vectors, K = l constraints of each kind, kappa rows of A, L aggregated equations */
+enum { N = 4, R = 3, T = R * (R + 1) / 2, K = 2, KAPPA = 5, L = 4, KAPPA_1 = 4, KAPPA_2 = 4, PARTS = 4, MOST = 1 << 20 };
 
 static uint32_t job[MOST], randomness[MOST], witness[MOST], scratch[MOST], transcript[MOST], joined[MOST];
 static size_t job_length, randomness_length, witness_length, transcript_length, scratch_length, ends[8];
@@ -20,16 +20,16 @@ static size_t job_length, randomness_length, witness_length, transcript_length, 
 static size_t b_0, b;
 
 static void generate(void) {
-    const labrador_parameters sizes = {N, R, KAPPA, KAPPA_1, KAPPA_2, K, K, 32, 256, PARTS, PARTS};
+    const labrador_parameters sizes = {N, R, KAPPA, KAPPA_1, KAPPA_2, K, K, 32, 256, PARTS, PARTS, L};
     const uint32_t seed = 20261115;
     labrador_load_need need = labrador_load_needs(sizes);
     labrador_answer answer = labrador_load(sizes, seed, job, MOST, witness, MOST, randomness, MOST);
     if (need.number != 0 || answer.number != 0) exit(EXIT_FAILURE);
-    printf("a load of n %d, r %d, K = l = %d and seed %" PRIu32 "\n", N, R, K, seed);
+    printf("a load of n %d, r %d, kappa %d, L %d, K = l = %d and seed %" PRIu32 "\n", N, R, KAPPA, L, K, seed);
     job_length = need.job;
     witness_length = need.witness;
     randomness_length = need.randomness;
-    b_0 = 30 + 64 * K * T + 1 + 64 * K * R * N + 1 + 1;
+    b_0 = 31 + 64 * K * T + 1 + 64 * K * R * N + 1 + 1;
     b = b_0 + K + 64 * K * T + 1 + 64 * K * R * N + 1 + 1;
     for (int k = 0; k < 7; k++) ends[k + 1] = ends[k] + 1 + randomness[ends[k]];
 }

@@ -353,8 +353,8 @@ enum { JOB = 262144, RANDOMNESS = 131072, WITNESS = 512, SCRATCH = 65536, OUTPUT
 static uint32_t job[JOB], randomness[RANDOMNESS], witness[WITNESS], scratch[SCRATCH], output[OUTPUT], joined[OUTPUT];
 static size_t job_length, randomness_length, witness_length, ends[8];
 
-static void make_job(uint32_t ring, uint32_t constant) {
-    const labrador_parameters sizes = {2, 2, 4, 1, 1, ring, constant, 32, 256, 4, 4};
+/* A load of these sizes and seed 1. */
+static void make_load(labrador_parameters sizes) {
     labrador_load_need need = labrador_load_needs(sizes);
     job_length = need.job;
     witness_length = need.witness;
@@ -368,6 +368,10 @@ static void make_job(uint32_t ring, uint32_t constant) {
     for (size_t k = 0; k < OUTPUT; k++) output[k] = joined[k] = MARK;
 }
 
+static void make_job(uint32_t ring, uint32_t constant) {
+    make_load((labrador_parameters){2, 2, 4, 1, 1, ring, constant, 32, 256, 4, 4, 4});
+}
+
 /* First and last words of three loads, of their b0 and of their b. */
 typedef struct {
     labrador_parameters sizes;
@@ -377,13 +381,13 @@ typedef struct {
 } load_vector;
 
 static const load_vector loads[3] = {
-    {{1, 1, 4, 1, 1, 1, 1, 32, 2, 1, 1}, 0, 1001, 65, 17843, 161, 293,
+    {{1, 1, 4, 1, 1, 1, 1, 32, 2, 1, 1, 4}, 0, 1002, 65, 17843, 162, 294,
      {1013904223u, 1196435762u, 251590501u, 3201352064u}, 175828025u, 3407199058u, {Q - 1, 0, 1, 0},
      {415956767u, 1248543218u, 1274125329u, 2576066108u}},
-    {{2, 3, 5, 2, 1, 3, 2, 31, 16, 3, 2}, 1, 13162, 385, 100425, 1569, 3878,
+    {{2, 3, 5, 2, 1, 3, 2, 31, 16, 3, 2, 5}, 1, 13163, 385, 100425, 1570, 3879,
      {1015568748u, 1586005467u, 827939114u, 211367553u}, 1230392950u, 2664596849u, {Q - 1, 1, 0, 1},
      {43359596u, 1514994139u, 2510895788u, 4264785435u}},
-    {{3, 2, 8, 1, 2, 1, 4, 16, 4294967294u, 1, 2}, 4294967295u, 6316, 385, 101175, 2337, 2920,
+    {{3, 2, 8, 1, 2, 1, 4, 16, 4294967294u, 1, 2, 8}, 4294967295u, 6317, 385, 101175, 2338, 2921,
      {1012239698u, 806866057u, 3693287520u, 3343740991u}, 1770543956u, 1837463797u, {1, 1, 1, 0},
      {3055150098u, 308327497u, 4176324560u, 4105001199u}},
 };
@@ -453,8 +457,8 @@ static void test_loads(void) {
         CHECK(a.number == 2 && a.place == v->randomness && job[0] == MARK && randomness[0] == MARK);
         a = labrador_load(v->sizes, v->seed, job, JOB, witness, WITNESS, randomness, RANDOMNESS);
         CHECK(a.number == 0 && a.place == 0);
-        CHECK(job[0] == 29 && same(job + 1, &v->sizes.n, 11) && job[12] == Q && job[29] == Q);
-        CHECK(has_words(job, 31, v->job, v->job_words) && job[v->b_0] == v->b_0_word && job[v->b] == v->b_word);
+        CHECK(job[0] == 30 && same(job + 1, &v->sizes.n, 12) && job[13] == Q && job[30] == Q);
+        CHECK(has_words(job, 32, v->job, v->job_words) && job[v->b_0] == v->b_0_word && job[v->b] == v->b_word);
         CHECK(has_words(witness, 1, v->witness, v->witness_words) && has_words(randomness, 1, v->randomness, v->randomness_words));
         CHECK(job[v->job] == MARK && witness[v->witness] == MARK && randomness[v->randomness] == MARK);
     }
@@ -464,7 +468,14 @@ static void test_loads(void) {
     CHECK(need.number == 4 && need.place == 8 && need.job == 0 && need.witness == 0 && need.randomness == 0);
     wrong.log_q = 31;
     labrador_answer a = labrador_load(wrong, 0, job, 0, witness, 0, randomness, 0);
-    CHECK(a.number == 5 && a.place == 3);
+    CHECK(a.number == 5 && a.place == 12);
+    wrong.log_q = 32;
+    wrong.L = 33;
+    need = labrador_load_needs(wrong);
+    CHECK(need.number == 4 && need.place == 12);
+    wrong.L = 32;
+    wrong.kappa = 1;
+    CHECK(labrador_load_needs(wrong).number == 0);
 }
 
 static void test_needs(size_t *scratch_need, size_t *output_need) {
@@ -474,10 +485,17 @@ static void test_needs(size_t *scratch_need, size_t *output_need) {
     CHECK(o.number == 0 && o.place == 0 && o.words == 64 * (1 + 4 + 1 + 2 + 8 + 3 + 3) + 256 + 8);
     *scratch_need = s.words;
     *output_need = o.words;
-    job[3] = 3;
+    job[12] = 3;
     s = labrador_scratch_need(job, job_length);
-    CHECK(s.number == 5 && s.place == 3 && s.words == 0);
-    job[3] = 4;
+    CHECK(s.number == 5 && s.place == 12 && s.words == 0);
+    job[12] = 33;
+    s = labrador_scratch_need(job, job_length);
+    CHECK(s.number == 4 && s.place == 12 && s.words == 0);
+    job[12] = 4;
+    job[0] = 29;
+    s = labrador_scratch_need(job, job_length);
+    CHECK(s.number == 3 && s.place == 0 && s.words == 0);
+    job[0] = 30;
     o = labrador_output_need(job, job_length - 1);
     CHECK(o.number == 3 && o.place == job_length - 1 && o.words == 0);
 }
@@ -539,12 +557,12 @@ static void test_calls(void) {
           v.second_lo == was);
     output[constant] = Q;
     CHECK(is_verdict(verdict_on(output, output_need, SCRATCH), 10, constant));
-    job[12] = job[13] = job[14] = 0;
+    job[13] = job[14] = job[15] = 0;
     output[constant] = 0;
     v = verdict_on(output, output_need, SCRATCH);
     CHECK(v.number == 21 && v.index == 0 && v.first_lo > 0 && v.second_hi == 0 && v.second_lo == 0);
     CHECK(all_zero(scratch, scratch_need) && scratch[scratch_need] == MARK);
-    job[18] = job[19] = job[20] = 0;
+    job[19] = job[20] = job[21] = 0;
     a = labrador_prove(job, job_length, randomness, randomness_length, witness, witness_length, scratch, SCRATCH, output, OUTPUT);
     CHECK(a.number == 13 && a.place == 0 && all_zero(output, output_need) && output[output_need] == MARK);
 }
@@ -568,6 +586,28 @@ static void test_one_kind(void) {
     }
 }
 
+/* kappa rows of A and L aggregated equations apart: proved and accepted, and an error in the last b'' is found. */
+static void test_apart(void) {
+    const uint32_t sizes[4][2] = {{1, 4}, {16, 4}, {3, 7}, {16, 32}};
+    for (int k = 0; k < 4; k++) {
+        const uint32_t kappa = sizes[k][0], rows = sizes[k][1];
+        make_load((labrador_parameters){2, 1, kappa, 1, 1, 1, 1, 32, 256, 4, 4, rows});
+        size_t scratch_need = labrador_scratch_need(job, job_length).words;
+        size_t output_need = labrador_output_need(job, job_length).words;
+        CHECK(scratch_need == 64 * ((rows + 2) * (2 + 1) + kappa + 2 + 64));
+        CHECK(output_need == 64 * (1 + rows + 1 + 2 + kappa + 1 + 1) + 256 + 8);
+        labrador_answer a = labrador_prove(job, job_length, randomness, randomness_length, witness, witness_length, scratch,
+                                           scratch_need, output, output_need);
+        CHECK(a.number == 0 && a.place == 0 && output[65 + 257] == 64 * rows && output[output_need] == MARK);
+        CHECK(is_verdict(verdict_on(output, output_need, scratch_need), 0, 0));
+        const size_t last = 65 + 257 + 1 + 64 * (rows - 1);
+        const uint32_t was = output[last];
+        output[last] = next(was);
+        labrador_verdict v = verdict_on(output, output_need, scratch_need);
+        CHECK(v.number == 22 && v.index == rows - 1 && v.second_lo == was);
+    }
+}
+
 /* Ranges for the job above: 256 numbers, vectors of 128. */
 enum { NUMBERS = 256 };
 static int64_t lows[NUMBERS + 64], highs[NUMBERS + 64];
@@ -577,9 +617,9 @@ static labrador_ranges_answer ranges(size_t lows_length, size_t highs_length) {
 }
 
 static void set_bound(uint64_t bound) {
-    job[18] = (uint32_t)bound;
-    job[19] = (uint32_t)(bound >> 32);
-    job[20] = 0;
+    job[19] = (uint32_t)bound;
+    job[20] = (uint32_t)(bound >> 32);
+    job[21] = 0;
 }
 
 static int is_range(labrador_range_norms v, uint32_t meets, uint64_t least, uint64_t greatest) {
@@ -634,9 +674,9 @@ static void test_ranges(void) {
     labrador_ranges_answer a = ranges(NUMBERS, NUMBERS);
     CHECK(a.number == 0 && a.vectors[1].meets == 2 && a.vectors[1].least_hi == 0 && a.vectors[1].least_lo == 0);
     CHECK(a.vectors[1].greatest_hi == 31 && a.vectors[1].greatest_lo == 18446743523953737856u);
-    job[3] = 3;
-    CHECK(is_refused_range(ranges(0, 0), 5, 3));
-    job[3] = 4;
+    job[12] = 3;
+    CHECK(is_refused_range(ranges(0, 0), 5, 12));
+    job[12] = 4;
 }
 
 /* Calls on ranges as document 02's model answers them (`harness range-sums` of oracle/ prints these rows): A's bound in three words, the answer's
@@ -691,10 +731,10 @@ static uint64_t sum_with(uint64_t sum, uint64_t x) {
 
 static void test_recorded_ranges(void) {
     for (uint32_t k = 0; k < 16; k++) {
-        const labrador_parameters sizes = {1 + k % 2, 1 + k % 3, 4, 1, 1, 1, 1, 32, 256, 4, 4};
+        const labrador_parameters sizes = {1 + k % 2, 1 + k % 3, 4, 1, 1, 1, 1, 32, 256, 4, 4, 4};
         size_t job_words = labrador_load_needs(sizes).job, lows_length, highs_length;
         labrador_load(sizes, k, job, JOB, witness, WITNESS, randomness, RANDOMNESS);
-        memcpy(job + 18, recorded_ranges[k].bound, sizeof recorded_ranges[k].bound);
+        memcpy(job + 19, recorded_ranges[k].bound, sizeof recorded_ranges[k].bound);
         make_ranges(k, 64 * sizes.n * sizes.r, &lows_length, &highs_length);
         labrador_ranges_answer a = labrador_ranges(job, job_words, many_lows, lows_length, many_highs, highs_length);
         uint64_t sum = sum_with(sum_with(14695981039346656037u, a.number), a.place);
@@ -721,6 +761,7 @@ int main(void) {
     test_recorded_loads();
     test_calls();
     test_one_kind();
+    test_apart();
     test_ranges();
     test_recorded_ranges();
     if (failures > 0) {

@@ -1,6 +1,6 @@
 //! Reads recorded answers back, as a program with fixed buffers does.
 
-use crate::cases::{Case, Expected, JUDGED, LARGE, MODELLED, REFUSED, WORKED};
+use crate::cases::{Case, Expected, APART, JUDGED, LARGE, MODELLED, REFUSED, WORKED};
 use crate::record::*;
 use crate::tally::Tally;
 use model::calls::{self, Leaf, LeafAnswer};
@@ -45,6 +45,7 @@ pub fn replay(folder: &Path) -> bool {
         MODELLED_CALL,
         WORKED,
         MODELLED,
+        APART,
         LARGE,
         REFUSED,
         JUDGED,
