@@ -111,7 +111,7 @@ static void prove_in_rounds(void) {
                                                                       labrador_round_4, labrador_round_5};
     const char *const made[5] = {"u1", "p", "b''", "u2", "z, t, g, h"};
     const size_t handed[5] = {0, 1, 3, 5, 7};
-    const size_t words[5] = {1 + 64 * KAPPA_1, 257, 1 + 64 * KAPPA, 1 + 64 * KAPPA_2, 4 + 64 * (N + R * KAPPA + 2 * T)};
+    const size_t words[5] = {1 + 64 * KAPPA_1, 257, 1 + 64 * L, 1 + 64 * KAPPA_2, 4 + 64 * (N + R * KAPPA + 2 * T)};
     size_t place = 0;
     for (int k = 0; k < 5; k++) {
         double begin = milliseconds();
@@ -138,7 +138,7 @@ int main(void) {
     printf("prove: answer %" PRIu32 " (%.2f ms)\n", answer.number, milliseconds() - begin);
     if (answer.number != 0) return EXIT_FAILURE;
     prove_in_rounds();
-    const size_t p_at = 1 + 64 * KAPPA_1 + 1, b_at = p_at + 256 + 1, u2_at = b_at + 64 * KAPPA + 1, z_at = u2_at + 64 * KAPPA_2 + 1,
+    const size_t p_at = 1 + 64 * KAPPA_1 + 1, b_at = p_at + 256 + 1, u2_at = b_at + 64 * L + 1, z_at = u2_at + 64 * KAPPA_2 + 1,
                  t_at = z_at + 64 * N + 1, g_at = t_at + 64 * R * KAPPA + 1, h_at = g_at + 64 * T + 1;
     judge("the transcript as it was made:");
     damage(transcript, 1, "a word of u1 changed:");
@@ -153,8 +153,8 @@ int main(void) {
     damage(transcript, 0, "a count changed:");
     damage(job, b_0, "the statement's b0 changed:");
     damage(job, b, "the statement's b changed:");
-    lower(12, 1, "beta_sq lowered to 1:");
-    lower(15, 1, "beta_prime_sq lowered to 1:");
-    lower(27, 1, "D's norm bound lowered to 1:");
+    lower(13, 1, "beta_sq lowered to 1:");
+    lower(16, 1, "beta_prime_sq lowered to 1:");
+    lower(28, 1, "D's norm bound lowered to 1:");
     return EXIT_SUCCESS;
 }

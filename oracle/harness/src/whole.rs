@@ -347,13 +347,13 @@ pub fn apart(context: &mut Context, random: &mut Random, pairs: usize) {
         with(16, 8, 32),
     ];
     for (k, parameters) in all.into_iter().enumerate() {
-        let parameters = if parameters.aggregations > 9 {
-            Parameters { r: 1, ..parameters }
-        } else {
-            parameters
-        };
-        at_bounds(context, random, "κ and L apart", parameters, Size::Bits(4));
-        let instance = base(random, parameters);
+        // two vectors in the first two, one in the others, whose randomness is shorter
+        let r = if k < 2 { 2 } else { 1 };
+        let instance = base(random, Parameters { r, ..parameters });
+        let mut tight = instance.clone();
+        let figures = instance.figures(&modelled(&instance));
+        tighten(&mut tight.parameters, &figures, Tight::Equal);
+        context.prover("κ and L apart, bounds equal to their figures", &tight, 1);
         let mut unmet = instance.clone();
         unmet.put_off(random, Off::ALL[1 + k % 7]);
         context.prover("κ and L apart, constraints off", &unmet, 0);
@@ -363,7 +363,7 @@ pub fn apart(context: &mut Context, random: &mut Random, pairs: usize) {
         unmet.put_off(random, Off::AllConstant);
         unmet.randomness[1][..rows * parameters.constant].fill(0);
         context.prover("κ and L apart, the last psi row shows an error", &unmet, 0);
-        if k % 4 == 3 {
+        if k == 1 || k == 7 {
             damaged_sections(context, &instance);
             for call in Call::ALL {
                 unfit(context, random, &instance, call, pairs);
