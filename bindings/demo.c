@@ -10,8 +10,8 @@
 
 #define Q 4294967295u
 
-/* n elements a vector, r vectors, K = l constraints of each kind, kappa = L */
-enum { N = 4, R = 3, T = R * (R + 1) / 2, K = 2, KAPPA = 4, KAPPA_1 = 4, KAPPA_2 = 4, PARTS = 4, MOST = 1 << 20 };
+/* n elements a vector, r vectors, K = l constraints of each kind, kappa rows of A, L aggregated equations */
+enum { N = 4, R = 3, T = R * (R + 1) / 2, K = 2, KAPPA = 5, L = 4, KAPPA_1 = 4, KAPPA_2 = 4, PARTS = 4, MOST = 1 << 20 };
 
 static uint32_t job[MOST], randomness[MOST], witness[MOST], scratch[MOST], transcript[MOST], joined[MOST];
 static size_t job_length, randomness_length, witness_length, transcript_length, scratch_length, ends[8];
@@ -20,16 +20,16 @@ static size_t job_length, randomness_length, witness_length, transcript_length, 
 static size_t b_0, b;
 
 static void generate(void) {
-    const labrador_parameters sizes = {N, R, KAPPA, KAPPA_1, KAPPA_2, K, K, 32, 256, PARTS, PARTS};
+    const labrador_parameters sizes = {N, R, KAPPA, KAPPA_1, KAPPA_2, K, K, 32, 256, PARTS, PARTS, L};
     const uint32_t seed = 20261115;
     labrador_load_need need = labrador_load_needs(sizes);
     labrador_answer answer = labrador_load(sizes, seed, job, MOST, witness, MOST, randomness, MOST);
     if (need.number != 0 || answer.number != 0) exit(EXIT_FAILURE);
-    printf("a load of n %d, r %d, K = l = %d and seed %" PRIu32 "\n", N, R, K, seed);
+    printf("a load of n %d, r %d, kappa %d, L %d, K = l = %d and seed %" PRIu32 "\n", N, R, KAPPA, L, K, seed);
     job_length = need.job;
     witness_length = need.witness;
     randomness_length = need.randomness;
-    b_0 = 30 + 64 * K * T + 1 + 64 * K * R * N + 1 + 1;
+    b_0 = 31 + 64 * K * T + 1 + 64 * K * R * N + 1 + 1;
     b = b_0 + K + 64 * K * T + 1 + 64 * K * R * N + 1 + 1;
     for (int k = 0; k < 7; k++) ends[k + 1] = ends[k] + 1 + randomness[ends[k]];
 }
@@ -111,7 +111,7 @@ static void prove_in_rounds(void) {
                                                                       labrador_round_4, labrador_round_5};
     const char *const made[5] = {"u1", "p", "b''", "u2", "z, t, g, h"};
     const size_t handed[5] = {0, 1, 3, 5, 7};
-    const size_t words[5] = {1 + 64 * KAPPA_1, 257, 1 + 64 * KAPPA, 1 + 64 * KAPPA_2, 4 + 64 * (N + R * KAPPA + 2 * T)};
+    const size_t words[5] = {1 + 64 * KAPPA_1, 257, 1 + 64 * L, 1 + 64 * KAPPA_2, 4 + 64 * (N + R * KAPPA + 2 * T)};
     size_t place = 0;
     for (int k = 0; k < 5; k++) {
         double begin = milliseconds();
@@ -138,7 +138,7 @@ int main(void) {
     printf("prove: answer %" PRIu32 " (%.2f ms)\n", answer.number, milliseconds() - begin);
     if (answer.number != 0) return EXIT_FAILURE;
     prove_in_rounds();
-    const size_t p_at = 1 + 64 * KAPPA_1 + 1, b_at = p_at + 256 + 1, u2_at = b_at + 64 * KAPPA + 1, z_at = u2_at + 64 * KAPPA_2 + 1,
+    const size_t p_at = 1 + 64 * KAPPA_1 + 1, b_at = p_at + 256 + 1, u2_at = b_at + 64 * L + 1, z_at = u2_at + 64 * KAPPA_2 + 1,
                  t_at = z_at + 64 * N + 1, g_at = t_at + 64 * R * KAPPA + 1, h_at = g_at + 64 * T + 1;
     judge("the transcript as it was made:");
     damage(transcript, 1, "a word of u1 changed:");
@@ -153,8 +153,8 @@ int main(void) {
     damage(transcript, 0, "a count changed:");
     damage(job, b_0, "the statement's b0 changed:");
     damage(job, b, "the statement's b changed:");
-    lower(12, 1, "beta_sq lowered to 1:");
-    lower(15, 1, "beta_prime_sq lowered to 1:");
-    lower(27, 1, "D's norm bound lowered to 1:");
+    lower(13, 1, "beta_sq lowered to 1:");
+    lower(16, 1, "beta_prime_sq lowered to 1:");
+    lower(28, 1, "D's norm bound lowered to 1:");
     return EXIT_SUCCESS;
 }

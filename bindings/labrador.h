@@ -126,7 +126,7 @@ labrador_element_answer labrador_challenge(labrador_challenge_words words);
 
 /* The calls on whole slices. Each slice is a pointer, which is not null, and a length in words; no two overlap.
    Refusals before the work touch nothing: 1 scratch too short, 2 output too short (place: the length needed); 3 the job's layout,
-   4 a parameter outside its limits (K and l are from 0 to 64, not both 0), 5 kappa is not L, 6 a job word; 7, 8 the randomness's
+   4 a parameter outside its limits (K and l are from 0 to 64, not both 0), 5 L below 128 / log_q rounded up, 6 a job word; 7, 8 the randomness's
    layout and words; 9, 10 the transcript's; 11, 12 the witness's. In the work: 13 norm of a witness vector (place: its index), 14,
    15, 16 digits of t, g, h above their bound.
    After the work scratch is zero to the length needed, and so is the output after 13 to 16. Words beyond never change. */
@@ -166,7 +166,7 @@ labrador_need labrador_scratch_need(const uint32_t *job, size_t job_length);
 /* The words of output that labrador_prove needs with this job, which are the transcript's, or the job's refusal. */
 labrador_need labrador_output_need(const uint32_t *job, size_t job_length);
 
-/* The eleven parameters of a test load, in the order of section one. */
+/* The parameters of a test load, in the order of section one: kappa rows of A, L aggregated equations. */
 typedef struct {
     uint32_t n;
     uint32_t r;
@@ -179,6 +179,7 @@ typedef struct {
     uint32_t b;
     uint32_t t_1;
     uint32_t t_2;
+    uint32_t L;
 } labrador_parameters;
 
 /* The lengths that a load needs, or the refusal of its parameters with zeros. */
@@ -192,7 +193,7 @@ typedef struct {
 
 labrador_load_need labrador_load_needs(labrador_parameters parameters);
 
-/* A test load that anyone can repeat: a job, a witness that meets it and randomness, from eleven parameters and a seed. 4 and 5 are of the parameters, at
+/* A test load that anyone can repeat: a job, a witness that meets it and randomness, from twelve parameters and a seed. 4 and 5 are of the parameters, at
    section one's places; then 2 of the first buffer that is too short, job, witness, randomness in this order, its place the length needed. Words beyond stay, and a
    refusal touches nothing. The witness stands before the randomness here, as they are drawn; labrador_prove takes the randomness first. */
 labrador_answer labrador_load(labrador_parameters parameters, uint32_t seed, uint32_t *job, size_t job_length, uint32_t *witness, size_t witness_length,

@@ -375,6 +375,7 @@ enum { JOB = 262144, RANDOMNESS = 131072, WITNESS = 512, SCRATCH = 65536, OUTPUT
 static uint32_t job[JOB], randomness[RANDOMNESS], witness[WITNESS], scratch[SCRATCH], output[OUTPUT], joined[OUTPUT];
 static size_t job_length, randomness_length, witness_length, ends[8];
 
+/* A load of these sizes and seed 1. */
 static void make_load(labrador_parameters sizes) {
     labrador_load_need need = labrador_load_needs(sizes);
     job_length = need.job;
@@ -390,8 +391,7 @@ static void make_load(labrador_parameters sizes) {
 }
 
 static void make_job(uint32_t ring, uint32_t constant) {
-    const labrador_parameters sizes = {2, 2, 4, 1, 1, ring, constant, 32, 256, 4, 4};
-    make_load(sizes);
+    make_load((labrador_parameters){2, 2, 4, 1, 1, ring, constant, 32, 256, 4, 4, 4});
 }
 
 /* First and last words of three loads, of their b0 and of their b. */
@@ -403,13 +403,13 @@ typedef struct {
 } load_vector;
 
 static const load_vector loads[3] = {
-    {{1, 1, 4, 1, 1, 1, 1, 32, 2, 1, 1}, 0, 1001, 65, 17843, 161, 293,
+    {{1, 1, 4, 1, 1, 1, 1, 32, 2, 1, 1, 4}, 0, 1002, 65, 17843, 162, 294,
      {1013904223u, 1196435762u, 251590501u, 3201352064u}, 175828025u, 3407199058u, {Q - 1, 0, 1, 0},
      {415956767u, 1248543218u, 1274125329u, 2576066108u}},
-    {{2, 3, 5, 2, 1, 3, 2, 31, 16, 3, 2}, 1, 13162, 385, 100425, 1569, 3878,
+    {{2, 3, 5, 2, 1, 3, 2, 31, 16, 3, 2, 5}, 1, 13163, 385, 100425, 1570, 3879,
      {1015568748u, 1586005467u, 827939114u, 211367553u}, 1230392950u, 2664596849u, {Q - 1, 1, 0, 1},
      {43359596u, 1514994139u, 2510895788u, 4264785435u}},
-    {{3, 2, 8, 1, 2, 1, 4, 16, 4294967294u, 1, 2}, 4294967295u, 6316, 385, 101175, 2337, 2920,
+    {{3, 2, 8, 1, 2, 1, 4, 16, 4294967294u, 1, 2, 8}, 4294967295u, 6317, 385, 101175, 2338, 2921,
      {1012239698u, 806866057u, 3693287520u, 3343740991u}, 1770543956u, 1837463797u, {1, 1, 1, 0},
      {3055150098u, 308327497u, 4176324560u, 4105001199u}},
 };
@@ -426,22 +426,22 @@ static const struct {
     uint32_t seed;
     uint64_t job, witness, randomness;
 } recorded_loads[16] = {
-    {{2, 1, 5, 2, 1, 1, 1, 28, 340707, 1, 32}, 0u, 0xabe53046dc704927u, 0x2da65aee9f69df69u, 0x331815fd75041818u},
-    {{1, 2, 5, 1, 3, 1, 2, 26, 408743, 2, 1}, 1u, 0x49a1bdbf29f19635u, 0x55285fe9f45493c1u, 0xcf943b6a11ee9e5au},
-    {{1, 1, 4, 2, 1, 64, 3, 32, 681352, 32, 32}, 4294967295u, 0x86430177b4cf25f3u, 0x2939b506f53ec3adu, 0x37a48d73a1e249dau},
-    {{1, 2, 7, 1, 2, 0, 4, 20, 982458, 3, 3}, 2718133106u, 0xb2035c20f6d7d832u, 0x37f43b8a9b7b94c0u, 0x1754e717c88167feu},
-    {{1, 2, 5, 2, 2, 5, 1, 26, 925536, 3, 2}, 0u, 0x3f866222285e54a1u, 0x057dbab9fa2ac790u, 0x29e850a70d7aaa32u},
-    {{2, 2, 5, 2, 2, 1, 1, 26, 793379, 32, 1}, 1u, 0xfd41ed160286cd32u, 0xa177259b3f1c5a1bu, 0xf7daad2fc8dd3013u},
-    {{1, 1, 5, 1, 3, 64, 1, 31, 174998, 1, 32}, 4294967295u, 0xb2c6bf78780cf694u, 0xe974ebdf1f3106e2u, 0x28acd10d6b177c9fu},
-    {{1, 2, 8, 2, 1, 0, 1, 16, 184568, 3, 2}, 2289652585u, 0x375340c90c5fda29u, 0x1892bec7875162e3u, 0x91fc3aaeeaff208fu},
-    {{2, 1, 5, 2, 1, 6, 64, 27, 382509, 3, 32}, 0u, 0x58099d6829e3312du, 0x7573a9623f023a85u, 0xd6615a6b147f071bu},
-    {{1, 1, 5, 3, 1, 1, 64, 26, 833742, 2, 2}, 1u, 0xfdc501a378ca9f28u, 0x99cfa41065e04427u, 0x7ba8902083ee51dfu},
-    {{1, 1, 5, 2, 2, 64, 64, 26, 646631, 2, 1}, 4294967295u, 0x713729549127e8aeu, 0x72c4e9d93703d402u, 0xb7f60c353dec695cu},
-    {{1, 1, 8, 3, 2, 0, 64, 16, 40806, 3, 3}, 1303512618u, 0xd2fc1dec8385eb03u, 0x9650458c23ecbf4bu, 0xb59f2a5c5cbabbf1u},
-    {{2, 2, 6, 2, 3, 4, 0, 25, 212531, 32, 3}, 0u, 0xb7a37369f8d32773u, 0xc819af702264e25bu, 0x32a25fe5e3131119u},
-    {{1, 2, 7, 1, 3, 1, 0, 21, 709273, 1, 2}, 1u, 0x1981573bf1160d71u, 0x0f5be80513039be7u, 0x709cb4c524a2499du},
-    {{1, 2, 8, 3, 2, 64, 0, 18, 354229, 1, 32}, 4294967295u, 0xffafe9de5c40b29eu, 0x3ca9d911046b4193u, 0xf1181141f7daad0au},
-    {{2, 2, 5, 2, 3, 0, 1, 30, 515605, 32, 32}, 410574068u, 0x838bdc157134ab5fu, 0xc44aaad8b682a654u, 0x143d59f33bab96b6u},
+    {{2, 2, 5, 3, 3, 5, 5, 28, 625349, 3, 2, 5}, 0u, 0xd60e397fcf603bd0u, 0x5036d35f7ca0b489u, 0xc4ee6c86bd68eaccu},
+    {{1, 1, 5, 1, 1, 1, 6, 26, 933290, 3, 2, 12}, 1u, 0xd8deb5285c8792d0u, 0xe46821c60f2407cdu, 0x300770232f1083f1u},
+    {{2, 2, 4, 3, 3, 64, 1, 32, 511233, 1, 2, 32}, 4294967295u, 0x4bc0ea5f5b9e4561u, 0x38e7082ee3bfb6bbu, 0xa8160916b6bf7985u},
+    {{1, 2, 2, 1, 2, 0, 6, 20, 650876, 3, 1, 7}, 811354239u, 0xeb9b1e603595f619u, 0xa6b093c9ff4e2308u, 0x0af23c7a145763e3u},
+    {{2, 2, 16, 1, 3, 1, 1, 26, 965323, 2, 3, 9}, 0u, 0x3aea579cda1426f7u, 0xc42f77ee1b25b881u, 0x28e4147c0e03a46bu},
+    {{2, 1, 8, 1, 1, 1, 1, 26, 649706, 32, 32, 32}, 1u, 0x1993775d4d326546u, 0xc53ac5449e3d9a5bu, 0x25b5330147214c48u},
+    {{1, 1, 16, 1, 1, 64, 1, 31, 695901, 3, 2, 5}, 4294967295u, 0x645fb23b36a3badbu, 0x78d0d9e1ce812685u, 0x66444d330fd3da69u},
+    {{2, 2, 16, 2, 1, 0, 1, 16, 26467, 2, 32, 12}, 685597484u, 0xd5aea08bd3dbb25eu, 0x131d7578edac39fcu, 0x1c4f6b017d3b4957u},
+    {{2, 1, 16, 3, 1, 5, 64, 27, 768005, 1, 32, 32}, 0u, 0x75bcb9433c2f9d29u, 0x16f36e686a934290u, 0xc8cda15eb587b9cau},
+    {{2, 2, 5, 1, 2, 1, 64, 26, 581995, 32, 1, 5}, 1u, 0xafa11da1ce7b62e2u, 0x70d459cf1e50bc79u, 0x37d20ca0bd09e934u},
+    {{2, 2, 5, 1, 3, 64, 64, 26, 934186, 2, 1, 11}, 4294967295u, 0x4891e8f54ff3497bu, 0x0573fa131f45c7b3u, 0xe002ddd8f8c1d253u},
+    {{2, 2, 8, 1, 3, 0, 64, 16, 706936, 3, 1, 32}, 3938257949u, 0x6ad17c0d66f1ed63u, 0xae086497fd006ac4u, 0x71e60e0b6bfaac3au},
+    {{2, 1, 15, 2, 1, 4, 0, 25, 409620, 1, 1, 6}, 0u, 0x9245727898f59bbdu, 0x6001a76edb6b2187u, 0xd68c15978b615eebu},
+    {{1, 1, 9, 1, 3, 1, 0, 21, 964163, 32, 2, 12}, 1u, 0x81178a967e8f5e13u, 0x383bb4d4fb42df5eu, 0x239ac84d33d93355u},
+    {{2, 2, 11, 3, 3, 64, 0, 18, 707597, 2, 3, 32}, 4294967295u, 0x5387b28a8040be0cu, 0xdc532a4d0db4ac68u, 0x0b9f7c280d2a5ae0u},
+    {{2, 1, 16, 3, 1, 0, 1, 30, 717845, 1, 3, 5}, 3760132017u, 0xe22f2828cac04d0fu, 0x1251ac08f0b50770u, 0xf3ccc466201bae09u},
 };
 
 /* Words in one number: FNV-1a, a word at a time. */
@@ -479,8 +479,8 @@ static void test_loads(void) {
         CHECK(a.number == 2 && a.place == v->randomness && job[0] == MARK && randomness[0] == MARK);
         a = labrador_load(v->sizes, v->seed, job, JOB, witness, WITNESS, randomness, RANDOMNESS);
         CHECK(a.number == 0 && a.place == 0);
-        CHECK(job[0] == 29 && same(job + 1, &v->sizes.n, 11) && job[12] == Q && job[29] == Q);
-        CHECK(has_words(job, 31, v->job, v->job_words) && job[v->b_0] == v->b_0_word && job[v->b] == v->b_word);
+        CHECK(job[0] == 30 && same(job + 1, &v->sizes.n, 12) && job[13] == Q && job[30] == Q);
+        CHECK(has_words(job, 32, v->job, v->job_words) && job[v->b_0] == v->b_0_word && job[v->b] == v->b_word);
         CHECK(has_words(witness, 1, v->witness, v->witness_words) && has_words(randomness, 1, v->randomness, v->randomness_words));
         CHECK(job[v->job] == MARK && witness[v->witness] == MARK && randomness[v->randomness] == MARK);
     }
@@ -490,7 +490,14 @@ static void test_loads(void) {
     CHECK(need.number == 4 && need.place == 8 && need.job == 0 && need.witness == 0 && need.randomness == 0);
     wrong.log_q = 31;
     labrador_answer a = labrador_load(wrong, 0, job, 0, witness, 0, randomness, 0);
-    CHECK(a.number == 5 && a.place == 3);
+    CHECK(a.number == 5 && a.place == 12);
+    wrong.log_q = 32;
+    wrong.L = 33;
+    need = labrador_load_needs(wrong);
+    CHECK(need.number == 4 && need.place == 12);
+    wrong.L = 32;
+    wrong.kappa = 1;
+    CHECK(labrador_load_needs(wrong).number == 0);
 }
 
 static void test_needs(size_t *scratch_need, size_t *output_need) {
@@ -500,10 +507,17 @@ static void test_needs(size_t *scratch_need, size_t *output_need) {
     CHECK(o.number == 0 && o.place == 0 && o.words == 64 * (1 + 4 + 1 + 2 + 8 + 3 + 3) + 256 + 8);
     *scratch_need = s.words;
     *output_need = o.words;
-    job[3] = 3;
+    job[12] = 3;
     s = labrador_scratch_need(job, job_length);
-    CHECK(s.number == 5 && s.place == 3 && s.words == 0);
-    job[3] = 4;
+    CHECK(s.number == 5 && s.place == 12 && s.words == 0);
+    job[12] = 33;
+    s = labrador_scratch_need(job, job_length);
+    CHECK(s.number == 4 && s.place == 12 && s.words == 0);
+    job[12] = 4;
+    job[0] = 29;
+    s = labrador_scratch_need(job, job_length);
+    CHECK(s.number == 3 && s.place == 0 && s.words == 0);
+    job[0] = 30;
     o = labrador_output_need(job, job_length - 1);
     CHECK(o.number == 3 && o.place == job_length - 1 && o.words == 0);
 }
@@ -565,12 +579,12 @@ static void test_calls(void) {
           v.second_lo == was && v.cells_left == 0);
     output[constant] = Q;
     CHECK(is_verdict(verdict_on(output, output_need, SCRATCH), 10, constant));
-    job[12] = job[13] = job[14] = 0;
+    job[13] = job[14] = job[15] = 0;
     output[constant] = 0;
     v = verdict_on(output, output_need, SCRATCH);
     CHECK(v.number == 21 && v.index == 0 && v.first_lo > 0 && v.second_hi == 0 && v.second_lo == 0 && v.cells_left == 0);
     CHECK(all_zero(scratch, scratch_need) && scratch[scratch_need] == MARK);
-    job[18] = job[19] = job[20] = 0;
+    job[19] = job[20] = job[21] = 0;
     a = labrador_prove(job, job_length, randomness, randomness_length, witness, witness_length, scratch, SCRATCH, output, OUTPUT);
     CHECK(a.number == 13 && a.place == 0 && all_zero(output, output_need) && output[output_need] == MARK);
 }
@@ -609,7 +623,7 @@ static uint64_t cells_of(const uint32_t *words, size_t cells, uint32_t base, uin
 static void test_cells_left(void) {
     const uint32_t parts[7][3] = {{256, 4, 4}, {256, 3, 3}, {256, 1, 4}, {256, 4, 1}, {2, 1, 1}, {65536, 2, 2}, {4294967294u, 1, 1}};
     for (int k = 0; k < 7; k++) {
-        const labrador_parameters sizes = {2, 2, 4, 1, 1, 1, 1, 32, parts[k][0], parts[k][1], parts[k][2]};
+        const labrador_parameters sizes = {2, 2, 4, 1, 1, 1, 1, 32, parts[k][0], parts[k][1], parts[k][2], 4};
         make_load(sizes);
         size_t scratch_need = labrador_scratch_need(job, job_length).words;
         size_t output_need = labrador_output_need(job, job_length).words;
@@ -627,6 +641,28 @@ static void test_cells_left(void) {
     }
 }
 
+/* kappa rows of A and L aggregated equations apart: proved and accepted, and an error in the last b'' is found. */
+static void test_apart(void) {
+    const uint32_t sizes[4][2] = {{1, 4}, {16, 4}, {3, 7}, {16, 32}};
+    for (int k = 0; k < 4; k++) {
+        const uint32_t kappa = sizes[k][0], rows = sizes[k][1];
+        make_load((labrador_parameters){2, 1, kappa, 1, 1, 1, 1, 32, 256, 4, 4, rows});
+        size_t scratch_need = labrador_scratch_need(job, job_length).words;
+        size_t output_need = labrador_output_need(job, job_length).words;
+        CHECK(scratch_need == 64 * ((rows + 2) * (2 + 1) + kappa + 2 + 64));
+        CHECK(output_need == 64 * (1 + rows + 1 + 2 + kappa + 1 + 1) + 256 + 8);
+        labrador_answer a = labrador_prove(job, job_length, randomness, randomness_length, witness, witness_length, scratch,
+                                           scratch_need, output, output_need);
+        CHECK(a.number == 0 && a.place == 0 && output[65 + 257] == 64 * rows && output[output_need] == MARK);
+        CHECK(is_verdict(verdict_on(output, output_need, scratch_need), 0, 0));
+        const size_t last = 65 + 257 + 1 + 64 * (rows - 1);
+        const uint32_t was = output[last];
+        output[last] = next(was);
+        labrador_verdict v = verdict_on(output, output_need, scratch_need);
+        CHECK(v.number == 22 && v.index == rows - 1 && v.second_lo == was);
+    }
+}
+
 /* Ranges for the job above: 256 numbers, vectors of 128. */
 enum { NUMBERS = 256 };
 static int64_t lows[NUMBERS + 64], highs[NUMBERS + 64];
@@ -636,9 +672,9 @@ static labrador_ranges_answer ranges(size_t lows_length, size_t highs_length) {
 }
 
 static void set_bound(uint64_t bound) {
-    job[18] = (uint32_t)bound;
-    job[19] = (uint32_t)(bound >> 32);
-    job[20] = 0;
+    job[19] = (uint32_t)bound;
+    job[20] = (uint32_t)(bound >> 32);
+    job[21] = 0;
 }
 
 static int is_range(labrador_range_norms v, uint32_t meets, uint64_t least, uint64_t greatest) {
@@ -693,9 +729,9 @@ static void test_ranges(void) {
     labrador_ranges_answer a = ranges(NUMBERS, NUMBERS);
     CHECK(a.number == 0 && a.vectors[1].meets == 2 && a.vectors[1].least_hi == 0 && a.vectors[1].least_lo == 0);
     CHECK(a.vectors[1].greatest_hi == 31 && a.vectors[1].greatest_lo == 18446743523953737856u);
-    job[3] = 3;
-    CHECK(is_refused_range(ranges(0, 0), 5, 3));
-    job[3] = 4;
+    job[12] = 3;
+    CHECK(is_refused_range(ranges(0, 0), 5, 12));
+    job[12] = 4;
 }
 
 /* Calls on ranges as document 02's model answers them (`harness range-sums` of oracle/ prints these rows): A's bound in three words, the answer's
@@ -750,10 +786,10 @@ static uint64_t sum_with(uint64_t sum, uint64_t x) {
 
 static void test_recorded_ranges(void) {
     for (uint32_t k = 0; k < 16; k++) {
-        const labrador_parameters sizes = {1 + k % 2, 1 + k % 3, 4, 1, 1, 1, 1, 32, 256, 4, 4};
+        const labrador_parameters sizes = {1 + k % 2, 1 + k % 3, 4, 1, 1, 1, 1, 32, 256, 4, 4, 4};
         size_t job_words = labrador_load_needs(sizes).job, lows_length, highs_length;
         labrador_load(sizes, k, job, JOB, witness, WITNESS, randomness, RANDOMNESS);
-        memcpy(job + 18, recorded_ranges[k].bound, sizeof recorded_ranges[k].bound);
+        memcpy(job + 19, recorded_ranges[k].bound, sizeof recorded_ranges[k].bound);
         make_ranges(k, 64 * sizes.n * sizes.r, &lows_length, &highs_length);
         labrador_ranges_answer a = labrador_ranges(job, job_words, many_lows, lows_length, many_highs, highs_length);
         uint64_t sum = sum_with(sum_with(14695981039346656037u, a.number), a.place);
@@ -782,6 +818,7 @@ int main(void) {
     test_calls();
     test_one_kind();
     test_cells_left();
+    test_apart();
     test_ranges();
     test_recorded_ranges();
     if (failures > 0) {

@@ -182,6 +182,7 @@ fn parameters(n: usize, r: usize) -> Parameters {
         b: 256,
         t1: 4,
         t2: 4,
+        aggregations: 4,
         beta_sq: LOOSE,
         beta_prime_sq: LOOSE,
         bounds: [LOOSE; 4],

@@ -7,14 +7,14 @@ use model::words::{split, Parameters};
 use model::Call;
 use std::hint::black_box;
 
-/// The eleven words of section one that a load takes.
-fn eleven(p: &Parameters) -> [u32; 11] {
-    p.words()[..11].try_into().expect("eleven words")
+/// The twelve words of section one that a load takes.
+fn twelve(p: &Parameters) -> [u32; 12] {
+    p.words()[..12].try_into().expect("twelve words")
 }
 
 /// A load of these parameters by the library, into buffers of just the lengths needed.
 fn made(p: &Parameters, seed: u32) -> [Vec<u32>; 3] {
-    let words = eleven(p);
+    let words = twelve(p);
     let (answer, lengths) = library::load::needs(words);
     assert!(answer.is_fine());
     let [mut job, mut witness, mut randomness] = lengths.map(|length| vec![0; length as usize]);
@@ -35,7 +35,7 @@ pub fn instance(p: Parameters, seed: u32) -> Instance {
 
 /// A load, against our own prove of it: the ratio is to stay below 1.
 pub fn against_prove(p: Parameters) -> Kernel {
-    let words = eleven(&p);
+    let words = twelve(&p);
     let [mut job, mut witness, mut randomness] = made(&p, 1);
     let (given, random, secret) = (job.clone(), randomness.clone(), witness.clone());
     let mut scratch = vec![0; p.scratch_need()];

@@ -37,15 +37,15 @@ module _ (J : List ℕ) (e : job-refusal J ≡ fine) where
   unfolding job-refusal
   job-sound =
       let ss = job-sections (parameters J) in
-      sound J (then-fine-left (section-one J) (layout 3 J 30 ss) (then-fine-left (section-one J then layout 3 J 30 ss) (ranged 6 J 30 ss) e))
+      sound J (then-fine-left (section-one J) (layout 3 J 31 ss) (then-fine-left (section-one J then layout 3 J 31 ss) (ranged 6 J 31 ss) e))
 
   -- and its sections
-  job-laid : Laid J 30 (job-sections (parameters J))
+  job-laid : Laid J 31 (job-sections (parameters J))
   unfolding job-refusal
   job-laid =
       let ss = job-sections (parameters J) in
-      let two = then-fine-left (section-one J then layout 3 J 30 ss) (ranged 6 J 30 ss) e in
-      laid 3 6 J 30 ss (job-sound .room) (then-fine-right (section-one J) (layout 3 J 30 ss) two) (then-fine-right (section-one J then layout 3 J 30 ss) (ranged 6 J 30 ss) e)
+      let two = then-fine-left (section-one J then layout 3 J 31 ss) (ranged 6 J 31 ss) e in
+      laid 3 6 J 31 ss (job-sound .room) (then-fine-right (section-one J) (layout 3 J 31 ss) two) (then-fine-right (section-one J then layout 3 J 31 ss) (ranged 6 J 31 ss) e)
 
 -- the parameters of a job that is refused nothing can be reckoned with
 pub job-sized : (J : List ℕ) (Q : Parameters) → fine ≡ job-refusal J → Q ≡ parameters J → Sized Q

@@ -45,7 +45,7 @@ At (A.Fit p) F = F p
 pub record Handed (handed : ℕ) (J R : List ℕ) (scratch : ℕ) (p : EnvironmentParameters) : Type 0 where
   pub same : parametersOf p ≡ parameters J
   pub sound : Sound J
-  pub job : Laid J 30 (job-sections (parameters J))
+  pub job : Laid J 31 (job-sections (parameters J))
   pub randomness : Laid R 0 (take handed (randomness-sections (parameters J)))
   pub scratch-fits : scratch-need (parameters J) ≤ scratch
 

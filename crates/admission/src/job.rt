@@ -17,9 +17,9 @@ ghost use Rattle.admission.specs.Admission.{ofChecked, ofAdmitted, At};
 // "other job sections 3, 6"
 fn sections(job: &[u32], p: EnvironmentParameters) -> Checked
     requires { ⌜ Sound (now job) × (parametersOf p ≡ parameters (now job)) ⌝ }
-    ensures { λ r. ⌜ ofChecked r ≡ layout 3 (now (job .entry)) 30 (job-sections (parametersOf p)) then ranged 6 (now (job .entry)) 30 (job-sections (parametersOf p)) ⌝ }
+    ensures { λ r. ⌜ ofChecked r ≡ layout 3 (now (job .entry)) 31 (job-sections (parametersOf p)) then ranged 6 (now (job .entry)) 31 (job-sections (parametersOf p)) ⌝ }
 {
-    match layout::slices::examine(job, 30, sizes::slices::job_sections(p)) {
+    match layout::slices::examine(job, 31, sizes::slices::job_sections(p)) {
         Examined::Layout(place) => Checked::Refused(Refusal::JobLayout(place)),
         Examined::Word(place) => Checked::Refused(Refusal::JobWord(place)),
         Examined::Fit => Checked::Fine,

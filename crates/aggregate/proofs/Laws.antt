@@ -53,7 +53,7 @@ mixed-is C at step count weights alpha beta S from pace number a b p q =
 
 -- where the words of the job's section m after the parameters start
 abbrev pub job-at : List ℕ → ℕ → ℕ
-job-at J m = 30 + start (job-sections (parameters J)) m
+job-at J m = 31 + start (job-sections (parameters J)) m
 
 -- where the words of the randomness's section m start, by the job's parameters
 abbrev pub randomness-at : List ℕ → ℕ → ℕ

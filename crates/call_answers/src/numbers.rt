@@ -17,7 +17,7 @@ pub fn number_of(refusal: Refusal) -> Numbered
         Refusal::OutputTooShort(place) => Numbered { number: 2, place },
         Refusal::JobLayout(place) => Numbered { number: 3, place },
         Refusal::ParameterOutOfLimits(place) => Numbered { number: 4, place },
-        Refusal::KappaIsNotL(place) => Numbered { number: 5, place },
+        Refusal::TooFewAggregations(place) => Numbered { number: 5, place },
         Refusal::JobWord(place) => Numbered { number: 6, place },
         Refusal::RandomnessLayout(place) => Numbered { number: 7, place },
         Refusal::RandomnessWord(place) => Numbered { number: 8, place },

@@ -54,7 +54,7 @@ module _ (J R : List ℕ) where
 
   -- the places of the job's sections
   abbrev at : ℕ → ℕ
-  at m = 30 + start (job-sections (parameters J)) m
+  at m = 31 + start (job-sections (parameters J)) m
 
   module _ (W : List ℕ) where
     -- t, as `commit_all` stores it

@@ -12,7 +12,7 @@ pub enum Refusal {
     OutputTooShort(usize),
     JobLayout(usize),
     ParameterOutOfLimits(usize),
-    KappaIsNotL(usize),
+    TooFewAggregations(usize),
     JobWord(usize),
     RandomnessLayout(usize),
     RandomnessWord(usize),

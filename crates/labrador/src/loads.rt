@@ -11,7 +11,7 @@ ghost use Rattle.load.specs.Exit.{job-exit, witness-exit, randomness-exit};
 ghost use Rattle.call_answers.specs.Calls.{labradorAnswer};
 ghost use Rattle.whole_calls.specs.LoadNeeds.{labradorLoadNeed};
 
-// Job, witness and randomness of eleven parameters and a seed, as they are drawn.
+// Job, witness and randomness of twelve parameters and a seed, as they are drawn.
 #[no_mangle]
 pub extern "C" fn labrador_load(
     parameters: LabradorParameters,

@@ -39,14 +39,14 @@ zeros-are-nil J at zeros =
 
 -- what is added to zeros is what stands there
 pub sums-from-zero : (P : Parameters) (J W : List ℕ) (t : Target) → Blank P J
-    → t .«b0_at» ≡ 30 + start (job-sections P) 2 → t .l ≡ P .l → t .«b_at» ≡ 30 + start (job-sections P) 5 → t .k ≡ P .K
-    → plus J t (left-of J (30 + start (job-sections P) 0) (30 + start (job-sections P) 1) W 1 (P .r) (P .n)) (left-of J (30 + start (job-sections P) 3) (30 + start (job-sections P) 4) W 1 (P .r) (P .n)) ≡ sums-of P J W
+    → t .«b0_at» ≡ 31 + start (job-sections P) 2 → t .l ≡ P .l → t .«b_at» ≡ 31 + start (job-sections P) 5 → t .k ≡ P .K
+    → plus J t (left-of J (31 + start (job-sections P) 0) (31 + start (job-sections P) 1) W 1 (P .r) (P .n)) (left-of J (31 + start (job-sections P) 3) (31 + start (job-sections P) 4) W 1 (P .r) (P .n)) ≡ sums-of P J W
 unfolding plus sums-of start
 sums-from-zero P J W t zeros e₀ el e ek =
-    let F : ℕ → Element = left-of J (30 + start (job-sections P) 0) (30 + start (job-sections P) 1) W 1 (P .r) (P .n) in
-    let G : ℕ → Element = left-of J (30 + start (job-sections P) 3) (30 + start (job-sections P) 4) W 1 (P .r) (P .n) in
-    let b₀ = 30 + start (job-sections P) 2 in
-    let b = 30 + start (job-sections P) 5 in
+    let F : ℕ → Element = left-of J (31 + start (job-sections P) 0) (31 + start (job-sections P) 1) W 1 (P .r) (P .n) in
+    let G : ℕ → Element = left-of J (31 + start (job-sections P) 3) (31 + start (job-sections P) 4) W 1 (P .r) (P .n) in
+    let b₀ = 31 + start (job-sections P) 2 in
+    let b = 31 + start (job-sections P) 5 in
     ap₂ (λ x n. splice (splice J x (table n (λ y. zadd (getD J (x + y) 0) (coeff (words (F y)) 0)))) (t .«b_at») (flat (table (t .k) (λ k. element-at J (t .«b_at») k ⊕ G k)))) e₀ el
     ∙ ap₂ (λ x n. splice (splice J b₀ (table (P .l) (λ y. zadd (getD J (b₀ + y) 0) (coeff (words (F y)) 0)))) x (flat (table n (λ k. element-at J x k ⊕ G k)))) e ek
     ∙ ap₂ (λ u v. splice (splice J b₀ u) b (flat v))
@@ -77,9 +77,9 @@ module _ (G : Given) (seed : ℕ) (fits : seed < 2 ^ 32) (job wit : List ℕ) (r
   unfolding blank-job drawn start span
   is-blank = record {
     room = omega (arith, length-splice job 0 (blank-job G seed), room);
-    b₀ = λ x h. getD-front job (blank-job G seed) (omega (arith, blank-length, room)) (30 + start (job-sections (load-parameters G)) 2 + x) (omega (arith, section-within bare 3 (omega arith)))
+    b₀ = λ x h. getD-front job (blank-job G seed) (omega (arith, blank-length, room)) (31 + start (job-sections (load-parameters G)) 2 + x) (omega (arith, section-within bare 3 (omega arith)))
         ∙ section-word bare 3 x (omega (arith, length-replicate {A = ℕ} (G .l) 0)) ∙ getD-zeros (G .l) x;
-    b = λ x h. getD-front job (blank-job G seed) (omega (arith, blank-length, room)) (30 + start (job-sections (load-parameters G)) 5 + x) (omega (arith, section-within bare 6 (omega arith)))
+    b = λ x h. getD-front job (blank-job G seed) (omega (arith, blank-length, room)) (31 + start (job-sections (load-parameters G)) 5 + x) (omega (arith, section-within bare 6 (omega arith)))
         ∙ section-word bare 6 x (omega (arith, length-replicate {A = ℕ} (64 * G .K) 0)) ∙ getD-zeros (64 * G .K) x;
   }
 
@@ -114,24 +114,24 @@ module _ (G : Given) (seed : ℕ) (fits : seed < 2 ^ 32) (job wit : List ℕ) (r
   unfolding b₀-words start blank-job sections
   b₀-same = table-ext (G .l) _ _ (λ x h. ap (λ e. coeff (words e) 0) (left-same 1 2 (G .l) x (omega arith) (omega arith) refl refl h))
 
-  b-same : flat (table (G .K) (λ k. left (load-parameters G) (λ i j. element-at (splice job 0 (blank-job G seed)) (30 + start (job-sections (load-parameters G)) 3) (k * T (load-parameters G) + cell i j)) (λ i m. element-at (splice job 0 (blank-job G seed)) (30 + start (job-sections (load-parameters G)) 4) ((k * G .r + i) * G .n + m)) (witness (load-parameters G) (splice wit 0 (load-witness G seed))))) ≡ b-words G seed
+  b-same : flat (table (G .K) (λ k. left (load-parameters G) (λ i j. element-at (splice job 0 (blank-job G seed)) (31 + start (job-sections (load-parameters G)) 3) (k * T (load-parameters G) + cell i j)) (λ i m. element-at (splice job 0 (blank-job G seed)) (31 + start (job-sections (load-parameters G)) 4) ((k * G .r + i) * G .n + m)) (witness (load-parameters G) (splice wit 0 (load-witness G seed))))) ≡ b-words G seed
   unfolding b-words start blank-job sections
   b-same = ap flat (table-ext (G .K) _ _ (λ k h. left-same 4 5 (G .K) k (omega arith) (omega arith) refl refl h))
 
   -- b0 and b stand within the job
-  within₀ : 30 + start (job-sections (load-parameters G)) 2 + G .l ≤ length (blank-job G seed)
+  within₀ : 31 + start (job-sections (load-parameters G)) 2 + G .l ≤ length (blank-job G seed)
   unfolding start blank-job
   within₀ = section-within bare 3 (omega arith)
 
-  within : 30 + start (job-sections (load-parameters G)) 5 + 64 * G .K ≤ length (blank-job G seed)
+  within : 31 + start (job-sections (load-parameters G)) 5 + 64 * G .K ≤ length (blank-job G seed)
   unfolding start blank-job
   within = section-within bare 6 (omega arith)
 
   -- both put into the drawn sections
-  replaced : splice (splice (blank-job G seed) (30 + start (job-sections (load-parameters G)) 2) (b₀-words G seed)) (30 + start (job-sections (load-parameters G)) 5) (b-words G seed) ≡ load-job G seed
+  replaced : splice (splice (blank-job G seed) (31 + start (job-sections (load-parameters G)) 2) (b₀-words G seed)) (31 + start (job-sections (load-parameters G)) 5) (b-words G seed) ≡ load-job G seed
   unfolding start blank-job load-job
   replaced =
-      ap (λ l. splice l (30 + start (job-sections (load-parameters G)) 5) (b-words G seed)) (section-replaced bare 3 (b₀-words G seed) (omega arith) (length-b₀ G seed fits))
+      ap (λ l. splice l (31 + start (job-sections (load-parameters G)) 5) (b-words G seed)) (section-replaced bare 3 (b₀-words G seed) (omega arith) (length-b₀ G seed fits))
       ∙ section-replaced (whole-filled G (set (job-drawn G seed) 2 (b₀-words G seed)) (job-half-filled G seed fits)) 6 (b-words G seed) (omega arith) (length-b G seed fits)
 
   -- the job with its sums, in the buffer
@@ -140,8 +140,8 @@ module _ (G : Given) (seed : ℕ) (fits : seed < 2 ^ 32) (job wit : List ℕ) (r
   finished =
       let P = load-parameters G in
       let short : length (blank-job G seed) ≤ length job = omega (arith, blank-length, room) in
-      ap₂ (λ u v. splice (splice (splice job 0 (blank-job G seed)) (30 + start (job-sections P) 2) u) (30 + start (job-sections P) 5) v) b₀-same b-same
-      ∙ ap (λ l. splice l (30 + start (job-sections P) 5) (b-words G seed)) (splice-inside job (blank-job G seed) short (30 + start (job-sections P) 2) (b₀-words G seed) (omega (arith, within₀, length-b₀ G seed fits)))
-      ∙ splice-inside job (splice (blank-job G seed) (30 + start (job-sections P) 2) (b₀-words G seed)) (omega (arith, length-splice (blank-job G seed) (30 + start (job-sections P) 2) (b₀-words G seed)))
-      (30 + start (job-sections P) 5) (b-words G seed) (omega (arith, within, length-b G seed fits, length-splice (blank-job G seed) (30 + start (job-sections P) 2) (b₀-words G seed)))
+      ap₂ (λ u v. splice (splice (splice job 0 (blank-job G seed)) (31 + start (job-sections P) 2) u) (31 + start (job-sections P) 5) v) b₀-same b-same
+      ∙ ap (λ l. splice l (31 + start (job-sections P) 5) (b-words G seed)) (splice-inside job (blank-job G seed) short (31 + start (job-sections P) 2) (b₀-words G seed) (omega (arith, within₀, length-b₀ G seed fits)))
+      ∙ splice-inside job (splice (blank-job G seed) (31 + start (job-sections P) 2) (b₀-words G seed)) (omega (arith, length-splice (blank-job G seed) (31 + start (job-sections P) 2) (b₀-words G seed)))
+      (31 + start (job-sections P) 5) (b-words G seed) (omega (arith, within, length-b G seed fits, length-splice (blank-job G seed) (31 + start (job-sections P) 2) (b₀-words G seed)))
       ∙ ap (splice job 0) replaced

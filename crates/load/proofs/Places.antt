@@ -29,14 +29,14 @@ triangular-small r h = omega (arith, mul-le-mul {n₁ = r} {m₁ = r + 1} {n₂ 
 
 -- the target of the sums in a job
 pub record Aims (P : Parameters) (t : Target) : Type 0 where
-  pub b₀ : t .«b0_at» ≡ 30 + start (job-sections P) 2
+  pub b₀ : t .«b0_at» ≡ 31 + start (job-sections P) 2
   pub l : t .l ≡ P .l
-  pub b : t .«b_at» ≡ 30 + start (job-sections P) 5
+  pub b : t .«b_at» ≡ 31 + start (job-sections P) 5
   pub k : t .k ≡ P .K
 
 module _ (P : Parameters) (J : List ℕ) (t : Target) (sized : Sized P) (blank : Blank P J) (aims : Aims P t) where
   -- triangles and vectors stand before the sums
-  pub placed-triangles : (a₀ a : ℕ) → a₀ ≡ 30 + start (job-sections P) 0 → a ≡ 30 + start (job-sections P) 3 → Placed J t a₀ a (triangular (P .r))
+  pub placed-triangles : (a₀ a : ℕ) → a₀ ≡ 31 + start (job-sections P) 0 → a ≡ 31 + start (job-sections P) 3 → Placed J t a₀ a (triangular (P .r))
   unfolding start span
   placed-triangles a₀ a e₀ e =
       let w = sized .within in
@@ -55,7 +55,7 @@ module _ (P : Parameters) (J : List ℕ) (t : Target) (sized : Sized P) (blank :
         few = omega arith;
       }
 
-  pub placed-vectors : (φ₀ φ : ℕ) → φ₀ ≡ 30 + start (job-sections P) 1 → φ ≡ 30 + start (job-sections P) 4 → Placed J t φ₀ φ (P .r * P .n)
+  pub placed-vectors : (φ₀ φ : ℕ) → φ₀ ≡ 31 + start (job-sections P) 1 → φ ≡ 31 + start (job-sections P) 4 → Placed J t φ₀ φ (P .r * P .n)
   unfolding start span
   placed-vectors φ₀ φ e₀ e =
       let w = sized .within in
@@ -90,13 +90,13 @@ table-drawn t rules rs e x l now at r h =
 
 -- section one copied, then the sections drawn: the job without b0 and b
 pub job-drawn-in : (G : Given) (P : Parameters) (seed : ℕ) (one job first now : List ℕ) (r : ℕ) → P ≡ load-parameters G → one ≡ one-of G
-    → first ≡ splice job 0 (part one 0 30)
-    → (now ≡ splice first 30 (sections (drawn seed job-rules (job-sections P)))) × (r ≡ after seed job-rules (job-sections P))
+    → first ≡ splice job 0 (part one 0 31)
+    → (now ≡ splice first 31 (sections (drawn seed job-rules (job-sections P)))) × (r ≡ after seed job-rules (job-sections P))
     → (now ≡ splice job 0 (blank-job G seed)) × (r ≡ after-job G seed)
 unfolding blank-job sections
 job-drawn-in G P seed one job first now r same e copied h = (
   h .0
-      ∙ ap₂ (λ f Q. splice f 30 (sections (drawn seed job-rules (job-sections Q)))) (copied ∙ ap (λ o. splice job 0 (part o 0 30)) e) same
+      ∙ ap₂ (λ f Q. splice f 31 (sections (drawn seed job-rules (job-sections Q)))) (copied ∙ ap (λ o. splice job 0 (part o 0 31)) e) same
       ∙ splice-append job 0 (one-of G) (sections (drawn seed job-rules (job-sections (load-parameters G)))),
   h .1 ∙ ap (λ Q. after seed job-rules (job-sections Q)) same,
 )

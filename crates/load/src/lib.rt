@@ -1,4 +1,4 @@
-// A test load: job, witness and randomness from eleven parameters and a seed (document 02, Item 1).
+// A test load: job, witness and randomness from twelve parameters and a seed (document 02, Items 1 and 6).
 use admission::answers::Admitted;
 use definitions::answers::Proved;
 use load_draw::Rule;
@@ -27,7 +27,7 @@ fn draw_job(g: LabradorParameters, p: EnvironmentParameters, seed: u32, job: &mu
     ensures { λ r. ⌜ (now (job .exit) ≡ splice (now (job .entry)) 0 (blank-job (given g) seed)) × (r ≡ after-job (given g) seed) ⌝ }
 {
     let one = load_needs::section_one_words(g);
-    words::copy(job, 0, &one, 0, 30);
+    words::copy(job, 0, &one, 0, 31);
     let rules = [
         Rule::Word,
         Rule::Word,
@@ -40,7 +40,7 @@ fn draw_job(g: LabradorParameters, p: EnvironmentParameters, seed: u32, job: &mu
         Rule::Word,
         Rule::Word,
     ];
-    load_draw::sections(job, 30, slices::job_sections(p), rules, seed)
+    load_draw::sections(job, 31, slices::job_sections(p), rules, seed)
 }
 
 fn draw_witness(p: EnvironmentParameters, state: u32, witness: &mut [u32]) -> u32
@@ -106,7 +106,7 @@ fn work(
     work_out(p, job, witness);
 }
 
-// "From eleven parameters and a seed word a call fills a job, a witness and randomness."
+// "From eleven parameters", with L the twelfth, "and a seed word a call fills a job, a witness and randomness."
 pub fn load(
     g: LabradorParameters,
     seed: u32,

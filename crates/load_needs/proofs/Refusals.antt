@@ -7,7 +7,7 @@ use native.Mathlib.Omega.{arith}
 use lib.ListN.{length}
 use Rattle.definitions.specs.Answer.{Answer, fine, accepted, refused, failed, _then_}
 use Rattle.protocol.specs.Checks.{require}
-use Rattle.protocol.specs.Parameters.{Parameters, parameters, limits, kappa-is-L}
+use Rattle.protocol.specs.Parameters.{Parameters, parameters, limits, enough-aggregations}
 use Rattle.protocol.specs.Layout.{Section, span, counted, first-section, job-sections, witness-sections, randomness-sections, output-refusal}
 use Rattle.protocol.specs.Load.{Given, load-parameters, needs-refusal, load-refusal, job-need, witness-need, randomness-need}
 use Rattle.protocol.proofs.Fine.{require-holds, require-fails, required, refused-not-fine, then-fine-left, then-fine-right}

@@ -1,4 +1,4 @@
--- What the record of eleven parameters stands for, and the lengths that a load needs.
+-- What the record of twelve parameters stands for, and the lengths that a load needs.
 use mathlib.Core.Path.{_≡_}
 use mathlib.Core.List.{List, _∷_, _++_}
 use Prim.Native.Nat.{ℕ}
@@ -12,7 +12,7 @@ use Rattle.sizes.specs.Sizes.{Sized}
 use Rattle.load_needs.specs.declared.LabradorParameters.{LabradorParameters}
 use Rattle.load_needs.specs.declared.Needs.{Needs}
 
--- the eleven parameters
+-- the twelve parameters
 abbrev pub given : LabradorParameters → Given
 given g = record {
   n = g .n;
@@ -26,11 +26,12 @@ given g = record {
   b = g .b;
   t₁ = g .«t_1»;
   t₂ = g .«t_2»;
+  L = g .«const_agg_length»;
 }
 
 -- section one with its count
 abbrev pub one-of : Given → List ℕ
-one-of G = 29 ∷ section-one G
+one-of G = 30 ∷ section-one G
 
 -- the lengths needed
 pub record Lengths (P : Parameters) (needs : Needs) : Type 0 where

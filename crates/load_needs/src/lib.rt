@@ -16,7 +16,7 @@ ghost use Rattle.sizes.specs.Sizes.{Sized};
 ghost use Rattle.admission.specs.Admission.{ofAdmitted, At};
 ghost use Rattle.load_needs.specs.Given.{given, one-of, Lengths, fits-refusal, Ready, Kept};
 
-// "From eleven parameters": in section one's order.
+// "From eleven parameters", with L the twelfth: in section one's order.
 #[repr(C)]
 pub struct LabradorParameters {
     pub n: u32,
@@ -30,6 +30,7 @@ pub struct LabradorParameters {
     pub b: u32,
     pub t_1: u32,
     pub t_2: u32,
+    pub const_agg_length: u32,
 }
 
 // The lengths needed.
@@ -40,12 +41,12 @@ pub struct Needs {
 }
 
 // Section one with its count; "The six bounds are the largest three-word number."
-pub fn section_one_words(g: LabradorParameters) -> [u32; 30]
+pub fn section_one_words(g: LabradorParameters) -> [u32; 31]
     ensures { λ r. ⌜ r ≡ one-of (given g) ⌝ }
 {
     let q = 4294967295;
     [
-        29,
+        30,
         g.n,
         g.r,
         g.kappa,
@@ -57,6 +58,7 @@ pub fn section_one_words(g: LabradorParameters) -> [u32; 30]
         g.b,
         g.t_1,
         g.t_2,
+        g.const_agg_length,
         q,
         q,
         q,
@@ -91,7 +93,7 @@ pub fn lengths(p: EnvironmentParameters) -> Needs
     ensures { λ r. ⌜ Lengths (parametersOf p) r ⌝ }
 {
     Needs {
-        job: 30 + sections::span(slices::job_sections(p), 0, 10),
+        job: 31 + sections::span(slices::job_sections(p), 0, 10),
         witness: sections::span(slices::witness_sections(p), 0, 1),
         randomness: sections::span(slices::randomness_sections(p, 7), 0, 7),
     }

@@ -2,27 +2,19 @@
 use mathlib.Core.Path.{_≡_, refl, ap, _∙_}
 use mathlib.Core.List.{List, _++_}
 use Prim.Native.Nat.{ℕ, _≤_}
-use native.Mathlib.Decide.{decLe, ℕ-discrete}
+use native.Mathlib.Decide.{decLe}
 use lib.ListN.{length, take, drop}
 use lib.Seq.{take-at}
 use Rattle.definitions.specs.Answer.{fine, refused, result}
 use Rattle.definitions.specs.Rq.{Element}
-use Rattle.protocol.specs.Parameters.{parameters, limits, kappa-is-L}
-use Rattle.protocol.specs.Layout.{span, sections, counted, layout, ranged, first-section, job-sections, job-refusal, randomness-refusal, witness-refusal, transcript-refusal, scratch-refusal, output-refusal, scratch-need}
+use Rattle.protocol.specs.Parameters.{parameters}
+use Rattle.protocol.specs.Layout.{span, sections, job-refusal, randomness-refusal, witness-refusal, transcript-refusal, scratch-refusal, output-refusal, scratch-need}
 use Rattle.protocol.specs.Views.{Public, public, witness}
 use Rattle.protocol.specs.Formulas as F
 use Rattle.protocol.specs.Prover.{Call, whole, made-sections, prove-refusal, witness-norm, t-norm, g-norm, h-norm, work-refusal, transcript, made, zeroed, prove, prove-output}
 use Rattle.protocol.proofs.Fine.{required, refused-not-fine, then-both-fine, then-fine-left, then-fine-right, then-fine-each}
 use Rattle.protocol.proofs.Sections.{Filled, filled-take, filled-drop, length-sections, layout-fine, ranged-fine}
 use Rattle.protocol.proofs.ReadBack.{transcript-filled}
-
--- a fine job has κ = L
-pub job-kappa : (J : List ℕ) → job-refusal J ≡ fine → parameters J .κ ≡ parameters J .L
-unfolding job-refusal kappa-is-L
-job-kappa J e =
-    let P = parameters J in
-    required (ℕ-discrete (P .κ) (P .L)) (refused 5 3) (refused-not-fine 5 3)
-    (then-fine-each (counted 3 J 0 first-section) (limits P) (kappa-is-L P) (layout 3 J 30 (job-sections P)) (ranged 6 J 30 (job-sections P)) e .2)
 
 -- what each part of the prover's refusals says where none is raised before the work
 pub record Admitted (call : Call) (J R W : List ℕ) (scratch output : ℕ) : Type 0 where

@@ -9,7 +9,7 @@ use Rattle.protocol.specs.Formulas as F
 pub record Agrees (X : Public) (s : ℕ → ℕ → Element) (M : Message) : Type 0 where
   pub u₁ : (k : ℕ) → k < X .P .κ₁ → M .u₁ k ≡ F.u₁ X s k
   pub p : (j : ℕ) → j < 256 → M .p j ≡ F.p X s j
-  pub b″ : (k : ℕ) → k < X .P .κ → M .b″ k ≡ F.b″ X s k
+  pub b″ : (k : ℕ) → k < X .P .L → M .b″ k ≡ F.b″ X s k
   pub u₂ : (k : ℕ) → k < X .P .κ₂ → M .u₂ k ≡ F.u₂ X s k
   pub z : (m : ℕ) → m < X .P .n → M .z m ≡ F.z X s m
   pub t : (i k : ℕ) → i < X .P .r → k < X .P .κ → M .t i k ≡ F.t X s i k

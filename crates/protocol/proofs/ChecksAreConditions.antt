@@ -84,7 +84,7 @@ module _ (X : Public) (s : ℕ → ℕ → Element) (M : Message) (agrees : Agre
       (norm-table 256 (M .p) ∙ Σ-ext 256 (λ j. square (M .p j)) (λ j. square (F.p X s j)) (λ j h. ap square (agrees .p j h)))
 
   -- the first value of check 22
-  same-sent : (k : ℕ) → k < κ → coeff (words (M .b″ k)) 0 ≡ sent X s k
+  same-sent : (k : ℕ) → k < L → coeff (words (M .b″ k)) 0 ≡ sent X s k
   unfolding sent
   same-sent k h = ap (λ e. coeff (words e) 0) (agrees .b″ k h)
 
@@ -94,16 +94,15 @@ module _ (X : Public) (s : ℕ → ℕ → Element) (M : Message) (agrees : Agre
   same-computed k = ap (λ x. (Σ l (λ x. psi k x * b₀ x) + x) % Q) (Σ-ext 256 (λ j. omega k j * M .p j) (λ j. omega k j * F.p X s j) (λ j h. ap (_*_ (omega k j)) (agrees .p j h)))
 
   -- check 22 is the condition on the psi rows
-  pub check-22-is : κ ≡ L → check-22 X M ≡ first L (λ k. require (ℕ-discrete (psi-error X s k) 0) (failed 22 (k ∷ sent X s k ∷ computed X s k ∷ [])))
+  pub check-22-is : check-22 X M ≡ first L (λ k. require (ℕ-discrete (psi-error X s k) 0) (failed 22 (k ∷ sent X s k ∷ computed X s k ∷ [])))
   unfolding check-22
-  check-22-is e = first-ext κ _ _ (λ k h.
+  check-22-is = first-ext L _ _ (λ k h.
       let first-value = same-sent k h in
       let second-value = same-computed k in
       require-iff (ℕ-discrete _ _) (ℕ-discrete (psi-error X s k) 0) _ (failed 22 (k ∷ sent X s k ∷ computed X s k ∷ []))
       (λ q. psi-row-met X s k .0 (sym first-value ∙ q ∙ second-value))
       (λ q. first-value ∙ psi-row-met X s k .1 q ∙ sym second-value)
       (ap₂ (λ x y. failed 22 (k ∷ x ∷ y ∷ [])) first-value second-value))
-      ∙ ap (λ m. first m (λ k. require (ℕ-discrete (psi-error X s k) 0) (failed 22 (k ∷ sent X s k ∷ computed X s k ∷ [])))) e
 
   -- the two parts of each element of z
   same-z : flatMap (z-parts X M) (table n (M .z)) ≡ flatMap (z-parts X M) (table n (F.z X s))
@@ -120,10 +119,10 @@ module _ (X : Public) (s : ℕ → ℕ → Element) (M : Message) (agrees : Agre
       (ap norm-of same-h ∙ digits-of-triangle (P .b) (P .t₁) r (F.h X s)))
 
   -- check 27 is the condition on the ring constraints
-  pub check-27-is : κ ≡ L → check-27 X M ≡ require (List-discrete ℕ-discrete (words (alpha-error X s)) rzero) (failed 27 [])
+  pub check-27-is : check-27 X M ≡ require (List-discrete ℕ-discrete (words (alpha-error X s)) rzero) (failed 27 [])
   unfolding check-27
-  check-27-is e =
-      let met = aggregated-relation X s M agrees e in
+  check-27-is =
+      let met = aggregated-relation X s M agrees in
       require-iff (same (twice (pairs r (λ i j. a-sum X i j ⊗ M .g i j)) ⊕ sum r (λ i. M .h i i)) (twice (b-sum X (M .b″)))) (List-discrete ℕ-discrete (words (alpha-error X s)) rzero)
       (failed 27 []) (failed 27 []) (met .0) (met .1) refl
 
@@ -156,20 +155,19 @@ module _ (X : Public) (s : ℕ → ℕ → Element) (M : Message) (agrees : Agre
 -- the checks of a message that agrees with the formulas are the conditions on job, randomness and witness
 pub checks-are-conditions : (X : Public) (s : ℕ → ℕ → Element) (M : Message)
     → Agrees X s M
-    → X .P .κ ≡ X .P .L
     → t-norm X (F.t X s) ≡ fine
     → g-norm X (F.g X s) ≡ fine
     → h-norm X (F.h X s) ≡ fine
     → checks X M ≡ conditions X s
 unfolding checks conditions
-checks-are-conditions X s M agrees e t-fine g-fine h-fine = (λ i.
+checks-are-conditions X s M agrees t-fine g-fine h-fine = (λ i.
     check-21-is X s M agrees i
-    then check-22-is X s M agrees e i
+    then check-22-is X s M agrees i
     then check-23-is X s M agrees i
     then check-24-fine X s M agrees i
     then check-25-fine X s M agrees i
     then check-26-fine X s M agrees i
-    then check-27-is X s M agrees e i
+    then check-27-is X s M agrees i
     then (t-norm-is X s M agrees ∙ t-fine) i
     then (g-norm-is X s M agrees ∙ g-fine) i
     then check-28-fine X s M agrees i

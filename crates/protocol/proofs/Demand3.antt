@@ -14,7 +14,7 @@ use Rattle.protocol.specs.Conditions.{conditions}
 use Rattle.protocol.proofs.Fine.{require-holds, then-both-fine}
 use Rattle.protocol.proofs.ChecksAreConditions.{checks-are-conditions}
 use Rattle.protocol.proofs.ReadBack.{read-back}
-use Rattle.protocol.proofs.Accepted.{job-kappa, admitted, short, before-work, in-work, output-made, made-whole, transcript-fine}
+use Rattle.protocol.proofs.Accepted.{admitted, short, before-work, in-work, output-made, made-whole, transcript-fine}
 
 -- "Demand 3's transcript is the prover's output to the length needed, handed to the verifier word for word."
 pub demand-3 : (J R W scratch output : List ℕ) (lent : ℕ)
@@ -32,4 +32,4 @@ demand-3 J R W scratch output lent proved enough =
     ap (λ T. verify J R T lent) (output-made whole J R W scratch output proved ∙ made-whole X s)
     ∙ ap (λ a. a then checks X (message P words))
     (then-both-fine (then-both-fine (then-both-fine (call .job) (call .randomness)) (transcript-fine X s)) (require-holds (decLe (scratch-need P) lent) (refused 1 (scratch-need P)) enough))
-    ∙ checks-are-conditions X s (message P words) (read-back X s) (job-kappa J (call .job)) (norms .of-t) (norms .of-g) (norms .of-h)
+    ∙ checks-are-conditions X s (message P words) (read-back X s) (norms .of-t) (norms .of-g) (norms .of-h)

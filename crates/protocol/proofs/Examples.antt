@@ -7,7 +7,7 @@ use lib.ListN.{take, set, replicate}
 use Rattle.definitions.specs.Zq.{Q}
 use Rattle.definitions.specs.Answer.{Answer, fine, refused, below}
 use Rattle.definitions.proofs.Table.{Row, _is_, Holds}
-use Rattle.protocol.specs.Parameters.{parameters, limits, kappa-is-L}
+use Rattle.protocol.specs.Parameters.{parameters, limits, enough-aggregations}
 use Rattle.protocol.specs.Layout.{span, sections, counted, layout, ranged, job-refusal, randomness-refusal, witness-refusal, transcript-refusal}
 use Rattle.protocol.specs.Prover.{round₁, prove-refusal}
 
@@ -15,9 +15,9 @@ use Rattle.protocol.specs.Prover.{round₁, prove-refusal}
 abbrev pub zeros : ℕ → List ℕ
 zeros n = replicate n 0
 
--- section one with n = r = κ₁ = κ₂ = K = l = t₁ = t₂ = 1, κ = 4, log_q = 32, b = 2, and the greatest word in every bound
+-- section one with n = r = κ₁ = κ₂ = K = l = t₁ = t₂ = 1, κ = L = 4, log_q = 32, b = 2, and the greatest word in every bound
 abbrev pub section-one : List ℕ
-section-one = 29 ∷ 1 ∷ 1 ∷ 4 ∷ 1 ∷ 1 ∷ 1 ∷ 1 ∷ 32 ∷ 2 ∷ 1 ∷ 1 ∷ replicate 18 4294967295
+section-one = 30 ∷ 1 ∷ 1 ∷ 4 ∷ 1 ∷ 1 ∷ 1 ∷ 1 ∷ 32 ∷ 2 ∷ 1 ∷ 1 ∷ 4 ∷ replicate 18 4294967295
 
 -- the job of these parameters whose other sections are zero
 abbrev pub job : List ℕ
@@ -61,25 +61,28 @@ first-round = prove-refusal round₁ job
 -- slices and what they are refused for
 abbrev pub examples : List Row
 examples =
-    -- an empty job; a wrong count; a job that ends within section one
-    ((job-refusal [] ∷ job-refusal (28 ∷ zeros 29) ∷ job-refusal (take 12 job) ∷ [])
+    -- an empty job; a count of 29; a job that ends within section one
+    ((job-refusal [] ∷ job-refusal (29 ∷ zeros 29) ∷ job-refusal (take 12 job) ∷ [])
     is (refused 3 0 ∷ refused 3 0 ∷ refused 3 12 ∷ []))
     -- section one alone with n = 65, and with n = 64
-    ∷ ((section-one-with 1 65 ∷ section-one-with 1 64 ∷ []) is (refused 4 1 ∷ refused 3 30 ∷ []))
+    ∷ ((section-one-with 1 65 ∷ section-one-with 1 64 ∷ []) is (refused 4 1 ∷ refused 3 31 ∷ []))
     -- κ₂ = 17 and K = 65: the first is named
     ∷ (job-refusal (set (set section-one 5 17) 6 65) is refused 4 5)
     -- K = 0 and l = 0: both, both with log_q = 15, and both with K = 65 in place of 0
     ∷ ((job-refusal (set (set section-one 6 0) 7 0) ∷ job-refusal (set (set (set section-one 6 0) 7 0) 8 15) ∷ job-refusal (set (set section-one 6 65) 7 0) ∷ [])
     is (refused 4 7 ∷ refused 4 7 ∷ refused 4 6 ∷ []))
     -- whole jobs of one kind only; one with a word in an empty section
-    ∷ ((job-refusal rings-only ∷ job-refusal constants-only ∷ job-refusal (set rings-only 30 1) ∷ []) is (fine ∷ fine ∷ refused 3 30 ∷ []))
-    -- log_q = 15, 33, and 31, at which L is 5 and κ is not
-    ∷ ((section-one-with 8 15 ∷ section-one-with 8 33 ∷ section-one-with 8 31 ∷ []) is (refused 4 8 ∷ refused 4 8 ∷ refused 5 3 ∷ []))
+    ∷ ((job-refusal rings-only ∷ job-refusal constants-only ∷ job-refusal (set rings-only 31 1) ∷ []) is (fine ∷ fine ∷ refused 3 31 ∷ []))
+    -- log_q = 15, 33, and 31, at which L is at least 5
+    ∷ ((section-one-with 8 15 ∷ section-one-with 8 33 ∷ section-one-with 8 31 ∷ []) is (refused 4 8 ∷ refused 4 8 ∷ refused 5 12 ∷ []))
+    -- L = 0, 33, 3, which is below 128/32, and 32; L = 3 with t₂ = 33, which is named first; κ = 16, which need not be L
+    ∷ ((section-one-with 12 0 ∷ section-one-with 12 33 ∷ section-one-with 12 3 ∷ section-one-with 12 32 ∷ job-refusal (set (set section-one 12 3) 11 33) ∷ section-one-with 3 16 ∷ [])
+    is (refused 4 12 ∷ refused 4 12 ∷ refused 5 12 ∷ refused 3 31 ∷ refused 4 11 ∷ refused 3 31 ∷ []))
     -- b = 1, b = 4294967295
     ∷ ((section-one-with 9 1 ∷ section-one-with 9 4294967295 ∷ []) is (refused 4 9 ∷ refused 4 9 ∷ []))
     -- a whole job; one that ends early; one with a surplus word; one with a word Q
     ∷ ((job-refusal job ∷ job-refusal (take 500 job) ∷ job-refusal (job ++ (0 ∷ [])) ∷ job-refusal (set job 1000 Q) ∷ [])
-    is (fine ∷ refused 3 500 ∷ refused 3 1001 ∷ refused 6 1000 ∷ []))
+    is (fine ∷ refused 3 500 ∷ refused 3 1002 ∷ refused 6 1000 ∷ []))
     -- seven sections of randomness, shuffle words of 4294967295 among them; with a psi word Q; with a sign word 2; where five sections are due
     ∷ ((randomness-of 7 randomness ∷ randomness-of 7 (set randomness 2 Q) ∷ randomness-of 7 (set randomness 1354 2) ∷ randomness-of 5 randomness ∷ [])
     is (fine ∷ refused 8 2 ∷ refused 8 1354 ∷ refused 7 1353 ∷ []))
@@ -100,5 +103,5 @@ examples =
 
 -- each row of the table holds
 pub examples-hold : Holds examples
-unfolding job-refusal randomness-refusal witness-refusal transcript-refusal prove-refusal counted limits kappa-is-L layout ranged span sections below decLe ℕ-discrete
-examples-hold = (refl, (refl, (refl, (refl, (refl, (refl, (refl, (refl, (refl, (refl, (refl, (refl, (refl, (refl, (refl, tt)))))))))))))))
+unfolding job-refusal randomness-refusal witness-refusal transcript-refusal prove-refusal counted limits enough-aggregations layout ranged span sections below decLe ℕ-discrete
+examples-hold = (refl, (refl, (refl, (refl, (refl, (refl, (refl, (refl, (refl, (refl, (refl, (refl, (refl, (refl, (refl, (refl, tt))))))))))))))))

@@ -52,20 +52,20 @@ module _ (J R R′ : List ℕ) (s : ℕ → ℕ → Element) where
       (λ i hi. table-ext (i + 1) (F.h (public J R) s i) (F.h (public J R′) s i) (λ j hj. h-alike J R R′ N alike s within i j hi (omega arith)))
 
   -- what a round makes depends on no more randomness than it is handed
-  pub made-alike : (ρ : Round) → κ ≡ L → handed-to (call ρ) J R ≡ handed-to (call ρ) J R′ → made (public J R) (call ρ) s ≡ made (public J R′) (call ρ) s
+  pub made-alike : (ρ : Round) → handed-to (call ρ) J R ≡ handed-to (call ρ) J R′ → made (public J R) (call ρ) s ≡ made (public J R′) (call ρ) s
   unfolding made transcript F.t F.g F.u₂ F.u₂-of
-  made-alike one κ-is-L alike = ap (λ f. sections (flat (table κ₁ f) ∷ [])) (u₁-same J R R′ 0 refl s)
-  made-alike two κ-is-L alike =
+  made-alike one alike = ap (λ f. sections (flat (table κ₁ f) ∷ [])) (u₁-same J R R′ 0 refl s)
+  made-alike two alike =
       ap (λ l. sections (l ∷ []))
       (table-ext 256 (F.p (public J R) s) (F.p (public J R′) s) (p-alike J R R′ (upto (parameters J) 1) alike s (le-refl (upto (parameters J) 1))))
-  made-alike three κ-is-L alike =
+  made-alike three alike =
       ap (λ l. sections (flat l ∷ []))
-      (table-ext κ (F.b″ (public J R) s) (F.b″ (public J R′) s)
-      (λ k hk. b″-alike J R R′ (upto (parameters J) 3) alike s (le-refl (upto (parameters J) 3)) k (rw κ-is-L at hk)))
-  made-alike four κ-is-L alike =
+      (table-ext L (F.b″ (public J R) s) (F.b″ (public J R′) s)
+      (λ k hk. b″-alike J R R′ (upto (parameters J) 3) alike s (le-refl (upto (parameters J) 3)) k hk))
+  made-alike four alike =
       ap (λ l. sections (flat (table κ₂ (times (public J R .D) (digits-of b t₁ l))) ∷ []))
       (h-triangle-alike (upto (parameters J) 5) alike (le-refl (upto (parameters J) 5)))
-  made-alike five κ-is-L alike =
+  made-alike five alike =
       ap₂ (λ z h. sections (flat z ∷ flat (rows r κ (F.t (public J R) s)) ∷ flat (triangle r (F.g (public J R) s)) ∷ flat h ∷ []))
       (table-ext n (F.z (public J R) s) (F.z (public J R′) s) (λ m hm. z-alike J R R′ (upto (parameters J) 7) alike s (le-refl (upto (parameters J) 7)) m))
       (h-triangle-alike (upto (parameters J) 7) alike (seven-hold-five (parameters J)))

@@ -10,7 +10,7 @@ use lib.Dec.{ltb}
 use lib.ListN.{length, take}
 use Rattle.definitions.specs.Answer.{Answer, fine, accepted, refused, _then_}
 use Rattle.definitions.specs.Leaf.{limited}
-use Rattle.protocol.specs.Parameters.{Parameters, parameters, some-constraint, limits, kappa-is-L}
+use Rattle.protocol.specs.Parameters.{Parameters, parameters, some-constraint, limits, enough-aggregations}
 use Rattle.protocol.specs.Layout.{span, sections, transcript-sections, scratch-need, job-refusal, randomness-refusal, witness-refusal}
 use Rattle.protocol.specs.Views.{public, witness}
 use Rattle.protocol.specs.Prover.{whole, prove-refusal, work-refusal, prove, prove-output}
@@ -46,7 +46,9 @@ ample G e =
     let l8 = some then limited 16 32 8 (P .log-q) in
     let l9 = l8 then limited 2 4294967294 9 (P .b) in
     let l10 = l9 then limited 1 32 10 (P .t₁) in
-    let e10 : l10 ≡ fine = then-fine-left l10 (limited 1 32 11 (P .t₂)) e in
+    let l11 = l10 then limited 1 32 11 (P .t₂) in
+    let e11 : l11 ≡ fine = then-fine-left l11 (limited 1 32 12 (P .L)) e in
+    let e10 : l10 ≡ fine = then-fine-left l10 (limited 1 32 11 (P .t₂)) e11 in
     let e9 : l9 ≡ fine = then-fine-left l9 (limited 1 32 10 (P .t₁)) e10 in
     let e8 : l8 ≡ fine = then-fine-left l8 (limited 2 4294967294 9 (P .b)) e9 in
     let e7 : l7 ≡ fine = then-fine-left l7 (some-constraint P) (then-fine-left some (limited 16 32 8 (P .log-q)) e8) in
@@ -60,7 +62,7 @@ ample G e =
       r = most 1 16 2 (P .r) (then-fine-right l1 (limited 1 16 2 (P .r)) e2);
       κ = most 1 16 3 (P .κ) (then-fine-right l2 (limited 1 16 3 (P .κ)) e3);
       t₁ = most 1 32 10 (P .t₁) (then-fine-right l9 (limited 1 32 10 (P .t₁)) e10);
-      t₂ = most 1 32 11 (P .t₂) (then-fine-right l10 (limited 1 32 11 (P .t₂)) e);
+      t₂ = most 1 32 11 (P .t₂) (then-fine-right l10 (limited 1 32 11 (P .t₂)) e11);
       beta-sq = refl;
       beta-prime-sq = refl;
       bound-A = refl;
@@ -71,7 +73,7 @@ ample G e =
 
 module _ (G : Given) (seed : ℕ) (fits : seed < 2 ^ 32) (admitted : needs-refusal G ≡ fine) where
   within : limits (load-parameters G) ≡ fine
-  within = then-fine-left (limits (load-parameters G)) (kappa-is-L (load-parameters G)) admitted
+  within = then-fine-left (limits (load-parameters G)) (enough-aggregations (load-parameters G)) admitted
 
   -- the prover refuses nothing of a load: it makes a transcript
   pub load-proved : (scratch output : ℕ) → scratch-need (load-parameters G) ≤ scratch → span (transcript-sections (load-parameters G)) ≤ output
@@ -83,7 +85,7 @@ module _ (G : Given) (seed : ℕ) (fits : seed < 2 ^ 32) (admitted : needs-refus
       (then-both-fine
       (then-both-fine
       (then-both-fine
-      (then-both-fine (load-job-fine G seed fits within (then-fine-right (limits P) (kappa-is-L P) admitted)) (load-randomness-fine G seed fits))
+      (then-both-fine (load-job-fine G seed fits within (then-fine-right (limits P) (enough-aggregations P) admitted)) (load-randomness-fine G seed fits))
       (load-witness-fine G seed fits))
       (require-holds (decLe (scratch-need P) scratch) (refused 1 (scratch-need P)) enough))
       (require-holds (decLe (span (transcript-sections P)) output) (refused 2 (span (transcript-sections P))) room))

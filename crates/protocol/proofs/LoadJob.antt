@@ -20,7 +20,7 @@ use Rattle.definitions.specs.Ring.{RqOps, words, element}
 use Rattle.definitions.proofs.Bridge.{coeff-canonical, element-rsub, words-nil}
 use Rattle.definitions.proofs.RqRing.{rq-ring}
 use Rattle.definitions.proofs.ZqRing.{zsub-zero}
-use Rattle.protocol.specs.Parameters.{Parameters, parameters, T, limits, kappa-is-L}
+use Rattle.protocol.specs.Parameters.{Parameters, parameters, T, limits, enough-aggregations}
 use Rattle.protocol.specs.Layout.{Section, canonical, part, span, start, sections, counted, layout, ranged, first-section, job-sections, randomness-sections, witness-sections, job-refusal, randomness-refusal, witness-refusal}
 use Rattle.protocol.specs.Views.{Public, public, witness, element-at, cell}
 use Rattle.protocol.specs.Formulas.{left, flat}
@@ -54,18 +54,18 @@ module _ (G : Given) (wss : List (List ℕ)) (f : Filled (job-sections (load-par
   whole-filled = more refl tt f
 
   -- the job is refused nothing where its parameters are not
-  pub job-of-sections-fine : limits (load-parameters G) ≡ fine → kappa-is-L (load-parameters G) ≡ fine → job-refusal (sections (section-one G ∷ wss)) ≡ fine
+  pub job-of-sections-fine : limits (load-parameters G) ≡ fine → enough-aggregations (load-parameters G) ≡ fine → job-refusal (sections (section-one G ∷ wss)) ≡ fine
   unfolding job-refusal counted layout sections span
   job-of-sections-fine within kappa =
       let J = sections (section-one G ∷ wss) in
-      let long : length J ≡ 30 + span (job-sections (load-parameters G)) = length-sections whole-filled in
+      let long : length J ≡ 31 + span (job-sections (load-parameters G)) = length-sections whole-filled in
       let inside : ltb 0 (length J) ≡ true = lt-ltb 0 (length J) (omega arith) in
-      let first : counted 3 J 0 first-section ≡ fine = rw inside (then-both-fine (require-holds (decLe 30 (length J)) (refused 3 (length J)) (omega arith)) refl) in
+      let first : counted 3 J 0 first-section ≡ fine = rw inside (then-both-fine (require-holds (decLe 31 (length J)) (refused 3 (length J)) (omega arith)) refl) in
       then-both-fine
       (then-both-fine
       (then-both-fine (then-both-fine first within) kappa)
-      (then-both-fine (counted-fine f 3 J 30 refl) (require-holds (decLe (length J) (30 + span (job-sections (load-parameters G)))) (refused 3 (30 + span (job-sections (load-parameters G)))) (omega arith))))
-      (ranged-at f 6 J 30 refl)
+      (then-both-fine (counted-fine f 3 J 31 refl) (require-holds (decLe (length J) (31 + span (job-sections (load-parameters G)))) (refused 3 (31 + span (job-sections (load-parameters G)))) (omega arith))))
+      (ranged-at f 6 J 31 refl)
 
 module _ (G : Given) (seed : ℕ) (fits : seed < 2 ^ 32) where
   open Given G using (n, r, K, l)
@@ -132,7 +132,7 @@ module _ (G : Given) (seed : ℕ) (fits : seed < 2 ^ 32) where
   load-job-parameters = refl
 
   -- a load is refused by none of 3 to 8, 11 and 12
-  pub load-job-fine : limits (load-parameters G) ≡ fine → kappa-is-L (load-parameters G) ≡ fine → job-refusal (load-job G seed) ≡ fine
+  pub load-job-fine : limits (load-parameters G) ≡ fine → enough-aggregations (load-parameters G) ≡ fine → job-refusal (load-job G seed) ≡ fine
   unfolding load-job
   load-job-fine = job-of-sections-fine G job-made job-made-filled
 
@@ -191,7 +191,7 @@ module _ (G : Given) (seed : ℕ) (fits : seed < 2 ^ 32) where
   unfolding load-job sections start drawn b-words
   b-read R k h =
       let f : ℕ → Element = λ k. left (load-parameters G) (blank G seed .a k) (blank G seed .φ k) (load-vectors G seed) in
-      element-of-flat (load-job G seed) (30 + start (job-sections (load-parameters G)) 5) (table K f) k (RqOps .nil) (section-part (whole-filled G job-made job-made-filled) 6) (rw (length-table K f) h)
+      element-of-flat (load-job G seed) (31 + start (job-sections (load-parameters G)) 5) (table K f) k (RqOps .nil) (section-part (whole-filled G job-made job-made-filled) 6) (rw (length-table K f) h)
       ∙ getD-table K f k (RqOps .nil) h
 
   -- "so that each constraint is met"

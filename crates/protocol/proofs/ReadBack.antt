@@ -41,7 +41,7 @@ module _ (X : Public) (s : ℕ → ℕ → Element) where
   transcript-filled =
       flat-fills (table (P .κ₁) (F.u₁ X s)) (P .κ₁) (length-table (P .κ₁) (F.u₁ X s))
       (more (length-table 256 (F.p X s)) p-canonical
-      (flat-fills (table (P .κ) (F.b″ X s)) (P .κ) (length-table (P .κ) (F.b″ X s))
+      (flat-fills (table (P .L) (F.b″ X s)) (P .L) (length-table (P .L) (F.b″ X s))
       (flat-fills (table (P .κ₂) (F.u₂ X s)) (P .κ₂) (length-table (P .κ₂) (F.u₂ X s))
       (flat-fills (table (P .n) (F.z X s)) (P .n) (length-table (P .n) (F.z X s))
       (flat-fills (rows (P .r) (P .κ) (F.t X s)) (P .r * P .κ) (length-rows (P .r) (F.t X s) (P .κ))
@@ -76,7 +76,7 @@ module _ (X : Public) (s : ℕ → ℕ → Element) where
   read-back = record {
     u₁ = λ k h. read-table 0 (P .κ₁) (F.u₁ X s) k refl h;
     p = λ j h. section-word transcript-filled 1 j (rw (length-table 256 (F.p X s)) h) ∙ getD-table 256 (F.p X s) j 0 h;
-    b″ = λ k h. read-table 2 (P .κ) (F.b″ X s) k refl h;
+    b″ = λ k h. read-table 2 (P .L) (F.b″ X s) k refl h;
     u₂ = λ k h. read-table 3 (P .κ₂) (F.u₂ X s) k refl h;
     z = λ m h. read-table 4 (P .n) (F.z X s) m refl h;
     t = λ i k h l. read 5 (rows (P .r) (P .κ) (F.t X s)) (i * P .κ + k) refl (row-cell-within (P .r) (F.t X s) (P .κ) i k h l) ∙ row-cell (P .r) (F.t X s) (P .κ) i k (RqOps .nil) h l;

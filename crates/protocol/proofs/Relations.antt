@@ -88,17 +88,16 @@ module _ (X : Public) (s : ℕ → ℕ → Element) (M : Message) (agrees : Agre
       ∙ twice-form RqOps rq-ring r n (a-sum X) (φ-sum X) s
 
   -- the aggregated b of the b'' that is sent
-  pub aggregated-right : κ ≡ L → b-sum X (M .b″) ≡ sum K (λ k. alpha k ⊗ b k) ⊕ sum L (λ k. beta k ⊗ F.b″ X s k)
+  pub aggregated-right : b-sum X (M .b″) ≡ sum K (λ k. alpha k ⊗ b k) ⊕ sum L (λ k. beta k ⊗ F.b″ X s k)
   unfolding b-sum
-  aggregated-right e =
-      ap (_⊕_ (sum K (λ k. alpha k ⊗ b k))) (sum-ext RqOps L (λ k. beta k ⊗ M .b″ k) (λ k. beta k ⊗ F.b″ X s k) (λ k h. ap (_⊗_ (beta k)) (agrees .b″ k (omega arith))))
+  aggregated-right =
+      ap (_⊕_ (sum K (λ k. alpha k ⊗ b k))) (sum-ext RqOps L (λ k. beta k ⊗ M .b″ k) (λ k. beta k ⊗ F.b″ X s k) (λ k h. ap (_⊗_ (beta k)) (agrees .b″ k h)))
 
   -- check 27's two sides are the same just where Σ alpha_k·error_k is zero
-  pub aggregated-relation : κ ≡ L
-      → (words (twice (pairs r (λ i j. a-sum X i j ⊗ M .g i j)) ⊕ sum r (λ i. M .h i i)) ≡ words (twice (b-sum X (M .b″)))) ↔ (words (alpha-error X s) ≡ rzero)
-  aggregated-relation e = (
+  pub aggregated-relation : (words (twice (pairs r (λ i j. a-sum X i j ⊗ M .g i j)) ⊕ sum r (λ i. M .h i i)) ≡ words (twice (b-sum X (M .b″)))) ↔ (words (alpha-error X s) ≡ rzero)
+  aggregated-relation = (
     λ same. ap words (alpha-error-is X s ∙ ap (λ x. x ⊕ RqOps .neg rights) (met same) ∙ rq-ring .add-neg rights) ∙ words-nil,
-    λ zero. ap words (aggregated-left ∙ ap twice (left-of-sums X s ∙ ap (λ x. x ⊕ betas) (none zero) ∙ sym (aggregated-right e))),
+    λ zero. ap words (aggregated-left ∙ ap twice (left-of-sums X s ∙ ap (λ x. x ⊕ betas) (none zero) ∙ sym (aggregated-right))),
   )
     where
       lefts : Element
@@ -114,7 +113,7 @@ module _ (X : Public) (s : ℕ → ℕ → Element) (M : Message) (agrees : Agre
       met same = add-cancel-right RqOps rq-ring betas lefts rights
           (sym (left-of-sums X s)
           ∙ rq-double-cancel (left P (a-sum X) (φ-sum X) s) (b-sum X (M .b″)) (sym aggregated-left ∙ words-path _ _ same)
-          ∙ aggregated-right e)
+          ∙ aggregated-right)
 
       none : words (alpha-error X s) ≡ rzero → lefts ≡ rights
       none zero = eq-of-sub-nil RqOps rq-ring lefts rights (sym (alpha-error-is X s) ∙ words-path (alpha-error X s) (RqOps .nil) (zero ∙ sym words-nil))

@@ -20,7 +20,7 @@ use Rattle.protocol.specs.Prover.{Call, whole, made-sections, prove-refu
 use Rattle.protocol.proofs.Fine.{refused-not-fine, require-holds, required, then-both-fine, then-fine-left, then-fine-each}
 use Rattle.protocol.proofs.Then.{then-assoc, then-either, then-only, refused-first}
 use Rattle.protocol.proofs.Prefix.{sections-append, refusal-of-prefix, refusal-of-all}
-use Rattle.protocol.proofs.Accepted.{job-kappa, Admitted, admitted, before-work, in-work, output-made}
+use Rattle.protocol.proofs.Accepted.{Admitted, admitted, before-work, in-work, output-made}
 use Rattle.protocol.proofs.Alike.{upto}
 use Rattle.protocol.proofs.Handed.{Round, one, two, three, four, five, call, handed-to, made-alike, work-alike}
 
@@ -144,11 +144,11 @@ unfolding made transcript
 made-joined X s = simp (← sections-append)
 
 -- what the rounds make, each of the randomness that it is handed, joined is what the whole call makes
-pub rounds-made : (J R : List ℕ) (s : ℕ → ℕ → Element) → parameters J .κ ≡ parameters J .L
+pub rounds-made : (J R : List ℕ) (s : ℕ → ℕ → Element)
     → joined (λ ρ. made (public J (handed-to (call ρ) J R)) (call ρ) s) ≡ made (public J R) whole s
-rounds-made J R s κ-is-L =
+rounds-made J R s =
     joined-ext (λ ρ. made (public J (handed-to (call ρ) J R)) (call ρ) s) (λ ρ. made (public J R) (call ρ) s)
-    (λ ρ. made-alike J (handed-to (call ρ) J R) R s ρ κ-is-L (handed-twice (call ρ) J R))
+    (λ ρ. made-alike J (handed-to (call ρ) J R) R s ρ (handed-twice (call ρ) J R))
     ∙ made-joined (public J R) s
 
 -- the needed part of the output that a call leaves
@@ -187,5 +187,5 @@ module _ (J R W scratch output : List ℕ) (whole-fine : prove whole J R W (leng
       let s = witness (parameters J) W in
       joined-ext (λ ρ. needed (call ρ) J (handed-to (call ρ) J R) W (scratches ρ) (outputs ρ)) (λ ρ. made (public J (handed-to (call ρ) J R)) (call ρ) s)
       (λ ρ. output-made (call ρ) J (handed-to (call ρ) J R) W (scratches ρ) (outputs ρ) (round-fine ρ (length (scratches ρ)) (length (outputs ρ)) (enough ρ) (enough′ ρ)))
-      ∙ rounds-made J R s (job-kappa J (whole-admitted .job))
+      ∙ rounds-made J R s
       ∙ sym (output-made whole J R W scratch output whole-fine)

@@ -55,7 +55,7 @@ after-unaccepted (failed n vs) last cells x e = absurd (failed-not-accepted n vs
 
 module _ (X : Public) (M : Message) where
   open Public X using (P, A, c)
-  open Parameters P using (n, r, κ, κ₁, κ₂, beta-sq, beta-prime-sq)
+  open Parameters P using (n, r, κ, κ₁, κ₂, L, beta-sq, beta-prime-sq)
 
   no-21 : Unaccepted (check-21 X M)
   unfolding check-21
@@ -63,7 +63,7 @@ module _ (X : Public) (M : Message) where
 
   no-22 : Unaccepted (check-22 X M)
   unfolding check-22
-  no-22 = first-no κ _ (λ k. require-no (ℕ-discrete (coeff (words (M .b″ k)) 0) _) _ (failed-no 22 _))
+  no-22 = first-no L _ (λ k. require-no (ℕ-discrete (coeff (words (M .b″ k)) 0) _) _ (failed-no 22 _))
 
   no-23 : Unaccepted (check-23 X M)
   unfolding check-23

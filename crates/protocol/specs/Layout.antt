@@ -9,7 +9,7 @@ pub use Rattle.lists.specs.Part.{part}
 use Rattle.definitions.specs.Zq.{Q}
 use Rattle.definitions.specs.Answer.{Answer, fine, refused, below, _then_}
 use Rattle.protocol.specs.Checks.{require}
-use Rattle.protocol.specs.Parameters.{Parameters, parameters, T, limits, kappa-is-L}
+use Rattle.protocol.specs.Parameters.{Parameters, parameters, T, limits, enough-aggregations}
 
 -- what a section's words may be: any word, or those below a limit
 pub data Range : Type 0 where
@@ -102,12 +102,12 @@ randomness-sections P =
 abbrev pub witness-sections : Parameters → List Section
 witness-sections P = canonical (64 * (P .r * P .n)) ∷ []
 
--- "Transcript: u1 (κ1 elements), p (256 words), b'' (κ elements), u2 (κ2), z (n), t (r·κ), g (T), h (T)."
+-- "Transcript: u1 (κ1 elements), p (256 words), b''" of L elements (document 02, Item 6), "u2 (κ2), z (n), t (r·κ), g (T), h (T)."
 abbrev pub transcript-sections : Parameters → List Section
 transcript-sections P =
     canonical (64 * P .κ₁)
     ∷ canonical 256
-    ∷ canonical (64 * P .κ)
+    ∷ canonical (64 * P .L)
     ∷ canonical (64 * P .κ₂)
     ∷ canonical (64 * P .n)
     ∷ canonical (64 * (P .r * P .κ))
@@ -115,9 +115,9 @@ transcript-sections P =
     ∷ canonical (64 * T P)
     ∷ []
 
--- section one's count and its 29 words
+-- section one's count and its words (document 02, Item 6: "Section one grows to 30 words")
 abbrev pub first-section : List Section
-first-section = record { count = 29; range = free } ∷ []
+first-section = record { count = 30; range = free } ∷ []
 
 -- "section one by 3, then 4, 5; other job sections 3, 6"
 unfoldable pub job-refusal : List ℕ → Answer
@@ -125,9 +125,9 @@ job-refusal J =
     let P = parameters J in
     counted 3 J 0 first-section
     then limits P
-    then kappa-is-L P
-    then layout 3 J 30 (job-sections P)
-    then ranged 6 J 30 (job-sections P)
+    then enough-aggregations P
+    then layout 3 J 31 (job-sections P)
+    then ranged 6 J 31 (job-sections P)
 
 -- "7 layout; 8 a word out of range": of the first m sections, as a round is handed them
 unfoldable pub randomness-refusal : Parameters → ℕ → List ℕ → Answer

@@ -1,4 +1,4 @@
--- A test load: job, witness and randomness from eleven parameters and a seed (document 02, Item 1).
+-- A test load: job, witness and randomness from the parameters and a seed (document 02, Item 1; "Item 1's call takes L too", Item 6).
 use mathlib.Core.Bool.{cond}
 use mathlib.Core.List.{List, [], _∷_, _++_}
 use Prim.Native.Nat.{ℕ, zero, suc, _+_, _*_, _/_, _%_, _^_}
@@ -9,12 +9,12 @@ use Rattle.definitions.specs.Zq.{Q, zsub}
 use Rattle.definitions.specs.Answer.{Answer, result, _then_}
 use Rattle.definitions.specs.Rq.{Element, coeff}
 use Rattle.definitions.specs.Ring.{words}
-use Rattle.protocol.specs.Parameters.{Parameters, parameters, limits, kappa-is-L}
+use Rattle.protocol.specs.Parameters.{Parameters, parameters, limits, enough-aggregations}
 use Rattle.protocol.specs.Layout.{Section, span, sections, first-section, job-sections, randomness-sections, witness-sections, output-refusal}
 use Rattle.protocol.specs.Views.{Public, public, witness}
 use Rattle.protocol.specs.Formulas.{left, flat}
 
--- "From eleven parameters and a seed word": in section one's order
+-- "From eleven parameters and a seed word", with L the twelfth: in section one's order
 pub record Given : Type 0 where
   pub n : ℕ
   pub r : ℕ
@@ -27,18 +27,19 @@ pub record Given : Type 0 where
   pub b : ℕ
   pub t₁ : ℕ
   pub t₂ : ℕ
+  pub L : ℕ
 
 -- "The six bounds are the largest three-word number.": the words of section one
 abbrev pub section-one : Given → List ℕ
 section-one G =
-    G .n ∷ G .r ∷ G .κ ∷ G .κ₁ ∷ G .κ₂ ∷ G .K ∷ G .l ∷ G .log-q ∷ G .b ∷ G .t₁ ∷ G .t₂
+    G .n ∷ G .r ∷ G .κ ∷ G .κ₁ ∷ G .κ₂ ∷ G .K ∷ G .l ∷ G .log-q ∷ G .b ∷ G .t₁ ∷ G .t₂ ∷ G .L
     ∷ 4294967295 ∷ 4294967295 ∷ 4294967295 ∷ 4294967295 ∷ 4294967295 ∷ 4294967295
     ∷ 4294967295 ∷ 4294967295 ∷ 4294967295 ∷ 4294967295 ∷ 4294967295 ∷ 4294967295
     ∷ 4294967295 ∷ 4294967295 ∷ 4294967295 ∷ 4294967295 ∷ 4294967295 ∷ 4294967295 ∷ []
 
 -- the parameters that section one's words stand for
 abbrev pub load-parameters : Given → Parameters
-load-parameters G = parameters (29 ∷ section-one G)
+load-parameters G = parameters (30 ∷ section-one G)
 
 -- "state·1664525+1013904223 modulo 2^32"
 abbrev pub next : ℕ → ℕ
@@ -146,7 +147,7 @@ unfoldable pub load-refusal : Given → (job witness randomness : ℕ) → Answe
 load-refusal G job witness randomness =
     let P = load-parameters G in
     limits P
-    then kappa-is-L P
+    then enough-aggregations P
     then output-refusal (load-job-sections G) job
     then output-refusal (witness-sections P) witness
     then output-refusal (randomness-sections P) randomness
@@ -167,4 +168,4 @@ randomness-need G = span (randomness-sections (load-parameters G))
 
 -- what is refused of the parameters alone
 abbrev pub needs-refusal : Given → Answer
-needs-refusal G = limits (load-parameters G) then kappa-is-L (load-parameters G)
+needs-refusal G = limits (load-parameters G) then enough-aggregations (load-parameters G)

@@ -1,13 +1,13 @@
 -- The parameters: section one of the job (document 01, "What a call is handed").
 use mathlib.Core.List.{List}
 use Prim.Native.Nat.{ℕ, _+_, _*_, _/_, _^_}
-use native.Mathlib.Decide.{decLe, ℕ-discrete}
+use native.Mathlib.Decide.{decLe}
 use lib.ListN.{getD}
 use Rattle.definitions.specs.Answer.{Answer, refused, _then_}
 use Rattle.definitions.specs.Leaf.{limited}
 use Rattle.protocol.specs.Checks.{require}
 
--- "n, r, κ, κ1, κ2, K, l, log_q, b, t1, t2, then beta_sq, beta_prime_sq and the norm bounds of A, B, C, D"; L is the number of aggregated equations
+-- "n, r, κ, κ1, κ2, K, l, log_q, b, t1, t2, then beta_sq, beta_prime_sq and the norm bounds of A, B, C, D"; document 02, Item 6: "L stands after t2", the number of aggregated equations
 pub record Parameters : Type 0 where
   pub n : ℕ
   pub r : ℕ
@@ -20,19 +20,19 @@ pub record Parameters : Type 0 where
   pub b : ℕ
   pub t₁ : ℕ
   pub t₂ : ℕ
+  pub L : ℕ
   pub beta-sq : ℕ
   pub beta-prime-sq : ℕ
   pub bound-A : ℕ
   pub bound-B : ℕ
   pub bound-C : ℕ
   pub bound-D : ℕ
-  pub L : ℕ
 
 -- "each three words, least first"
 abbrev pub three-words : List ℕ → ℕ → ℕ
 three-words J i = getD J i 0 + getD J (i + 1) 0 * 2 ^ 32 + getD J (i + 2) 0 * 2 ^ 64
 
--- "L = 128 divided by log_q, rounded up."
+-- "128 divided by log_q, rounded up": the least L
 abbrev pub rounded-up : ℕ → ℕ
 rounded-up log-q = (127 + log-q) / log-q
 
@@ -50,13 +50,13 @@ parameters J = record {
   b = getD J 9 0;
   t₁ = getD J 10 0;
   t₂ = getD J 11 0;
-  beta-sq = three-words J 12;
-  beta-prime-sq = three-words J 15;
-  bound-A = three-words J 18;
-  bound-B = three-words J 21;
-  bound-C = three-words J 24;
-  bound-D = three-words J 27;
-  L = rounded-up (getD J 8 0);
+  L = getD J 12 0;
+  beta-sq = three-words J 13;
+  beta-prime-sq = three-words J 16;
+  bound-A = three-words J 19;
+  bound-B = three-words J 22;
+  bound-C = three-words J 25;
+  bound-D = three-words J 28;
 }
 
 -- "T = r(r+1)/2": the cells of a triangle of n rows
@@ -70,7 +70,7 @@ T P = triangular (P .r)
 abbrev pub some-constraint : Parameters → Answer
 some-constraint P = require (decLe 1 (P .K + P .l)) (refused 4 7)
 
--- "4 a parameter outside its limits (place of the first)"; "n 1 to 64; r, κ, κ1, κ2 1 to 16; K, l" 0 "to 64; log_q 16 to 32; b 2 to 4294967294; t1, t2 1 to 32"
+-- "4 a parameter outside its limits (place of the first)"; "n 1 to 64; r, κ, κ1, κ2 1 to 16; K, l" 0 "to 64; log_q 16 to 32; b 2 to 4294967294; t1, t2 1 to 32"; document 02, Item 6: L "from 1 to 32"
 unfoldable pub limits : Parameters → Answer
 limits P =
     limited 1 64 1 (P .n)
@@ -85,7 +85,8 @@ limits P =
     then limited 2 4294967294 9 (P .b)
     then limited 1 32 10 (P .t₁)
     then limited 1 32 11 (P .t₂)
+    then limited 1 32 12 (P .L)
 
--- "5 κ is not L (κ's place)"
-unfoldable pub kappa-is-L : Parameters → Answer
-kappa-is-L P = require (ℕ-discrete (P .κ) (P .L)) (refused 5 3)
+-- document 02, Item 6: "Refusal 5, wherever it is given, is now for an L below 128 divided by log_q, rounded up (5 for log_q 31), at L's place"
+unfoldable pub enough-aggregations : Parameters → Answer
+enough-aggregations P = require (decLe (rounded-up (P .log-q)) (P .L)) (refused 5 12)

@@ -57,7 +57,7 @@ prove-refusal call J R W scratch output =
 
 module _ (X : Public) where
   open Public X using (P)
-  open Parameters P using (n, r, κ, κ₁, κ₂, bound-A, bound-B, bound-C, bound-D)
+  open Parameters P using (n, r, κ, κ₁, κ₂, L, bound-A, bound-B, bound-C, bound-D)
 
   -- "13 norm of s_i above A's bound (lowest i, from 0)"
   unfoldable pub witness-norm : (ℕ → ℕ → Element) → Answer
@@ -82,7 +82,7 @@ module _ (X : Public) where
   transcript s =
       flat (table κ₁ (F.u₁ X s))
       ∷ table 256 (F.p X s)
-      ∷ flat (table κ (F.b″ X s))
+      ∷ flat (table L (F.b″ X s))
       ∷ flat (table κ₂ (F.u₂ X s))
       ∷ flat (table n (F.z X s))
       ∷ flat (rows r κ (F.t X s))

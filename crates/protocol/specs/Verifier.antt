@@ -28,17 +28,17 @@ twice e = e ⊕ e
 
 module _ (X : Public) (M : Message) where
   open Public X using (P, b₀, A, psi, omega, c)
-  open Parameters P using (n, r, κ, κ₁, κ₂, l, beta-sq, beta-prime-sq)
+  open Parameters P using (n, r, κ, κ₁, κ₂, l, L, beta-sq, beta-prime-sq)
   open Message M using (u₁, p, b″, u₂, z, t, g, h)
 
   -- "21 norm of p above 128·beta_sq (norm and limit given)."
   unfoldable pub check-21 : Answer
   check-21 = let total = norm (table 256 p) in require (decLe total (128 * beta-sq)) (failed 21 (total ∷ 128 * beta-sq ∷ []))
 
-  -- "22 for some k below κ, the constant coefficient of b''_k is not Σ psi[k][l]·b0[l] + Σ omega[k][j]·p[j] (lowest k, both values)."
+  -- "22 for some k below" L (document 02, Item 6: "check 22 runs over L"), "the constant coefficient of b''_k is not Σ psi[k][l]·b0[l] + Σ omega[k][j]·p[j] (lowest k, both values)."
   unfoldable pub check-22 : Answer
   check-22 =
-      first κ (λ k.
+      first L (λ k.
       let sent = coeff (words (b″ k)) 0 in
       let computed = (Σ l (λ x. psi k x * b₀ x) + Σ 256 (λ j. omega k j * p j)) % Q in
       require (ℕ-discrete sent computed) (failed 22 (k ∷ sent ∷ computed ∷ [])))

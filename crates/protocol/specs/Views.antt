@@ -41,7 +41,7 @@ pub record Public : Type 0 where
 abbrev pub public : List ℕ → List ℕ → Public
 public J R =
     let P = parameters J in
-    let at : ℕ → ℕ = λ m. 30 + start (job-sections P) m in
+    let at : ℕ → ℕ = λ m. 31 + start (job-sections P) m in
     let of = start (randomness-sections P) in
     record {
       P = P;

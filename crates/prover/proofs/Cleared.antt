@@ -30,14 +30,10 @@ module _ (call : Call) (J R W : List ℕ) (p : EnvironmentParameters) (S O : Lis
   call-sized = sized J (parametersOf p) (h .handed .sound) (h .handed .same)
 
   -- what `lay_out` requires
-  pub lay-needs : (p .rank ≤ 64) × (p .multiplicity ≤ 16) × (p .kappa ≤ 16) × (p .«const_agg_length» ≤ 16)
+  pub lay-needs : (p .rank ≤ 64) × (p .multiplicity ≤ 16) × (p .kappa ≤ 16) × (p .«const_agg_length» ≤ 32)
   lay-needs =
       let w = call-sized .within in
-      let l : p .«const_agg_length» ≤ 8 = call-sized .aggregated in
-      (w .n .1, w .r .1, w .κ .1, up (p .«const_agg_length») l)
-    where
-      up : (n : ℕ) → n ≤ 8 → n ≤ 16
-      up n l = omega arith
+      (w .n .1, w .r .1, w .κ .1, w .L .1)
 
   -- the scratch that the work leaves
   module _ (n : ℕ) (e : n ≡ scratch-need (parametersOf p)) (S₁ : List ℕ) (kept : Kept (scratch-need (parameters J)) S S₁) where

@@ -120,21 +120,21 @@ module _ (J W : List ℕ) (p : EnvironmentParameters) (q : Regions) (S : List �
   first-is = ap (λ a. a then (t-refusal J W then g-refusal J W)) witness-answer ∙ sym (then-assoc (witness-norm (statement J) (s J W)) (t-refusal J W) (g-refusal J W))
 
   -- t: what `commit_all` needs, and what it stores
-  pub t-fits : (at : ℕ) → at ≡ 30 + start (job-sections (parametersOf p)) 6
+  pub t-fits : (at : ℕ) → at ≡ 31 + start (job-sections (parametersOf p)) 6
       → (at + 64 * (p .kappa * p .rank) ≤ length J) × (1 + 64 * (p .multiplicity * p .rank) ≤ length W) × (q .t + 64 * (p .multiplicity * p .kappa) ≤ length S) × (p .rank ≤ 64) × (p .kappa ≤ 64)
   t-fits at e =
       subst (λ k. (k + 64 * (p .kappa * p .rank) ≤ length J) × (1 + 64 * (p .multiplicity * p .rank) ≤ length W) × (q .t + 64 * (p .multiplicity * p .kappa) ≤ length S) × (p .rank ≤ 64) × (p .kappa ≤ 64)) (sym e)
-      (subst (λ Q. (30 + start (job-sections Q) 6 + 64 * (Q .κ * Q .n) ≤ length J) × (1 + 64 * (Q .r * Q .n) ≤ length W) × (q .t + 64 * (Q .r * Q .κ) ≤ length S) × (Q .n ≤ 64) × (Q .κ ≤ 64)) (sym (h .ready .same))
+      (subst (λ Q. (31 + start (job-sections Q) 6 + 64 * (Q .κ * Q .n) ≤ length J) × (1 + 64 * (Q .r * Q .n) ≤ length W) × (q .t + 64 * (Q .r * Q .κ) ≤ length S) × (Q .n ≤ 64) × (Q .κ ≤ 64)) (sym (h .ready .same))
       (A-within J p q S (h .ready), witness-fits, omega (arith, t-room, h .ready .room), h .ready .sound .within .n .1, omega (arith, h .ready .sound .within .κ .1)))
 
-  pub t-made : (S′ : List ℕ) (at : ℕ) → at ≡ 30 + start (job-sections (parametersOf p)) 6
+  pub t-made : (S′ : List ℕ) (at : ℕ) → at ≡ 31 + start (job-sections (parametersOf p)) 6
       → S′ ≡ splice S (q .t) (flat (rows (p .multiplicity) (p .kappa) (λ i k. dot (p .rank) (vector J at (p .rank) k) (vector W 1 (p .rank) i)))) → S′ ≡ splice S (q .t) (t-words J W)
   t-made S′ at e w =
       w
       ∙ ap (splice S (q .t))
       (ap (λ k. flat (rows (p .multiplicity) (p .kappa) (λ i j. dot (p .rank) (vector J k (p .rank) j) (vector W 1 (p .rank) i)))) e
-      ∙ ap (λ Q. flat (rows (Q .r) (Q .κ) (λ i j. dot (Q .n) (vector J (30 + start (job-sections Q) 6) (Q .n) j) (vector W 1 (Q .n) i)))) (h .ready .same)
-      ∙ ap (λ k. flat (rows (P .r) (P .κ) (λ i j. dot (P .n) (vector J (30 + start (job-sections P) 6) (P .n) j) (vector W k (P .n) i)))) (sym (witness-start P))
+      ∙ ap (λ Q. flat (rows (Q .r) (Q .κ) (λ i j. dot (Q .n) (vector J (31 + start (job-sections Q) 6) (Q .n) j) (vector W 1 (Q .n) i)))) (h .ready .same)
+      ∙ ap (λ k. flat (rows (P .r) (P .κ) (λ i j. dot (P .n) (vector J (31 + start (job-sections P) 6) (P .n) j) (vector W k (P .n) i)))) (sym (witness-start P))
       ∙ ap (λ f. flat (rows (P .r) (P .κ) f)) (t-is J [] W))
 
   -- g: what `compute_g` needs, and what it stores
@@ -186,7 +186,7 @@ module _ (J W : List ℕ) (p : EnvironmentParameters) (q : Regions) (S : List �
         omega (arith, ag, gb),
         gb,
         omega (arith, φa, ag, gb),
-        omega (arith, b″-end J p q S k, k .sound .aggregated .1),
+        omega (arith, b″-end J p q S k, k .sound .within .L .1),
         witness-fits,
         omega (arith, k .sound .within .r .1),
         k .sound .within .n .1,
@@ -204,8 +204,7 @@ module _ (J W : List ℕ) (p : EnvironmentParameters) (q : Regions) (S : List �
       ∙ ap (splice S (q .b2))
       (ap (λ Q. flat (table (Q .L) (λ k. formed S (q .a2 + 64 * (k * T Q)) (q .g) (q .phi2 + 64 * (k * (Q .r * Q .n))) (Q .r) (Q .n) W 1))) (h .ready .same)
       ∙ ap (λ x. flat (table (P .L) (λ k. formed S (q .a2 + 64 * (k * T P)) (q .g) (q .phi2 + 64 * (k * (P .r * P .n))) (P .r) (P .n) W x))) (sym (witness-start P))
-      ∙ ap flat (table-ext (P .L) (λ k. formed S (q .a2 + 64 * (k * T P)) (q .g) (q .phi2 + 64 * (k * (P .r * P .n))) (P .r) (P .n) W (start (witness-sections P) 0)) (F.b″ (X J R) (s J W)) (λ k l. one k l))
-      ∙ ap (λ k. flat (table k (F.b″ (X J R) (s J W)))) (sym (h .ready .sound .kappa)))
+      ∙ ap flat (table-ext (P .L) (λ k. formed S (q .a2 + 64 * (k * T P)) (q .g) (q .phi2 + 64 * (k * (P .r * P .n))) (P .r) (P .n) W (start (witness-sections P) 0)) (F.b″ (X J R) (s J W)) (λ k l. one k l)))
     where
       one : (k : ℕ) → k < P .L → formed S (q .a2 + 64 * (k * T P)) (q .g) (q .phi2 + 64 * (k * (P .r * P .n))) (P .r) (P .n) W (start (witness-sections P) 0) ≡ F.b″ (X J R) (s J W) k
       one k l =

@@ -31,10 +31,10 @@ module _ (J W : List ℕ) where
   length-g = length-cells r (F.g (statement J) (s J W))
 
 module _ (J R W : List ℕ) where
-  open Parameters (parameters J) using (r, κ)
+  open Parameters (parameters J) using (r, L)
 
-  pub length-b″ : length (b″-words J R W) ≡ 64 * κ
-  length-b″ = length-elements κ (F.b″ (X J R) (s J W))
+  pub length-b″ : length (b″-words J R W) ≡ 64 * L
+  length-b″ = length-elements L (F.b″ (X J R) (s J W))
 
   pub length-h : length (h-words J R W) ≡ 64 * T (parameters J)
   length-h = length-cells r (F.h (X J R) (s J W))

@@ -27,41 +27,41 @@ fits-product a b h k = let m : a * b ≤ 256 = small-product a b h k in record {
 
 module _ (J : List ℕ) (p : EnvironmentParameters) (q : Regions) (S : List ℕ) (h : Ready J p q S) where
   -- the matrices by the code's parameters
-  pub B-room : (at : ℕ) → at ≡ 30 + start (job-sections (parametersOf p)) 7 → at + 64 * (p .«kappa_1» * (p .multiplicity * p .kappa * p .«t_1»)) ≤ length J
+  pub B-room : (at : ℕ) → at ≡ 31 + start (job-sections (parametersOf p)) 7 → at + 64 * (p .«kappa_1» * (p .multiplicity * p .kappa * p .«t_1»)) ≤ length J
   B-room at e =
       subst (λ a. a + 64 * (p .«kappa_1» * (p .multiplicity * p .kappa * p .«t_1»)) ≤ length J) (sym e)
-      (subst (λ P. 30 + start (job-sections P) 7 + 64 * (P .κ₁ * (P .r * P .κ * P .t₁)) ≤ length J) (sym (h .same)) (B-within J p q S h))
+      (subst (λ P. 31 + start (job-sections P) 7 + 64 * (P .κ₁ * (P .r * P .κ * P .t₁)) ≤ length J) (sym (h .same)) (B-within J p q S h))
 
-  pub C-room : (at cells : ℕ) → at ≡ 30 + start (job-sections (parametersOf p)) 8 → cells ≡ triangular (p .multiplicity) → at + 64 * (p .«kappa_1» * (cells * p .«t_2»)) ≤ length J
+  pub C-room : (at cells : ℕ) → at ≡ 31 + start (job-sections (parametersOf p)) 8 → cells ≡ triangular (p .multiplicity) → at + 64 * (p .«kappa_1» * (cells * p .«t_2»)) ≤ length J
   C-room at cells e f =
       subst (λ a. a + 64 * (p .«kappa_1» * (cells * p .«t_2»)) ≤ length J) (sym e)
-      (subst (λ k. 30 + start (job-sections (parametersOf p)) 8 + 64 * (p .«kappa_1» * (k * p .«t_2»)) ≤ length J) (sym f)
-      (subst (λ P. 30 + start (job-sections P) 8 + 64 * (P .κ₁ * (T P * P .t₂)) ≤ length J) (sym (h .same)) (C-within J p q S h)))
+      (subst (λ k. 31 + start (job-sections (parametersOf p)) 8 + 64 * (p .«kappa_1» * (k * p .«t_2»)) ≤ length J) (sym f)
+      (subst (λ P. 31 + start (job-sections P) 8 + 64 * (P .κ₁ * (T P * P .t₂)) ≤ length J) (sym (h .same)) (C-within J p q S h)))
 
-  pub D-room : (at cells : ℕ) → at ≡ 30 + start (job-sections (parametersOf p)) 9 → cells ≡ triangular (p .multiplicity) → at + 64 * (p .«kappa_2» * (cells * p .«t_1»)) ≤ length J
+  pub D-room : (at cells : ℕ) → at ≡ 31 + start (job-sections (parametersOf p)) 9 → cells ≡ triangular (p .multiplicity) → at + 64 * (p .«kappa_2» * (cells * p .«t_1»)) ≤ length J
   D-room at cells e f =
       subst (λ a. a + 64 * (p .«kappa_2» * (cells * p .«t_1»)) ≤ length J) (sym e)
-      (subst (λ k. 30 + start (job-sections (parametersOf p)) 9 + 64 * (p .«kappa_2» * (k * p .«t_1»)) ≤ length J) (sym f)
-      (subst (λ P. 30 + start (job-sections P) 9 + 64 * (P .κ₂ * (T P * P .t₁)) ≤ length J) (sym (h .same)) (D-within J p q S h)))
+      (subst (λ k. 31 + start (job-sections (parametersOf p)) 9 + 64 * (p .«kappa_2» * (k * p .«t_1»)) ≤ length J) (sym f)
+      (subst (λ P. 31 + start (job-sections P) 9 + 64 * (P .κ₂ * (T P * P .t₁)) ≤ length J) (sym (h .same)) (D-within J p q S h)))
 
   -- the regions by the code's parameters
   t-room : q .t + 64 * (p .multiplicity * p .kappa) ≤ length S
   t-room = subst (λ P. q .t + 64 * (P .r * P .κ) ≤ length S) (sym (h .same)) (up (q .t) _ (q .u) (q .b2) (length S) (t-end J p q S h) (u-end J p q S h) (b″-end J p q S h))
     where
-      up : (t k u b n : ℕ) → t + k ≤ u → u + 64 * 16 ≤ b → b + 64 * 16 ≤ n → t + k ≤ n
+      up : (t k u b n : ℕ) → t + k ≤ u → u + 64 * 16 ≤ b → b + 64 * 32 ≤ n → t + k ≤ n
       up t k u b n a c d = omega arith
 
   c-room : q .challenges + 64 * p .multiplicity ≤ length S
   c-room = subst (λ P. q .challenges + 64 * P .r ≤ length S) (sym (h .same)) (up (q .challenges) _ (q .t) (64 * (parameters J .r * parameters J .κ)) (q .u) (q .b2) (length S) (c-end J p q S h) (t-end J p q S h) (u-end J p q S h) (b″-end J p q S h))
     where
-      up : (c k t m u b n : ℕ) → c + k ≤ t → t + m ≤ u → u + 64 * 16 ≤ b → b + 64 * 16 ≤ n → c + k ≤ n
+      up : (c k t m u b n : ℕ) → c + k ≤ t → t + m ≤ u → u + 64 * 16 ≤ b → b + 64 * 32 ≤ n → c + k ≤ n
       up c k t m u b n a d e f = omega arith
 
   -- the places rise
   g-room-of : q .g + 64 * T (parameters J) ≤ length S
   g-room-of = up (q .g) (64 * T (parameters J)) (q .challenges) (64 * parameters J .r) (q .t) (64 * (parameters J .r * parameters J .κ)) (q .u) (q .b2) (length S) (g-end J p q S h) (c-end J p q S h) (t-end J p q S h) (u-end J p q S h) (b″-end J p q S h)
     where
-      up : (g k c l t m u b n : ℕ) → g + k ≤ c → c + l ≤ t → t + m ≤ u → u + 64 * 16 ≤ b → b + 64 * 16 ≤ n → g + k ≤ n
+      up : (g k c l t m u b n : ℕ) → g + k ≤ c → c + l ≤ t → t + m ≤ u → u + 64 * 16 ≤ b → b + 64 * 32 ≤ n → g + k ≤ n
       up g k c l t m u b n a d e f i = omega arith
 
   g-room : q .g + 64 * triangular (p .multiplicity) ≤ length S
@@ -75,10 +75,10 @@ module _ (J : List ℕ) (p : EnvironmentParameters) (q : Regions) (S : List ℕ)
       up : (a k g n : ℕ) → a + k ≤ g → g + k ≤ n → a + k ≤ n
       up a k g n b c = omega arith
 
-  b″-room : q .b2 + 64 * p .kappa ≤ length S
-  b″-room = up (q .b2) (p .kappa) (length S) (ready-sized J p q S h .within .κ .1) (b″-end J p q S h)
+  b″-room : q .b2 + 64 * p .«const_agg_length» ≤ length S
+  b″-room = up (q .b2) (p .«const_agg_length») (length S) (ready-sized J p q S h .within .L .1) (b″-end J p q S h)
     where
-      up : (b k n : ℕ) → k ≤ 16 → b + 64 * 16 ≤ n → b + 64 * k ≤ n
+      up : (b k n : ℕ) → k ≤ 32 → b + 64 * 32 ≤ n → b + 64 * k ≤ n
       up b k n l m = omega arith
 
   -- a ready call's regions lie within the scratch

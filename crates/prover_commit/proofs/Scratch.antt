@@ -58,7 +58,7 @@ module _ (J R W : List ℕ) (p : EnvironmentParameters) (q : Regions) (S : List 
   a″-below = omega (arith, length-a″ J R, a″-end J p q S (h .ready), φ-end J p q S (h .ready), a-end J p q S (h .ready))
 
   b″-below : q .b2 + length (b″-words J R W) ≤ scratch-need P
-  b″-below = omega (arith, length-b″ J R W, h .ready .sound .within .κ .1, regions-end J p q S (h .ready))
+  b″-below = omega (arith, length-b″ J R W, h .ready .sound .within .L .1, regions-end J p q S (h .ready))
 
   -- φ'' and a'' stored
   module _ (S′ : List ℕ) (e : S′ ≡ splice S 0 (φ″-words J R ++ a″-words J R)) where

@@ -34,13 +34,13 @@ module _ (J W : List ℕ) where
 
 -- and the others
 module _ (J R W : List ℕ) where
-  open Parameters (parameters J) using (n, r, κ, κ₂)
+  open Parameters (parameters J) using (n, r, κ₂, L)
 
   abbrev pub p-words : List ℕ
   p-words = table 256 (F.p (X J R) (s J W))
 
   abbrev pub b″-words : List ℕ
-  b″-words = flat (table κ (F.b″ (X J R) (s J W)))
+  b″-words = flat (table L (F.b″ (X J R) (s J W)))
 
   abbrev pub u₂-words : List ℕ
   u₂-words = flat (table κ₂ (F.u₂ (X J R) (s J W)))

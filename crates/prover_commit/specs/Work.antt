@@ -28,7 +28,7 @@ pub record Placed (p : EnvironmentParameters) (q : Regions) (scratch : List ℕ)
   pub t : q .t + 64 * (p .multiplicity * p .kappa) ≤ length scratch
   pub g : q .g + 64 * triangular (p .multiplicity) ≤ length scratch
   pub h : q .a + 64 * triangular (p .multiplicity) ≤ length scratch
-  pub b″ : q .b2 + 64 * p .kappa ≤ length scratch
+  pub b″ : q .b2 + 64 * p .«const_agg_length» ≤ length scratch
   pub challenges : q .challenges + 64 * p .multiplicity ≤ length scratch
 
 -- a fact that holds where something was made

@@ -36,19 +36,19 @@ u₁-at P q S J b-at c-at cells =
     times (vector J b-at (P .r * P .κ * P .t₁)) (digits-at S (digits (q .t) (P .r * P .κ) (P .t₁)) (P .b)) k
     ⊕ times (vector J c-at (cells * P .t₂)) (digits-at S (digits (q .g) cells (P .t₂)) (P .b)) k))
 
-pub u₁-stored : (P : Parameters) (q : Regions) (S J : List ℕ) (b-at c-at cells : ℕ) → b-at ≡ 30 + start (job-sections P) 7 → c-at ≡ 30 + start (job-sections P) 8 → cells ≡ T P
+pub u₁-stored : (P : Parameters) (q : Regions) (S J : List ℕ) (b-at c-at cells : ℕ) → b-at ≡ 31 + start (job-sections P) 7 → c-at ≡ 31 + start (job-sections P) 8 → cells ≡ T P
     → u₁-at P q S J b-at c-at cells ≡ u₁-in P q S J
 u₁-stored P q S J b-at c-at cells e f g =
     ap (λ a. u₁-at P q S J a c-at cells) e
-    ∙ ap (λ a. u₁-at P q S J (30 + start (job-sections P) 7) a cells) f
-    ∙ ap (u₁-at P q S J (30 + start (job-sections P) 7) (30 + start (job-sections P) 8)) g
+    ∙ ap (λ a. u₁-at P q S J (31 + start (job-sections P) 7) a cells) f
+    ∙ ap (u₁-at P q S J (31 + start (job-sections P) 7) (31 + start (job-sections P) 8)) g
 
 -- D times the digits of h
 abbrev u₂-at : Parameters → Regions → List ℕ → List ℕ → ℕ → ℕ → List ℕ
 u₂-at P q S J d-at cells = flat (table (P .κ₂) (times (vector J d-at (cells * P .t₁)) (digits-at S (digits (q .a) cells (P .t₁)) (P .b))))
 
-pub u₂-stored : (P : Parameters) (q : Regions) (S J : List ℕ) (d-at cells : ℕ) → d-at ≡ 30 + start (job-sections P) 9 → cells ≡ T P → u₂-at P q S J d-at cells ≡ u₂-in P q S J
-u₂-stored P q S J d-at cells e f = ap (λ a. u₂-at P q S J a cells) e ∙ ap (u₂-at P q S J (30 + start (job-sections P) 9)) f
+pub u₂-stored : (P : Parameters) (q : Regions) (S J : List ℕ) (d-at cells : ℕ) → d-at ≡ 31 + start (job-sections P) 9 → cells ≡ T P → u₂-at P q S J d-at cells ≡ u₂-in P q S J
+u₂-stored P q S J d-at cells e f = ap (λ a. u₂-at P q S J a cells) e ∙ ap (u₂-at P q S J (31 + start (job-sections P) 9)) f
 
 -- words that stand somewhere, taken by their number
 taken : (S : List ℕ) (at n : ℕ) (ws : List ℕ) → length ws ≡ n → Holds S at ws → part S at n ≡ ws
@@ -85,7 +85,7 @@ module _ (J R W : List ℕ) (p : EnvironmentParameters) (q : Regions) (S : List 
 
   -- b'', t, g and h
   pub b″-made : Holds S (q .b2) (b″-words J R W) → b″-in (parametersOf p) q S ≡ b″-words J R W
-  b″-made held = ap (λ P. b″-in P q S) same ∙ taken S (q .b2) (64 * parameters J .κ) (b″-words J R W) (length-b″ J R W) held
+  b″-made held = ap (λ P. b″-in P q S) same ∙ taken S (q .b2) (64 * parameters J .L) (b″-words J R W) (length-b″ J R W) held
 
   pub t-made : Committed J W q S → t-in (parametersOf p) q S ≡ t-words J W
   t-made held = ap (λ P. t-in P q S) same ∙ taken S (q .t) _ (t-words J W) (length-t J W) (held .t)

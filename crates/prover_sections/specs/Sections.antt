@@ -18,7 +18,7 @@ use Rattle.relation.specs.Parameters.{parametersOf}
 use Rattle.sizes.specs.Sizes.{Sized}
 
 module _ (P : Parameters) where
-  open Parameters P using (n, r, κ, κ₁, κ₂, b, t₁, t₂)
+  open Parameters P using (n, r, κ, κ₁, κ₂, b, t₁, t₂, L)
 
   -- "p = Σ Π_i·s_i over coefficients"
   abbrev pub p-in : (R W : List ℕ) → List ℕ
@@ -31,12 +31,12 @@ module _ (P : Parameters) where
         flat
         (table κ₁
         (λ k.
-        times (vector J (30 + start (job-sections P) 7) (r * κ * t₁)) (digits-at scratch (record { at = q .t; cells = r * κ; parts = t₁ }) b) k
-        ⊕ times (vector J (30 + start (job-sections P) 8) (T P * t₂)) (digits-at scratch (record { at = q .g; cells = T P; parts = t₂ }) b) k))
+        times (vector J (31 + start (job-sections P) 7) (r * κ * t₁)) (digits-at scratch (record { at = q .t; cells = r * κ; parts = t₁ }) b) k
+        ⊕ times (vector J (31 + start (job-sections P) 8) (T P * t₂)) (digits-at scratch (record { at = q .g; cells = T P; parts = t₂ }) b) k))
 
     -- "u2 = D·digits(h)"
     abbrev pub u₂-in : List ℕ → List ℕ
-    u₂-in J = flat (table κ₂ (times (vector J (30 + start (job-sections P) 9) (T P * t₁)) (digits-at scratch (record { at = q .a; cells = T P; parts = t₁ }) b)))
+    u₂-in J = flat (table κ₂ (times (vector J (31 + start (job-sections P) 9) (T P * t₁)) (digits-at scratch (record { at = q .a; cells = T P; parts = t₁ }) b)))
 
     -- "z = Σ s_i·c_i"
     abbrev pub z-in : List ℕ → List ℕ
@@ -44,7 +44,7 @@ module _ (P : Parameters) where
 
     -- b'', t, g and h as they stand
     abbrev pub b″-in : List ℕ
-    b″-in = part scratch (q .b2) (64 * κ)
+    b″-in = part scratch (q .b2) (64 * L)
 
     abbrev pub t-in : List ℕ
     t-in = part scratch (q .t) (64 * (r * κ))

@@ -101,7 +101,7 @@ fn put_b_double_prime(
     requires { ⌜ Placed p q (now scratch) × Room at (b″-in (parametersOf p) q (now scratch) ∷ []) (now output) ⌝ }
     ensures { λ next. ⌜ Put at next (now (output .entry)) (now (output .exit)) (b″-in (parametersOf p) q (now (scratch .entry)) ∷ []) ⌝ }
 {
-    let count = 64 * p.kappa;
+    let count = 64 * p.const_agg_length;
     words::put_section(output, at, scratch, q.b2, count);
     at + 1 + count
 }

@@ -7,6 +7,6 @@ use Rattle.protocol.specs.Layout.{scratch-need}
 use Rattle.regions.specs.declared.Regions.{Regions}
 use Rattle.regions.specs.Laid.{Laid}
 
--- the last region ends within the need, as vectors have at least one element
-pub regions-fit : (P : Parameters) (s : Regions) → 1 ≤ P .n → Laid (P .n) (P .r) (P .κ) (P .L) s → s .b2 + 64 * 16 ≤ scratch-need P
+-- the last region ends within the need: the challenges take no more than the second of the two r·n, as vectors have at least one element, and u and b'' take 48 of the 64 elements
+pub regions-fit : (P : Parameters) (s : Regions) → 1 ≤ P .n → Laid (P .n) (P .r) (P .κ) (P .L) s → s .b2 + 64 * 32 ≤ scratch-need P
 regions-fit P s h laid = omega (arith, laid .first, laid .a2, laid .phi, laid .a, laid .g, laid .challenges, laid .t, laid .u, laid .b2, mul-le-mul-left (P .r) h)

@@ -19,13 +19,13 @@ pub struct Regions {
     pub t: usize,
     // u1 or u2, as the verifier works them out: 16 elements
     pub u: usize,
-    // b'': 16 elements
+    // b'': 32 elements
     pub b2: usize,
 }
 
 // The regions for r vectors of n elements, κ rows of A and L aggregated equations.
 pub fn lay_out(n: usize, r: usize, kappa: usize, l: usize) -> Regions
-    requires { ⌜ (n ≤ 64) × (r ≤ 16) × (kappa ≤ 16) × (l ≤ 16) ⌝ }
+    requires { ⌜ (n ≤ 64) × (r ≤ 16) × (kappa ≤ 16) × (l ≤ 32) ⌝ }
     ensures { λ s. ⌜ Laid n r kappa l s ⌝ }
 {
     let width = r * n;

@@ -2,9 +2,8 @@
 use mathlib.Core.Path.{_≡_, refl, sym, ap, subst, _∙_}
 use mathlib.Core.Bool.{Bool, true, false, cond}
 use mathlib.Core.List.{List, [], _∷_}
-use Prim.Native.Nat.{ℕ, _+_, _*_, _/_, _≤_, _<_}
-use native.Mathlib.Nat.{div-lt-iff-lt-mul, le-div-iff-mul-le}
-use native.Mathlib.Decide.{decLe, ℕ-discrete}
+use Prim.Native.Nat.{ℕ, _+_, _≤_, _<_}
+use native.Mathlib.Decide.{decLe}
 use native.Mathlib.Omega.{arith}
 use borrow.Author.Tests.{lt-ltb, le-ltb, ltb-false}
 use lib.Dec.{ltb}
@@ -12,7 +11,7 @@ use lib.ListN.{length, getD}
 use Rattle.definitions.specs.Answer.{Answer, fine, refused, _then_}
 use Rattle.definitions.specs.Leaf.{limited}
 use Rattle.protocol.specs.Checks.{require, first}
-use Rattle.protocol.specs.Parameters.{Parameters, parameters, rounded-up, some-constraint, limits, kappa-is-L}
+use Rattle.protocol.specs.Parameters.{Parameters, parameters, rounded-up, some-constraint, limits, enough-aggregations}
 use Rattle.protocol.specs.Layout.{span, counted, first-section}
 use Rattle.protocol.proofs.Fine.{require-holds, require-fails, required, refused-not-fine, then-fine-left, then-fine-right}
 use Rattle.protocol.proofs.Checks.{then-fine}
@@ -44,12 +43,12 @@ limited-fine least greatest place x e =
     let low = cond-no (ltb x least) (cond (ltb greatest x) (refused 4 place) fine) 4 place e in
     (ltb-false x least (low .0), ltb-false greatest x (cond-no (ltb greatest x) fine 4 place (low .1) .0))
 
--- the least and the greatest values by place, of a least l; the count is 29
+-- the least and the greatest values by place, of a least l; the count is 30
 abbrev pub least : ℕ → List ℕ
-least l = 29 ∷ 1 ∷ 1 ∷ 1 ∷ 1 ∷ 1 ∷ 0 ∷ l ∷ 16 ∷ 2 ∷ 1 ∷ 1 ∷ []
+least l = 30 ∷ 1 ∷ 1 ∷ 1 ∷ 1 ∷ 1 ∷ 0 ∷ l ∷ 16 ∷ 2 ∷ 1 ∷ 1 ∷ 1 ∷ []
 
 abbrev pub greatest : List ℕ
-greatest = 29 ∷ 64 ∷ 16 ∷ 16 ∷ 16 ∷ 16 ∷ 64 ∷ 64 ∷ 32 ∷ 4294967294 ∷ 32 ∷ 32 ∷ []
+greatest = 30 ∷ 64 ∷ 16 ∷ 16 ∷ 16 ∷ 16 ∷ 64 ∷ 64 ∷ 32 ∷ 4294967294 ∷ 32 ∷ 32 ∷ 32 ∷ []
 
 -- l from its least value on is l from 0 on, and not both 0
 l-limited : (K l : ℕ) → limited (least-l K) 64 7 l ≡ limited 0 64 7 l then require (decLe 1 (K + l)) (refused 4 7)
@@ -69,21 +68,21 @@ l-limited K l = go (decLe 1 K) (decLe 1 l)
         ∙ sym (ap (λ a. a then require (decLe 1 (K + l)) (refused 4 7)) (limited-within 0 64 7 l (omega arith) (omega arith)) ∙ require-fails (decLe 1 (K + l)) (refused 4 7) (λ both. omega arith))
 
 -- the limits one after the other are those of the lists
-pub limits-first : (J : List ℕ) → first 11 (limit-at (least (least-l (getD J 6 0))) greatest J) ≡ limits (parameters J)
+pub limits-first : (J : List ℕ) → first 12 (limit-at (least (least-l (getD J 6 0))) greatest J) ≡ limits (parameters J)
 unfolding first limits
 limits-first J =
     let P = parameters J in
     let head = limited 1 64 1 (P .n) then limited 1 16 2 (P .r) then limited 1 16 3 (P .κ) then limited 1 16 4 (P .κ₁) then limited 1 16 5 (P .κ₂) then limited 0 64 6 (P .K) in
-    ap (λ a. a then limited 16 32 8 (P .log-q) then limited 2 4294967294 9 (P .b) then limited 1 32 10 (P .t₁) then limited 1 32 11 (P .t₂))
+    ap (λ a. a then limited 16 32 8 (P .log-q) then limited 2 4294967294 9 (P .b) then limited 1 32 10 (P .t₁) then limited 1 32 11 (P .t₂) then limited 1 32 12 (P .L))
     (ap (λ a. head then a) (l-limited (P .K) (P .l)) ∙ sym (then-assoc head (limited 0 64 7 (P .l)) (some-constraint P)))
 
 -- the same of a least l that is worked out
-pub limits-by : (J : List ℕ) (l : ℕ) → l ≡ least-l (getD J 6 0) → first 11 (limit-at (least l) greatest J) ≡ limits (parameters J)
-limits-by J l e = ap (λ m. first 11 (limit-at (least m) greatest J)) e ∙ limits-first J
+pub limits-by : (J : List ℕ) (l : ℕ) → l ≡ least-l (getD J 6 0) → first 12 (limit-at (least l) greatest J) ≡ limits (parameters J)
+limits-by J l e = ap (λ m. first 12 (limit-at (least m) greatest J)) e ∙ limits-first J
 
 module _ (J : List ℕ) (e : limits (parameters J) ≡ fine) where
-  one : (k : ℕ) → k < 11 → limit-at (least (least-l (getD J 6 0))) greatest J k ≡ fine
-  one = first-each 11 (limit-at (least (least-l (getD J 6 0))) greatest J) (limits-first J ∙ e)
+  one : (k : ℕ) → k < 12 → limit-at (least (least-l (getD J 6 0))) greatest J k ≡ fine
+  one = first-each 12 (limit-at (least (least-l (getD J 6 0))) greatest J) (limits-first J ∙ e)
 
   -- parameters whose limits are refused nothing are within them
   pub within : Within (parameters J)
@@ -99,34 +98,28 @@ module _ (J : List ℕ) (e : limits (parameters J) ≡ fine) where
     b = limited-fine 2 4294967294 9 (getD J 9 0) (one 8 (omega arith));
     t₁ = limited-fine 1 32 10 (getD J 10 0) (one 9 (omega arith));
     t₂ = limited-fine 1 32 11 (getD J 11 0) (one 10 (omega arith));
+    L = limited-fine 1 32 12 (getD J 12 0) (one 11 (omega arith));
   }
 
--- 128 divided by 16 to 32 and rounded up is 4 to 8
-rounded-within : (q : ℕ) → 16 ≤ q → q ≤ 32 → (4 ≤ rounded-up q) × (rounded-up q ≤ 8)
-rounded-within q h g =
-    let most : rounded-up q < 9 = div-lt-iff-lt-mul {k = q} {x = 127 + q} {y = 9} (omega arith) .1 (omega arith) in
-    (le-div-iff-mul-le {k = q} {x = 4} {y = 127 + q} (omega arith) .1 (omega arith), omega arith)
-
--- κ = L of parameters that are those of a record
+-- L against its least, of parameters that are those of a record
 module _ (P Q : Parameters) (e : Q ≡ P) where
-  pub kappa-holds : Q .κ ≡ Q .L → fine ≡ kappa-is-L P
-  unfolding kappa-is-L
-  kappa-holds h = sym (subst (λ P. kappa-is-L P ≡ fine) e (require-holds (ℕ-discrete (Q .κ) (Q .L)) (refused 5 3) h))
+  pub enough : rounded-up (Q .log-q) ≤ Q .L → fine ≡ enough-aggregations P
+  unfolding enough-aggregations
+  enough h = sym (subst (λ P. enough-aggregations P ≡ fine) e (require-holds (decLe (rounded-up (Q .log-q)) (Q .L)) (refused 5 12) h))
 
-  pub kappa-fails : (Q .κ ≡ Q .L → ⊥) → refused 5 3 ≡ kappa-is-L P
-  unfolding kappa-is-L
-  kappa-fails h = sym (subst (λ P. kappa-is-L P ≡ refused 5 3) e (require-fails (ℕ-discrete (Q .κ) (Q .L)) (refused 5 3) h))
+  pub too-few : Q .L < rounded-up (Q .log-q) → refused 5 12 ≡ enough-aggregations P
+  unfolding enough-aggregations
+  too-few h = sym (subst (λ P. enough-aggregations P ≡ refused 5 12) e (require-fails (decLe (rounded-up (Q .log-q)) (Q .L)) (refused 5 12) (λ g. omega arith)))
 
 -- a section one that is refused nothing
 pub sound : (J : List ℕ) → section-one J ≡ fine → Sound J
-unfolding kappa-is-L span
+unfolding enough-aggregations span
 sound J e =
     let P = parameters J in
-    let two = then-fine-left (counted 3 J 0 first-section then limits P) (kappa-is-L P) e in
+    let two = then-fine-left (counted 3 J 0 first-section then limits P) (enough-aggregations P) e in
     let fits = within J (then-fine-right (counted 3 J 0 first-section) (limits P) two) in
     record {
       room = counted-inside 3 J 0 first-section (omega arith) (then-fine-left (counted 3 J 0 first-section) (limits P) two);
       within = fits;
-      kappa = required (ℕ-discrete (P .κ) (P .L)) (refused 5 3) (refused-not-fine 5 3) (then-fine-right (counted 3 J 0 first-section then limits P) (kappa-is-L P) e);
-      aggregated = rounded-within (P .log-q) (fits .log-q .0) (fits .log-q .1);
+      aggregated = required (decLe (rounded-up (P .log-q)) (P .L)) (refused 5 12) (refused-not-fine 5 12) (then-fine-right (counted 3 J 0 first-section then limits P) (enough-aggregations P) e);
     }

@@ -17,11 +17,11 @@ parametersOf p = record {
   b = p .b;
   t₁ = p .«t_1»;
   t₂ = p .«t_2»;
+  L = p .«const_agg_length»;
   beta-sq = value128 (p .«beta_sq»);
   beta-prime-sq = value128 (p .«beta_prime_sq»);
   bound-A = value128 (p .«bound_a»);
   bound-B = value128 (p .«bound_b»);
   bound-C = value128 (p .«bound_c»);
   bound-D = value128 (p .«bound_d»);
-  L = p .«const_agg_length»;
 }

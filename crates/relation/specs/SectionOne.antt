@@ -7,7 +7,7 @@ use lib.Dec.{ltb}
 use lib.ListN.{length, getD}
 use Rattle.definitions.specs.Answer.{Answer, fine, ofRefusal, _then_}
 use Rattle.definitions.specs.Leaf.{limited}
-use Rattle.protocol.specs.Parameters.{Parameters, parameters, limits, kappa-is-L}
+use Rattle.protocol.specs.Parameters.{Parameters, parameters, rounded-up, limits, enough-aggregations}
 use Rattle.protocol.specs.Layout.{counted, first-section}
 use Rattle.relation.specs.declared.section_one.SectionOne.{SectionOne}
 use Rattle.relation.specs.declared.section_one.SectionOne.the-variants as S
@@ -15,7 +15,7 @@ use Rattle.relation.specs.Parameters.{parametersOf}
 
 -- "section one by 3, then 4, 5": the first tests of the job
 abbrev pub section-one : List ℕ → Answer
-section-one J = counted 3 J 0 first-section then limits (parameters J) then kappa-is-L (parameters J)
+section-one J = counted 3 J 0 first-section then limits (parameters J) then enough-aggregations (parameters J)
 
 -- the test of parameter k, counted from 0, of lists of least and greatest values by place
 abbrev pub limit-at : List ℕ → List ℕ → List ℕ → ℕ → Answer
@@ -47,10 +47,10 @@ pub record Within (P : Parameters) : Type 0 where
   pub b : (2 ≤ P .b) × (P .b ≤ 4294967294)
   pub t₁ : (1 ≤ P .t₁) × (P .t₁ ≤ 32)
   pub t₂ : (1 ≤ P .t₂) × (P .t₂ ≤ 32)
+  pub L : (1 ≤ P .L) × (P .L ≤ 32)
 
 -- a section one that is refused nothing
 pub record Sound (J : List ℕ) : Type 0 where
-  pub room : 30 ≤ length J
+  pub room : 31 ≤ length J
   pub within : Within (parameters J)
-  pub kappa : parameters J .κ ≡ parameters J .L
-  pub aggregated : (4 ≤ parameters J .L) × (parameters J .L ≤ 8)
+  pub aggregated : rounded-up (parameters J .log-q) ≤ parameters J .L

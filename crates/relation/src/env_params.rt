@@ -55,8 +55,8 @@ fn bound(job: &[u32], at: usize) -> U128
     }
 }
 
-// "L = 128 divided by log_q, rounded up."
-fn aggregation_length(log_q: usize) -> usize
+// "128 divided by log_q, rounded up": the least L.
+pub fn least_aggregations(log_q: usize) -> usize
     requires { ⌜ (16 ≤ «log_q») × («log_q» ≤ 32) ⌝ }
     ensures { λ r. ⌜ r ≡ rounded-up «log_q» ⌝ }
 {
@@ -66,29 +66,28 @@ fn aggregation_length(log_q: usize) -> usize
 impl EnvironmentParameters {
     // The parameters that the words of section one stand for.
     pub fn of_words(job: &[u32]) -> EnvironmentParameters
-        requires { ⌜ (30 ≤ length (now job)) × (16 ≤ getD (now job) 8 0) × (getD (now job) 8 0 ≤ 32) ⌝ }
+        requires { ⌜ 31 ≤ length (now job) ⌝ }
         ensures { λ r. ⌜ parametersOf r ≡ parameters (now (job .entry)) ⌝ }
     {
-        let log_q = size(job, 8);
         EnvironmentParameters {
             rank: size(job, 1),
             multiplicity: size(job, 2),
             b: job[9],
             t_1: size(job, 10),
             t_2: size(job, 11),
-            beta_sq: bound(job, 12),
-            beta_prime_sq: bound(job, 15),
+            beta_sq: bound(job, 13),
+            beta_prime_sq: bound(job, 16),
             kappa: size(job, 3),
             kappa_1: size(job, 4),
             kappa_2: size(job, 5),
             constraint_k: size(job, 6),
             constraint_l: size(job, 7),
-            const_agg_length: aggregation_length(log_q),
-            log_q,
-            bound_a: bound(job, 18),
-            bound_b: bound(job, 21),
-            bound_c: bound(job, 24),
-            bound_d: bound(job, 27),
+            const_agg_length: size(job, 12),
+            log_q: size(job, 8),
+            bound_a: bound(job, 19),
+            bound_b: bound(job, 22),
+            bound_c: bound(job, 25),
+            bound_d: bound(job, 28),
         }
     }
 }

@@ -32,7 +32,7 @@ module _ (J R X : List ℕ) where
   open Message (message P X) using (z, t, g, h)
 
   -- check 24, left: row k of A·z
-  pub row-of-A : (k : ℕ) → dot n (vector J (30 + start (job-sections P) 6) n k) (run X (start (transcript-sections P) 4) 64) ≡ dot n (A k) z
+  pub row-of-A : (k : ℕ) → dot n (vector J (31 + start (job-sections P) 6) n k) (run X (start (transcript-sections P) 4) 64) ≡ dot n (A k) z
   row-of-A k = refl
 
   module _ (S : List ℕ) (c-at : ℕ) (holds : Elements S c-at r c) where

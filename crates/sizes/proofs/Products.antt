@@ -25,9 +25,9 @@ pub record Products (P : Parameters) (t : ℕ) : Type 0 where
   pub c-words : P .κ₁ * (t * P .t₂) ≤ 69632
   pub tt₁ : t * P .t₁ ≤ 4352
   pub d-words : P .κ₂ * (t * P .t₁) ≤ 69632
-  pub Ll : P .L * P .l ≤ 512
-  pub Lrn : P .L * (P .r * P .n) ≤ 8192
-  pub Lt : P .L * t ≤ 1088
+  pub Ll : P .L * P .l ≤ 2048
+  pub Lrn : P .L * (P .r * P .n) ≤ 32768
+  pub Lt : P .L * t ≤ 4352
 
 pub products : (P : Parameters) (t : ℕ) → Sized P → t ≤ 136 → Products P t
 products P t s h =
@@ -56,9 +56,9 @@ products P t s h =
       c-words = mul-le-mul (w .κ₁ .1) tt₂;
       tt₁ = tt₁;
       d-words = mul-le-mul (w .κ₂ .1) tt₁;
-      Ll = mul-le-mul (s .aggregated) (w .l .1);
-      Lrn = mul-le-mul (s .aggregated) rn;
-      Lt = mul-le-mul (s .aggregated) h;
+      Ll = mul-le-mul (w .L .1) (w .l .1);
+      Lrn = mul-le-mul (w .L .1) rn;
+      Lt = mul-le-mul (w .L .1) h;
     }
 
 -- the sections of each slice take few words

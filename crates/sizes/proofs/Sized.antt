@@ -8,4 +8,4 @@ use Rattle.sizes.specs.Sizes.{Sized}
 
 -- parameters that are those of a sound section one
 pub sized : (J : List ℕ) (Q : Parameters) → Sound J → Q ≡ parameters J → Sized Q
-sized J Q s e = subst Sized (sym e) (record { within = s .within; aggregated = s .aggregated .1 })
+sized J Q s e = subst Sized (sym e) (record { within = s .within })

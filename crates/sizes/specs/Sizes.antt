@@ -9,10 +9,9 @@ use Rattle.layout.specs.declared.sections.Sections.{Sections}
 use Rattle.layout.specs.Sections.{listed}
 use Rattle.relation.specs.SectionOne.{Within}
 
--- parameters within their limits, with an L that those allow; κ need not be L
+-- parameters within their limits; L need not be the least that 5 allows
 pub record Sized (P : Parameters) : Type 0 where
   pub within : Within P
-  pub aggregated : P .L ≤ 8
 
 -- a table lists the sections, which take few words
 pub record IsTable (ss : List Section) (s : Sections) : Type 0 where

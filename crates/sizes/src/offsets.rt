@@ -11,9 +11,9 @@ ghost use Rattle.sizes.specs.Sizes.{Sized};
 // Of the job's sections after section one, counted from 0.
 pub fn of_job(p: EnvironmentParameters, m: usize) -> usize
     requires { ⌜ Sized (parametersOf p) × (m < 10) ⌝ }
-    ensures { λ r. ⌜ r ≡ 30 + start (job-sections (parametersOf p)) m ⌝ }
+    ensures { λ r. ⌜ r ≡ 31 + start (job-sections (parametersOf p)) m ⌝ }
 {
-    30 + sections::start(slices::job_sections(p), m)
+    31 + sections::start(slices::job_sections(p), m)
 }
 
 // Of the randomness's sections.

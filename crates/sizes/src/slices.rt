@@ -93,7 +93,7 @@ pub fn witness_sections(p: EnvironmentParameters) -> Sections
     }
 }
 
-// "Transcript: u1 (κ1 elements), p (256 words), b'' (κ elements), u2 (κ2), z (n), t (r·κ), g (T), h (T)."
+// "Transcript: u1 (κ1 elements), p (256 words), b''" of L elements, "u2 (κ2), z (n), t (r·κ), g (T), h (T)."
 pub fn transcript_sections(p: EnvironmentParameters) -> Sections
     requires { ⌜ Sized (parametersOf p) ⌝ }
     ensures { λ s. ⌜ IsTable (transcript-sections (parametersOf p)) s ⌝ }
@@ -103,12 +103,13 @@ pub fn transcript_sections(p: EnvironmentParameters) -> Sections
     let kappa = p.kappa;
     let kappa_1 = p.kappa_1;
     let kappa_2 = p.kappa_2;
+    let rows = p.const_agg_length;
     let t = triangle(r);
     Sections {
         counts: [
             64 * kappa_1,
             256,
-            64 * kappa,
+            64 * rows,
             64 * kappa_2,
             64 * n,
             64 * (r * kappa),

@@ -34,26 +34,26 @@ projection-sizes pi s out n r e =
     (m .0, m .1, eqb-true pi (r * 256 * (64 * n)) (l .0), eqb-true s (r * (64 * n)) (l .1), eqb-true out 256 (l .2))
 
 -- the sizes of φ'', and the products of them
-pub phi-limits : (r n count number : ℕ) → leb n 64 && leb r 16 && (leb count 64 && leb number 8) ≡ true
-    → (n ≤ 64) × (r ≤ 16) × (count ≤ 64) × (number ≤ 8) × (r * n ≤ 16 * 64) × (number * count ≤ 8 * 64) × (r * n * count ≤ 16 * 64 * 64) × (number * (r * n) ≤ 8 * (16 * 64))
+pub phi-limits : (r n count number : ℕ) → leb n 64 && leb r 16 && (leb count 64 && leb number 32) ≡ true
+    → (n ≤ 64) × (r ≤ 16) × (count ≤ 64) × (number ≤ 32) × (r * n ≤ 16 * 64) × (number * count ≤ 32 * 64) × (r * n * count ≤ 16 * 64 * 64) × (number * (r * n) ≤ 32 * (16 * 64))
 phi-limits r n count number e =
-    let h = three (leb n 64) (leb r 16) (leb count 64 && leb number 8) e in
-    let k = both (leb count 64) (leb number 8) (h .2) in
+    let h = three (leb n 64) (leb r 16) (leb count 64 && leb number 32) e in
+    let k = both (leb count 64) (leb number 32) (h .2) in
     let n≤ = leb-true n 64 (h .0) in
     let r≤ = leb-true r 16 (h .1) in
     let count≤ = leb-true count 64 (k .0) in
-    let number≤ = leb-true number 8 (k .1) in
+    let number≤ = leb-true number 32 (k .1) in
     let rn≤ : r * n ≤ 16 * 64 = mul-le-mul r≤ n≤ in
     (n≤, r≤, count≤, number≤, rn≤, mul-le-mul number≤ count≤, mul-le-mul rn≤ count≤, mul-le-mul number≤ rn≤)
 
 -- the lengths of φ''
 pub phi-lengths : (phi randomness out r n count number : ℕ) → phi-fits phi randomness out r n count number ≡ true
-    → (leb n 64 && leb r 16 && (leb count 64 && leb number 8) ≡ true) × (phi ≡ 64 * (r * n * count)) × (randomness ≡ omega-place r n count number + number * 256) × (out ≡ 64 * (number * (r * n)))
+    → (leb n 64 && leb r 16 && (leb count 64 && leb number 32) ≡ true) × (phi ≡ 64 * (r * n * count)) × (randomness ≡ omega-place r n count number + number * 256) × (out ≡ 64 * (number * (r * n)))
 phi-lengths phi randomness out r n count number e =
     let a = eqb phi (64 * (r * n * count)) in
     let b = eqb randomness (omega-place r n count number + number * 256) in
     let c = eqb out (64 * (number * (r * n))) in
-    let h = both (leb n 64 && leb r 16 && (leb count 64 && leb number 8)) (a && b && c) e in
+    let h = both (leb n 64 && leb r 16 && (leb count 64 && leb number 32)) (a && b && c) e in
     let l = three a b c (h .1) in
     (h .0, eqb-true phi (64 * (r * n * count)) (l .0), eqb-true randomness (omega-place r n count number + number * 256) (l .1), eqb-true out (64 * (number * (r * n))) (l .2))
 

@@ -21,7 +21,7 @@ omega-place r n count number = psi-place r n + number * count
 -- `count` constraints of r vectors of n elements; the matrices, psi and omega; and `number` times r vectors
 abbrev pub phi-fits : (phi randomness out r n count number : ℕ) → Bool
 phi-fits phi randomness out r n count number =
-    (leb n 64 && leb r 16 && (leb count 64 && leb number 8))
+    (leb n 64 && leb r 16 && (leb count 64 && leb number 32))
     && (eqb phi (64 * (r * n * count)) && eqb randomness (omega-place r n count number + number * 256) && eqb out (64 * (number * (r * n))))
 
 -- the matrices B and C of `rows` rows, with an entry for each digit of t's and g's cells; those cells; and `rows` elements

@@ -36,7 +36,7 @@ pub fn phi_fits(
 ) -> bool
     ensures { λ b. ⌜ b ≡ phi-fits phi randomness out r n count number ⌝ }
 {
-    if (n <= 64) & (r <= 16) & ((count <= 64) & (number <= 8)) {
+    if (n <= 64) & (r <= 16) & ((count <= 64) & (number <= 32)) {
         (phi == 64 * (r * n * count))
             & (randomness == r * 256 * (64 * n) + number * count + number * 256)
             & (out == 64 * (number * (r * n)))

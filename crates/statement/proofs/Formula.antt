@@ -40,12 +40,12 @@ module _ (J R W : List ℕ) where
 
   -- ring constraint k
   pub ring-left : (k : ℕ)
-      → form RqOps r n (triangle-at J (30 + start (job-sections P) 3 + 64 * (k * T P))) (vector J (30 + start (job-sections P) 4 + 64 * (k * r * n)) n) (vector W (start (witness-sections P) 0) n)
+      → form RqOps r n (triangle-at J (31 + start (job-sections P) 3 + 64 * (k * T P))) (vector J (31 + start (job-sections P) 4 + 64 * (k * r * n)) n) (vector W (start (witness-sections P) 0) n)
       ≡ left P (a k) (φ k) (witness P W)
-  ring-left k = constraint-form J (30 + start (job-sections P) 3) (30 + start (job-sections P) 4) (T P) r n k (witness P W)
+  ring-left k = constraint-form J (31 + start (job-sections P) 3) (31 + start (job-sections P) 4) (T P) r n k (witness P W)
 
   -- constant-term constraint x
   pub constant-left : (x : ℕ)
-      → form RqOps r n (triangle-at J (30 + start (job-sections P) 0 + 64 * (x * T P))) (vector J (30 + start (job-sections P) 1 + 64 * (x * r * n)) n) (vector W (start (witness-sections P) 0) n)
+      → form RqOps r n (triangle-at J (31 + start (job-sections P) 0 + 64 * (x * T P))) (vector J (31 + start (job-sections P) 1 + 64 * (x * r * n)) n) (vector W (start (witness-sections P) 0) n)
       ≡ left P (a′ x) (φ′ x) (witness P W)
-  constant-left x = constraint-form J (30 + start (job-sections P) 0) (30 + start (job-sections P) 1) (T P) r n x (witness P W)
+  constant-left x = constraint-form J (31 + start (job-sections P) 0) (31 + start (job-sections P) 1) (T P) r n x (witness P W)

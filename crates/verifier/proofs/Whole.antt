@@ -103,10 +103,10 @@ module _ (J R T : List ℕ) (p : EnvironmentParameters) where
     call-sized = reckoned (sent-of .posed)
 
     -- and regions be laid out
-    pub few-regions : (p .rank ≤ 64) × (p .multiplicity ≤ 16) × (p .kappa ≤ 16) × (p .«const_agg_length» ≤ 16)
+    pub few-regions : (p .rank ≤ 64) × (p .multiplicity ≤ 16) × (p .kappa ≤ 16) × (p .«const_agg_length» ≤ 32)
     few-regions =
         let w = call-sized .within in
-        (w .n .1, w .r .1, w .κ .1, omega (arith, call-sized .aggregated))
+        (w .n .1, w .r .1, w .κ .1, w .L .1)
 
     -- with the regions of its scratch
     pub ready-of : (q : Regions) (S : List ℕ) → length S ≡ scratch → Places.Laid (p .rank) (p .multiplicity) (p .kappa) (p .«const_agg_length») q → Ready J p q S

@@ -39,7 +39,7 @@ use Rattle.verifier_commitments.proofs.Compared.{compared}
 
 -- where the words of the job's section m after the parameters start
 abbrev pub job-at : Parameters → ℕ → ℕ
-job-at P m = 30 + start (job-sections P) m
+job-at P m = 31 + start (job-sections P) m
 
 -- cells that lie within a slice
 cells-at : (X : List ℕ) (at cells count parts : ℕ) → cells ≡ count → at + 64 * count ≤ length X → cells ≤ 2 ^ 20 → parts ≤ 32 → Cells X (digits at cells parts)

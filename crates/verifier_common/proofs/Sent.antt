@@ -45,10 +45,10 @@ module _ {J T : List ℕ} {p : EnvironmentParameters} (w : Posed J T p) where
   received = record { sized = reckoned; transcript = subst (λ (P : Parameters). Laid T 0 (transcript-sections P)) (sym (w .same)) (w .transcript) }
 
   -- the words of a section of the job
-  pub job-room : (m at : ℕ) → m < 10 → at ≡ 30 + start (job-sections (parametersOf p)) m → at + nth (job-sections (parametersOf p)) m .count ≤ length J
+  pub job-room : (m at : ℕ) → m < 10 → at ≡ 31 + start (job-sections (parametersOf p)) m → at + nth (job-sections (parametersOf p)) m .count ≤ length J
   job-room m at h e =
       subst (λ x. x + nth (job-sections (parametersOf p)) m .count ≤ length J) (sym e)
-      (subst (λ (P : Parameters). 30 + start (job-sections P) m + nth (job-sections P) m .count ≤ length J) (sym (w .same)) (w .job .inside m h))
+      (subst (λ (P : Parameters). 31 + start (job-sections P) m + nth (job-sections P) m .count ≤ length J) (sym (w .same)) (w .job .inside m h))
 
   -- of the transcript
   pub transcript-room : (m at : ℕ) → m < 8 → at ≡ start (transcript-sections (parametersOf p)) m → at + nth (transcript-sections (parametersOf p)) m .count ≤ length T
@@ -59,12 +59,11 @@ module _ (J X : List ℕ) (p : EnvironmentParameters) (s : Posed J X p) where
   pub placed : (ws : List ℕ) (place count : Parameters → ℕ) (at : ℕ) → at ≡ place (parametersOf p) → place (parameters J) + 64 * count (parameters J) ≤ length ws → at + 64 * count (parametersOf p) ≤ length ws
   placed ws place count at e h = subst (λ a. a + 64 * count (parametersOf p) ≤ length ws) (sym e) (subst (λ Q. place Q + 64 * count Q ≤ length ws) (sym (s .same)) h)
 
-  -- b'', of as many elements as there are aggregated equations
+  -- b'' lies within the transcript
   pub b″-within : (at : ℕ) → at ≡ transcript-at (parametersOf p) 2 → at + 64 * p .«const_agg_length» ≤ length X
   b″-within at e =
       placed X (λ Q. transcript-at Q 2) (λ Q. Q .L) at e
-      (subst (λ k. transcript-at (parameters J) 2 + 64 * k ≤ length X) (s .sound .kappa)
-      (from-nothing (transcript-at (parameters J) 2) (64 * parameters J .κ) (length X) (s .transcript .inside 2 (omega arith))))
+      (from-nothing (transcript-at (parameters J) 2) (64 * parameters J .L) (length X) (s .transcript .inside 2 (omega arith)))
 
 module _ (X : List ℕ) (p : EnvironmentParameters) (s : Received X p) where
   -- z, t, g and h lie within the transcript

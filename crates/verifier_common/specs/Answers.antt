@@ -66,7 +66,7 @@ module _ (J T : List ℕ) where
 
 -- of a job, a randomness and a transcript
 module _ (J R T : List ℕ) where
-  -- "22 for some k below κ, the constant coefficient of b''_k is not Σ psi[k][l]·b0[l] + Σ omega[k][j]·p[j]"
+  -- "22 for some k below" L, "the constant coefficient of b''_k is not Σ psi[k][l]·b0[l] + Σ omega[k][j]·p[j]"
   abbrev pub constant-terms : Answer
   constant-terms = check-22 (public J R) (message (parameters J) T)
 

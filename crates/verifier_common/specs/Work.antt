@@ -22,7 +22,7 @@ pub record Received (T : List ℕ) (p : EnvironmentParameters) : Type 0 where
 pub record Posed (J T : List ℕ) (p : EnvironmentParameters) : Type 0 where
   pub same : parametersOf p ≡ parameters J
   pub sound : Sound J
-  pub job : Laid J 30 (job-sections (parameters J))
+  pub job : Laid J 31 (job-sections (parameters J))
   pub transcript : Laid T 0 (transcript-sections (parameters J))
 
 -- with a randomness

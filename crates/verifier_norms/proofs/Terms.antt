@@ -39,21 +39,21 @@ abbrev pub test : (J R T : List ℕ) → ℕ → Answer
 test J R T k = require (ℕ-discrete (sent-word J T k) (computed-word J R T k)) (failed 22 (k ∷ sent-word J T k ∷ computed-word J R T k ∷ []))
 
 -- 22 is the tests one after the other
-pub check-22-is : (J R T : List ℕ) → first (parameters J .κ) (test J R T) ≡ check-22 (public J R) (message (parameters J) T)
+pub check-22-is : (J R T : List ℕ) → first (parameters J .L) (test J R T) ≡ check-22 (public J R) (message (parameters J) T)
 unfolding check-22
 check-22-is J R T = refl
 
 -- sizes and places at which the tests can be made, and what they find there
-pub record Terms (J R T : List ℕ) (κ l b0 psi om projection at : ℕ) : Type 0 where
-  pub rows : κ ≡ parameters J .κ
-  pub few : κ ≤ 16
+pub record Terms (J R T : List ℕ) (L l b0 psi om projection at : ℕ) : Type 0 where
+  pub rows : L ≡ parameters J .L
+  pub few : L ≤ 32
   pub short : l ≤ 64
   pub b0-room : b0 + l ≤ length J
-  pub psi-room : (k : ℕ) → k < κ → psi + k * l + l ≤ length R
-  pub om-room : (k : ℕ) → k < κ → om + k * 256 + 256 ≤ length R
+  pub psi-room : (k : ℕ) → k < L → psi + k * l + l ≤ length R
+  pub om-room : (k : ℕ) → k < L → om + k * 256 + 256 ≤ length R
   pub projection-room : projection + 256 ≤ length T
-  pub at-room : (k : ℕ) → k < κ → at + 64 * k < length T
-  pub sent-is : (k : ℕ) → k < κ → sent-word J T k ≡ getD T (at + 64 * k) 0
+  pub at-room : (k : ℕ) → k < L → at + 64 * k < length T
+  pub sent-is : (k : ℕ) → k < L → sent-word J T k ≡ getD T (at + 64 * k) 0
   pub computed-is : (k : ℕ) → computed-word J R T k ≡ constant-term J b0 l R (psi + k * l) (om + k * 256) T projection
 
 -- row k of n rows of l words ends within them
@@ -76,10 +76,6 @@ b-within a k n len h e = omega arith
 b-index : (k n : ℕ) → k < n → 64 * k < 64 * n
 b-index k n h = omega arith
 
--- below one of two equal numbers
-as-many : (k n m : ℕ) → n ≡ m → k < n → k < m
-as-many k n m e h = omega arith
-
 -- the first word of an element of canonical words
 first-word : (T : List ℕ) (from : ℕ) → getD T from 0 < Q → getD (part T from 64) 0 0 % Q ≡ getD T from 0
 first-word T from h = ap (λ x. x % Q) (getD-part 0 T from 64 0 (omega arith) ∙ ap (λ i. getD T i 0) (add-zero from)) ∙ mod-eq-of-lt h
@@ -94,26 +90,26 @@ module _ {J R T : List ℕ} {p : EnvironmentParameters} (w : Sent J R T p) where
   at-b″ = start (transcript-sections P) 2
 
   -- the words of b'' are canonical
-  canonical-word : (k : ℕ) → k < P .κ → getD T (at-b″ + 64 * k) 0 < Q
+  canonical-word : (k : ℕ) → k < P .L → getD T (at-b″ + 64 * k) 0 < Q
   canonical-word k h =
-      subst (λ i. getD T (i + 64 * k) 0 < Q) (zero-add at-b″) (w .posed .transcript .ranges 2 (64 * k) (omega arith) (b-index k (P .κ) h))
+      subst (λ i. getD T (i + 64 * k) 0 < Q) (zero-add at-b″) (w .posed .transcript .ranges 2 (64 * k) (omega arith) (b-index k (P .L) h))
 
   -- at the places of the sections
-  at-sections : Terms J R T (P .κ) (P .l) (30 + start (job-sections P) 2) (start (randomness-sections P) 1) (start (randomness-sections P) 2) (start (transcript-sections P) 1) (start (transcript-sections P) 2)
+  at-sections : Terms J R T (P .L) (P .l) (31 + start (job-sections P) 2) (start (randomness-sections P) 1) (start (randomness-sections P) 2) (start (transcript-sections P) 1) (start (transcript-sections P) 2)
   at-sections = record {
     rows = refl;
-    few = w .posed .sound .within .κ .1;
+    few = w .posed .sound .within .L .1;
     short = w .posed .sound .within .l .1;
     b0-room = w .posed .job .inside 2 (omega arith);
-    psi-room = λ k h. psi-within (start (randomness-sections P) 1) k (P .L) (P .l) (length R) (as-many k (P .κ) (P .L) (w .posed .sound .kappa) h) (w .drawn 1 (omega arith));
-    om-room = λ k h. om-within (start (randomness-sections P) 2) k (P .L) (length R) (as-many k (P .κ) (P .L) (w .posed .sound .kappa) h) (w .drawn 2 (omega arith));
+    psi-room = λ k h. psi-within (start (randomness-sections P) 1) k (P .L) (P .l) (length R) h (w .drawn 1 (omega arith));
+    om-room = λ k h. om-within (start (randomness-sections P) 2) k (P .L) (length R) h (w .drawn 2 (omega arith));
     projection-room = p-within (start (transcript-sections P) 1) (length T) (w .posed .transcript .inside 1 (omega arith));
-    at-room = λ k h. b-within at-b″ k (P .κ) (length T) h (w .posed .transcript .inside 2 (omega arith));
+    at-room = λ k h. b-within at-b″ k (P .L) (length T) h (w .posed .transcript .inside 2 (omega arith));
     sent-is = λ k h. coeff-element (part T (at-b″ + 64 * k) 64) 0 (omega arith) ∙ first-word T (at-b″ + 64 * k) (canonical-word k h);
     computed-is = λ k.
         let psi = start (randomness-sections P) 1 in
         let om = start (randomness-sections P) 2 in
-        let b0 = 30 + start (job-sections P) 2 in
+        let b0 = 31 + start (job-sections P) 2 in
         let pr = start (transcript-sections P) 1 in
         ap₂ (λ x y. (x + y) % Q)
         (Σ-ext (P .l) (λ x. getD R (psi + (k * P .l + x)) 0 * getD J (b0 + x) 0) (λ x. getD R (psi + k * P .l + x) 0 * getD J (b0 + x) 0)
@@ -123,19 +119,19 @@ module _ {J R T : List ℕ} {p : EnvironmentParameters} (w : Sent J R T p) where
   }
 
   -- at the places that `offsets` gives
-  pub terms : (b0 psi om projection at : ℕ) → b0 ≡ 30 + start (job-sections (parametersOf p)) 2 → psi ≡ start (randomness-sections (parametersOf p)) 1
+  pub terms : (b0 psi om projection at : ℕ) → b0 ≡ 31 + start (job-sections (parametersOf p)) 2 → psi ≡ start (randomness-sections (parametersOf p)) 1
       → om ≡ start (randomness-sections (parametersOf p)) 2 → projection ≡ start (transcript-sections (parametersOf p)) 1 → at ≡ start (transcript-sections (parametersOf p)) 2
-      → Terms J R T (p .kappa) (p .«constraint_l») b0 psi om projection at
+      → Terms J R T (p .«const_agg_length») (p .«constraint_l») b0 psi om projection at
   terms b0 psi om projection at e₁ e₂ e₃ e₄ e₅ =
-      subst (λ b0. Terms J R T (p .kappa) (p .«constraint_l») b0 psi om projection at) (sym e₁)
-      (subst (λ psi. Terms J R T (p .kappa) (p .«constraint_l») (30 + start (job-sections (parametersOf p)) 2) psi om projection at) (sym e₂)
-      (subst (λ om. Terms J R T (p .kappa) (p .«constraint_l») (30 + start (job-sections (parametersOf p)) 2) (start (randomness-sections (parametersOf p)) 1) om projection at) (sym e₃)
-      (subst (λ pr. Terms J R T (p .kappa) (p .«constraint_l») (30 + start (job-sections (parametersOf p)) 2) (start (randomness-sections (parametersOf p)) 1) (start (randomness-sections (parametersOf p)) 2) pr at) (sym e₄)
-      (subst (λ at. Terms J R T (p .kappa) (p .«constraint_l») (30 + start (job-sections (parametersOf p)) 2) (start (randomness-sections (parametersOf p)) 1) (start (randomness-sections (parametersOf p)) 2) (start (transcript-sections (parametersOf p)) 1) at) (sym e₅)
-      (subst (λ (P : Parameters). Terms J R T (P .κ) (P .l) (30 + start (job-sections P) 2) (start (randomness-sections P) 1) (start (randomness-sections P) 2) (start (transcript-sections P) 1) (start (transcript-sections P) 2)) (sym (w .posed .same)) at-sections)))))
+      subst (λ b0. Terms J R T (p .«const_agg_length») (p .«constraint_l») b0 psi om projection at) (sym e₁)
+      (subst (λ psi. Terms J R T (p .«const_agg_length») (p .«constraint_l») (31 + start (job-sections (parametersOf p)) 2) psi om projection at) (sym e₂)
+      (subst (λ om. Terms J R T (p .«const_agg_length») (p .«constraint_l») (31 + start (job-sections (parametersOf p)) 2) (start (randomness-sections (parametersOf p)) 1) om projection at) (sym e₃)
+      (subst (λ pr. Terms J R T (p .«const_agg_length») (p .«constraint_l») (31 + start (job-sections (parametersOf p)) 2) (start (randomness-sections (parametersOf p)) 1) (start (randomness-sections (parametersOf p)) 2) pr at) (sym e₄)
+      (subst (λ at. Terms J R T (p .«const_agg_length») (p .«constraint_l») (31 + start (job-sections (parametersOf p)) 2) (start (randomness-sections (parametersOf p)) 1) (start (randomness-sections (parametersOf p)) 2) (start (transcript-sections (parametersOf p)) 1) at) (sym e₅)
+      (subst (λ (P : Parameters). Terms J R T (P .L) (P .l) (31 + start (job-sections P) 2) (start (randomness-sections P) 1) (start (randomness-sections P) 2) (start (transcript-sections P) 1) (start (transcript-sections P) 2)) (sym (w .posed .same)) at-sections)))))
 
-module _ {J R T : List ℕ} {κ l b0 psi om projection at : ℕ} (m : Terms J R T κ l b0 psi om projection at) where
+module _ {J R T : List ℕ} {L l b0 psi om projection at : ℕ} (m : Terms J R T L l b0 psi om projection at) where
   -- the test of row k by the values that the code has
-  pub test-is : (k computed : ℕ) → k < κ → computed ≡ constant-term J b0 l R (psi + k * l) (om + k * 256) T projection
+  pub test-is : (k computed : ℕ) → k < L → computed ≡ constant-term J b0 l R (psi + k * l) (om + k * 256) T projection
       → test J R T k ≡ require (ℕ-discrete (getD T (at + 64 * k) 0) computed) (failed 22 (k ∷ getD T (at + 64 * k) 0 ∷ computed ∷ []))
   test-is k computed h e = ap₂ (λ x y. require (ℕ-discrete x y) (failed 22 (k ∷ x ∷ y ∷ []))) (m .sent-is k h) (m .computed-is k ∙ sym e)

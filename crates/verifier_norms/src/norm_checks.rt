@@ -58,7 +58,7 @@ fn constant_term(
     (total % product::MODULUS) as u32
 }
 
-// "22 for some k below κ, the constant coefficient of b''_k is not Σ psi[k][l]·b0[l] + Σ omega[k][j]·p[j] (lowest k, both values)."
+// "22 for some k below" L, "the constant coefficient of b''_k is not Σ psi[k][l]·b0[l] + Σ omega[k][j]·p[j] (lowest k, both values)."
 pub fn check_constant_terms(
     job: &[u32],
     randomness: &[u32],
@@ -75,7 +75,7 @@ pub fn check_constant_terms(
     let projection = offsets::of_transcript(p, 1);
     let at = offsets::of_transcript(p, 2);
     let mut k = 0;
-    while k < p.kappa {
+    while k < p.const_agg_length {
         let sent = transcript[at + 64 * k];
         let computed = constant_term(
             job,

@@ -103,28 +103,28 @@ module _ (J R X : List ℕ) (p : EnvironmentParameters) (q : Regions) (S : List 
 
   -- what the aggregated b requires
   pub mix-requires : (at alpha beta from : ℕ) → length J < 2 ^ 61 → length R < 2 ^ 61 → length X < 2 ^ 61
-      → at ≡ 30 + start (job-sections p′) 5 → alpha ≡ start (randomness-sections p′) 3 → beta ≡ start (randomness-sections p′) 4 → from ≡ transcript-at p′ 2
+      → at ≡ 31 + start (job-sections p′) 5 → alpha ≡ start (randomness-sections p′) 3 → beta ≡ start (randomness-sections p′) 4 → from ≡ transcript-at p′ 2
       → Run J at 64 (p .«constraint_k») × Run R alpha 64 (p .«constraint_k») × Run R beta 64 (p .«const_agg_length») × Run X from 64 (p .«const_agg_length»)
   mix-requires at alpha beta from j r x e f g h =
       let z = reckoned (s .posed) in
       let K : p .«constraint_k» ≤ 2 ^ 20 = omega (arith, z .within .K .1) in
-      let L : p .«const_agg_length» ≤ 2 ^ 20 = omega (arith, z .aggregated) in (
-        row-run J at (p .«constraint_k») (placed J X p (s .posed) J (λ Q. 30 + start (job-sections Q) 5) (λ Q. Q .K) at e (b-within J p q S ready)) K j,
+      let L : p .«const_agg_length» ≤ 2 ^ 20 = omega (arith, z .within .L .1) in (
+        row-run J at (p .«constraint_k») (placed J X p (s .posed) J (λ Q. 31 + start (job-sections Q) 5) (λ Q. Q .K) at e (b-within J p q S ready)) K j,
         row-run R alpha (p .«constraint_k») (placed J X p (s .posed) R (λ Q. start (randomness-sections Q) 3) (λ Q. Q .K) alpha f (alpha-within 7 J R (s .drawn) (omega arith))) K r,
         row-run R beta (p .«const_agg_length») (placed J X p (s .posed) R (λ Q. start (randomness-sections Q) 4) (λ Q. Q .L) beta g (beta-within 7 J R (s .drawn) (omega arith))) L r,
         row-run X from (p .«const_agg_length») (b″-within J X p (s .posed) from h) L x,
       )
 
   -- the rows of A lie within the job
-  pub A-rows : (a-at : ℕ) → a-at ≡ 30 + start (job-sections p′) 6 → a-at + 64 * (p .kappa * p .rank) ≤ length J
-  A-rows a-at e = placed J X p (s .posed) J (λ Q. 30 + start (job-sections Q) 6) (λ Q. Q .κ * Q .n) a-at e (A-within J p q S ready)
+  pub A-rows : (a-at : ℕ) → a-at ≡ 31 + start (job-sections p′) 6 → a-at + 64 * (p .kappa * p .rank) ≤ length J
+  A-rows a-at e = placed J X p (s .posed) J (λ Q. 31 + start (job-sections Q) 6) (λ Q. Q .κ * Q .n) a-at e (A-within J p q S ready)
 
   -- row k ends within them
-  pub row-end : (a-at k : ℕ) → a-at ≡ 30 + start (job-sections p′) 6 → k < p .kappa → a-at + 64 * (k * p .rank) + 64 * p .rank ≤ length J
+  pub row-end : (a-at k : ℕ) → a-at ≡ 31 + start (job-sections p′) 6 → k < p .kappa → a-at + 64 * (k * p .rank) + 64 * p .rank ≤ length J
   row-end a-at k e h = omega (arith, A-rows a-at e, rows-within k (p .kappa) (p .rank) h)
 
   -- and its place is small
-  pub row-bounds : (a-at k : ℕ) → length J < 2 ^ 61 → a-at ≡ 30 + start (job-sections p′) 6 → k < p .kappa → (k * p .rank ≤ 1024) × (a-at + 64 * (k * p .rank) ≤ 2 ^ 62)
+  pub row-bounds : (a-at k : ℕ) → length J < 2 ^ 61 → a-at ≡ 31 + start (job-sections p′) 6 → k < p .kappa → (k * p .rank ≤ 1024) × (a-at + 64 * (k * p .rank) ≤ 2 ^ 62)
   row-bounds a-at k j e h =
       let w = reckoned (s .posed) .within in
       let few : k ≤ 16 = omega (arith, w .κ .1) in
@@ -142,7 +142,7 @@ module _ (J R X : List ℕ) (p : EnvironmentParameters) (q : Regions) (S : List 
   az-passes k h e = sym (ap (λ n. first n (az-test J R X)) (sym (h ∙ ap (λ Q. Q .κ) (s .posed .same))) ∙ e)
 
   -- what row k of A·z requires
-  pub row-requires : (a-at z-at k : ℕ) → length J < 2 ^ 61 → length X < 2 ^ 61 → a-at ≡ 30 + start (job-sections p′) 6 → z-at ≡ transcript-at p′ 4 → k < p .kappa
+  pub row-requires : (a-at z-at k : ℕ) → length J < 2 ^ 61 → length X < 2 ^ 61 → a-at ≡ 31 + start (job-sections p′) 6 → z-at ≡ transcript-at p′ 4 → k < p .kappa
       → Run J (a-at + 64 * (k * p .rank)) 64 (p .rank) × Run X z-at 64 (p .rank)
   row-requires a-at z-at k j x e f h =
       let few : p .rank ≤ 2 ^ 20 = omega (arith, reckoned (s .posed) .within .n .1) in
@@ -156,7 +156,7 @@ module _ (J R X : List ℕ) (p : EnvironmentParameters) (q : Regions) (S : List 
   -- check 27 by the boolean's value, of the words that are compared
   pub relation-answer : (g-at h-at at alpha beta from : ℕ) (products doubled diagonal left b right : List ℕ) (t : Bool) → Holds S (q .a) (a-words J R)
       → g-at ≡ transcript-at p′ 6 → h-at ≡ transcript-at p′ 7
-      → at ≡ 30 + start (job-sections p′) 5 → alpha ≡ start (randomness-sections p′) 3 → beta ≡ start (randomness-sections p′) 4 → from ≡ transcript-at p′ 2
+      → at ≡ 31 + start (job-sections p′) 5 → alpha ≡ start (randomness-sections p′) 3 → beta ≡ start (randomness-sections p′) 4 → from ≡ transcript-at p′ 2
       → products ≡ words (pairs (p .multiplicity) (λ i j. triangle-at S (q .a) i j ⊗ triangle-at X g-at i j))
       → diagonal ≡ words (sum (p .multiplicity) (λ i. triangle-at X h-at i i))
       → b ≡ words (mixed J at 64 (p .«constraint_k») R alpha beta X from 64 (p .«const_agg_length»))
@@ -179,8 +179,8 @@ module _ (J R X : List ℕ) (p : EnvironmentParameters) (q : Regions) (S : List 
       let pz : b ≡ words z =
       hb
       ∙ ap₂ (λ a c. words (mixed J a 64 (p .«constraint_k») R c beta X from 64 (p .«const_agg_length»))) ea eα
-      ∙ ap₂ (λ a c. words (mixed J (30 + start (job-sections p′) 5) 64 (p .«constraint_k») R (start (randomness-sections p′) 3) a X c 64 (p .«const_agg_length»))) eβ ef
-      ∙ ap (λ Q. words (mixed J (30 + start (job-sections Q) 5) 64 (Q .K) R (start (randomness-sections Q) 3) (start (randomness-sections Q) 4) X (transcript-at Q 2) 64 (Q .L))) (s .posed .same)
+      ∙ ap₂ (λ a c. words (mixed J (31 + start (job-sections p′) 5) 64 (p .«constraint_k») R (start (randomness-sections p′) 3) a X c 64 (p .«const_agg_length»))) eβ ef
+      ∙ ap (λ Q. words (mixed J (31 + start (job-sections Q) 5) 64 (Q .K) R (start (randomness-sections Q) 3) (start (randomness-sections Q) 4) X (transcript-at Q 2) 64 (Q .L))) (s .posed .same)
       ∙ ap words (b-sum-is J R X (transcript-at P 2)) in
       let l : left ≡ words (twice x ⊕ y) = words-of-sum left doubled diagonal (twice x) y hl (stands-for doubled (twice x) (words-of-twice doubled products x h2 px)) (stands-for diagonal y py) in
       sym (require-equal (words (twice x ⊕ y)) (words (twice z)) (failed 27 []) t (ht ∙ ap₂ equal l (words-of-twice right b z hr pz)))
@@ -191,7 +191,7 @@ module _ (J R X : List ℕ) (p : EnvironmentParameters) (q : Regions) (S : List 
     weighted r at = pairs r (λ i j. triangle-at X at i j ⊗ run S (q .challenges) 64 i ⊗ run S (q .challenges) 64 j)
 
     -- check 24 for row k by the boolean's value, of the words that are compared
-    pub az-tested : (a-at z-at t-at k : ℕ) (left right : List ℕ) (t : Bool) → a-at ≡ 30 + start (job-sections p′) 6 → z-at ≡ transcript-at p′ 4 → t-at ≡ transcript-at p′ 5
+    pub az-tested : (a-at z-at t-at k : ℕ) (left right : List ℕ) (t : Bool) → a-at ≡ 31 + start (job-sections p′) 6 → z-at ≡ transcript-at p′ 4 → t-at ≡ transcript-at p′ 5
         → left ≡ words (dot (p .rank) (run J (a-at + 64 * (k * p .rank)) 64) (run X z-at 64))
         → right ≡ words (sum (p .multiplicity) (λ i. vector X t-at (p .kappa) i k ⊗ run S (q .challenges) 64 i))
         → t ≡ equal left right → az-test J R X k ≡ cond t fine (failed 24 [])
@@ -199,7 +199,7 @@ module _ (J R X : List ℕ) (p : EnvironmentParameters) (q : Regions) (S : List 
         let l : left ≡ words (dot (P .n) (Y .A k) (M .z)) =
         words-of-vector left J a-at (p .rank) k (a-at + 64 * (k * p .rank)) (run X z-at 64) hl refl
         ∙ ap₂ (λ a z. words (dot (p .rank) (vector J a (p .rank) k) (run X z 64))) ea ez
-        ∙ ap (λ Q. words (dot (Q .n) (vector J (30 + start (job-sections Q) 6) (Q .n) k) (run X (transcript-at Q 4) 64))) (s .posed .same) in
+        ∙ ap (λ Q. words (dot (Q .n) (vector J (31 + start (job-sections Q) 6) (Q .n) k) (run X (transcript-at Q 4) 64))) (s .posed .same) in
         let r : right ≡ words (sum (P .r) (λ i. M .t i k ⊗ Y .c i)) =
         hr
         ∙ ap (λ a. words (sum (p .multiplicity) (λ i. vector X a (p .kappa) i k ⊗ run S (q .challenges) 64 i))) et

@@ -21,7 +21,7 @@ pub struct LabradorLoadNeed {
     pub randomness: u64,
 }
 
-// Job, witness and randomness of eleven parameters and a seed, as they are drawn.
+// Job, witness and randomness of twelve parameters and a seed, as they are drawn.
 pub fn load(
     parameters: LabradorParameters,
     seed: u32,

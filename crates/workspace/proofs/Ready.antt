@@ -68,7 +68,7 @@ module _ (J : List ℕ) (p : EnvironmentParameters) (q : Regions) (S : List ℕ)
   ready-changed S′ e = record { same = h .same; sound = h .sound; job = h .job; regions = h .regions; room = omega (arith, h .room) }
 
   -- the last region ends within the length needed
-  pub regions-end : q .b2 + 64 * 16 ≤ scratch-need (parameters J)
+  pub regions-end : q .b2 + 64 * 32 ≤ scratch-need (parameters J)
   regions-end = regions-fit (parameters J) q (h .sound .within .n .0) (h .regions)
 
   -- φ'' ends where a'' starts
@@ -104,7 +104,7 @@ module _ (J : List ℕ) (p : EnvironmentParameters) (q : Regions) (S : List ℕ)
   u-end = omega (arith, h .regions .b2)
 
   -- b'' within the scratch
-  pub b″-end : q .b2 + 64 * 16 ≤ length S
+  pub b″-end : q .b2 + 64 * 32 ≤ length S
   b″-end = omega (arith, regions-end, h .room)
 
   -- a' lies within the job

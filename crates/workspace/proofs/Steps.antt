@@ -39,7 +39,7 @@ Aggregates J R S at width count alpha beta from number to =
     Grid J at width count × Run R alpha 64 count × Run R beta 64 number × Grid S from width number × (from + 64 * (width * number) ≤ to) × (to + 64 * width ≤ length S)
 
 -- it holds by these bounds
-aggregates : (J R S : List ℕ) (at width count alpha beta from number to : ℕ) → length R < 2 ^ 61 → width ≤ 1024 → count ≤ 64 → number ≤ 8 → at + 64 * (width * count) ≤ length J
+aggregates : (J R S : List ℕ) (at width count alpha beta from number to : ℕ) → length R < 2 ^ 61 → width ≤ 1024 → count ≤ 64 → number ≤ 32 → at + 64 * (width * count) ≤ length J
     → alpha + 64 * count ≤ length R → beta + 64 * number ≤ length R → from + 64 * (width * number) ≤ to → to + 64 * width ≤ length S → Aggregates J R S at width count alpha beta from number to
 aggregates J R S at width count alpha beta from number to short w k l a x y f t = (
   record { within = a; narrow = omega arith; few = omega arith },
@@ -71,8 +71,8 @@ module _ (J R S : List ℕ) (p : EnvironmentParameters) (q : Regions) (h : Ready
   P = parameters J
 
   -- a place in the job by the job's own parameters
-  in-job : (m at : ℕ) → at ≡ 30 + start (job-sections (parametersOf p)) m → at ≡ job-at J m
-  in-job m at e = e ∙ ap (λ Q. 30 + start (job-sections Q) m) (h .same)
+  in-job : (m at : ℕ) → at ≡ 31 + start (job-sections (parametersOf p)) m → at ≡ job-at J m
+  in-job m at e = e ∙ ap (λ Q. 31 + start (job-sections Q) m) (h .same)
 
   -- a place in the randomness
   in-randomness : (m at : ℕ) → at ≡ start (randomness-sections (parametersOf p)) m → at ≡ randomness-at J m
@@ -83,7 +83,7 @@ module _ (J R S : List ℕ) (p : EnvironmentParameters) (q : Regions) (h : Ready
   in-cells cells e = e ∙ ap T (h .same)
 
   -- what `phi_double_prime` requires
-  pub φ″-requires : (at pi psi om : ℕ) → Drawn 3 J R → at ≡ 30 + start (job-sections (parametersOf p)) 1 → pi ≡ start (randomness-sections (parametersOf p)) 0
+  pub φ″-requires : (at pi psi om : ℕ) → Drawn 3 J R → at ≡ 31 + start (job-sections (parametersOf p)) 1 → pi ≡ start (randomness-sections (parametersOf p)) 0
       → psi ≡ start (randomness-sections (parametersOf p)) 1 → om ≡ start (randomness-sections (parametersOf p)) 2
       → Grid J at (p .multiplicity * p .rank) (p .«constraint_l»)
       × (pi + p .multiplicity * 256 * (64 * p .rank) ≤ length R)
@@ -111,7 +111,7 @@ module _ (J R S : List ℕ) (p : EnvironmentParameters) (q : Regions) (h : Ready
       )
 
   -- and what it stores
-  pub φ″-made : (at pi psi om : ℕ) → at ≡ 30 + start (job-sections (parametersOf p)) 1 → pi ≡ start (randomness-sections (parametersOf p)) 0
+  pub φ″-made : (at pi psi om : ℕ) → at ≡ 31 + start (job-sections (parametersOf p)) 1 → pi ≡ start (randomness-sections (parametersOf p)) 0
       → psi ≡ start (randomness-sections (parametersOf p)) 1 → om ≡ start (randomness-sections (parametersOf p)) 2
       → φ″-of J R (parametersOf p) at pi psi om ≡ φ″-words J R
   φ″-made at pi psi om a b c e =
@@ -123,7 +123,7 @@ module _ (J R S : List ℕ) (p : EnvironmentParameters) (q : Regions) (h : Ready
       ∙ φ″-formula J R
 
   -- what `a_double_prime` requires
-  pub a″-requires : (cells at psi : ℕ) → Drawn 2 J R → cells ≡ triangular (p .multiplicity) → at ≡ 30 + start (job-sections (parametersOf p)) 0 → psi ≡ start (randomness-sections (parametersOf p)) 1
+  pub a″-requires : (cells at psi : ℕ) → Drawn 2 J R → cells ≡ triangular (p .multiplicity) → at ≡ 31 + start (job-sections (parametersOf p)) 0 → psi ≡ start (randomness-sections (parametersOf p)) 1
       → Grid J at cells (p .«constraint_l») × (psi + p .«const_agg_length» * p .«constraint_l» ≤ length R) × (q .a2 + 64 * (p .«const_agg_length» * cells) ≤ length S)
   a″-requires cells at psi d t a b =
       let w = h .sound .within in
@@ -139,7 +139,7 @@ module _ (J R S : List ℕ) (p : EnvironmentParameters) (q : Regions) (h : Ready
       ))
 
   -- and what it stores
-  pub a″-made : (cells at psi : ℕ) → cells ≡ triangular (p .multiplicity) → at ≡ 30 + start (job-sections (parametersOf p)) 0 → psi ≡ start (randomness-sections (parametersOf p)) 1
+  pub a″-made : (cells at psi : ℕ) → cells ≡ triangular (p .multiplicity) → at ≡ 31 + start (job-sections (parametersOf p)) 0 → psi ≡ start (randomness-sections (parametersOf p)) 1
       → a″-of J R (parametersOf p) cells at psi ≡ a″-words J R
   a″-made cells at psi t a b =
       ap (λ Q. a″-of J R Q cells at psi) (h .same)
@@ -158,7 +158,7 @@ module _ (J R S : List ℕ) (p : EnvironmentParameters) (q : Regions) (h : Ready
       ∙ splice-append S 0 (φ″-words J R) (a″-words J R)
 
   -- what `aggregate` requires for φ
-  pub φ-requires : (at alpha beta : ℕ) → Drawn 5 J R → length R < 2 ^ 61 → at ≡ 30 + start (job-sections (parametersOf p)) 4
+  pub φ-requires : (at alpha beta : ℕ) → Drawn 5 J R → length R < 2 ^ 61 → at ≡ 31 + start (job-sections (parametersOf p)) 4
       → alpha ≡ start (randomness-sections (parametersOf p)) 3 → beta ≡ start (randomness-sections (parametersOf p)) 4
       → Aggregates J R S at (p .multiplicity * p .rank) (p .«constraint_k») alpha beta (q .phi2) (p .«const_agg_length») (q .phi)
   φ-requires at alpha beta d short a b c =
@@ -167,7 +167,7 @@ module _ (J R S : List ℕ) (p : EnvironmentParameters) (q : Regions) (h : Ready
       (aggregates J R S at (P .r * P .n) (P .K) alpha beta (q .phi2) (P .L) (q .phi) short
       (mul-le-mul (w .r .1) (w .n .1))
       (w .K .1)
-      (h .sound .aggregated .1)
+      (h .sound .within .L .1)
       (omega (arith, in-job 4 at a, φ-within J p q S h))
       (omega (arith, in-randomness 3 alpha b, alpha-within 5 J R d (omega arith)))
       (omega (arith, in-randomness 4 beta c, beta-within 5 J R d (omega arith)))
@@ -175,7 +175,7 @@ module _ (J R S : List ℕ) (p : EnvironmentParameters) (q : Regions) (h : Ready
       (omega (arith, φ-end J p q S h, a-end J p q S h, g-end J p q S h, c-end J p q S h, t-end J p q S h, u-end J p q S h, b″-end J p q S h)))
 
   -- and what it stores
-  pub φ-made : (at alpha beta : ℕ) → Holds S (q .phi2) (φ″-words J R) → at ≡ 30 + start (job-sections (parametersOf p)) 4
+  pub φ-made : (at alpha beta : ℕ) → Holds S (q .phi2) (φ″-words J R) → at ≡ 31 + start (job-sections (parametersOf p)) 4
       → alpha ≡ start (randomness-sections (parametersOf p)) 3 → beta ≡ start (randomness-sections (parametersOf p)) 4
       → sum-of J R S (parametersOf p) (p .multiplicity * p .rank) at alpha beta (q .phi2) ≡ φ-words J R
   φ-made at alpha beta holds a b c =
@@ -186,7 +186,7 @@ module _ (J R S : List ℕ) (p : EnvironmentParameters) (q : Regions) (h : Ready
       ∙ φ-formula J R S (q .phi2) (vectors-list-held S (q .phi2) (P .L) (P .r) (P .n) (φ″ (public J R)) holds)
 
   -- what `aggregate` requires for a
-  pub a-requires : (cells at alpha beta : ℕ) → Drawn 5 J R → length R < 2 ^ 61 → cells ≡ triangular (p .multiplicity) → at ≡ 30 + start (job-sections (parametersOf p)) 3
+  pub a-requires : (cells at alpha beta : ℕ) → Drawn 5 J R → length R < 2 ^ 61 → cells ≡ triangular (p .multiplicity) → at ≡ 31 + start (job-sections (parametersOf p)) 3
       → alpha ≡ start (randomness-sections (parametersOf p)) 3 → beta ≡ start (randomness-sections (parametersOf p)) 4
       → Aggregates J R S at cells (p .«constraint_k») alpha beta (q .a2) (p .«const_agg_length») (q .a)
   a-requires cells at alpha beta d short t a b c =
@@ -196,7 +196,7 @@ module _ (J R S : List ℕ) (p : EnvironmentParameters) (q : Regions) (h : Ready
       (aggregates J R S at (T P) (P .K) alpha beta (q .a2) (P .L) (q .a) short
       (few-cells (P .r) (w .r .1))
       (w .K .1)
-      (h .sound .aggregated .1)
+      (h .sound .within .L .1)
       (omega (arith, in-job 3 at a, a-within J p q S h))
       (omega (arith, in-randomness 3 alpha b, alpha-within 5 J R d (omega arith)))
       (omega (arith, in-randomness 4 beta c, beta-within 5 J R d (omega arith)))
@@ -204,7 +204,7 @@ module _ (J R S : List ℕ) (p : EnvironmentParameters) (q : Regions) (h : Ready
       (omega (arith, a-end J p q S h, g-end J p q S h, c-end J p q S h, t-end J p q S h, u-end J p q S h, b″-end J p q S h))))
 
   -- and what it stores
-  pub a-made : (cells at alpha beta : ℕ) → Holds S (q .a2) (a″-words J R) → cells ≡ triangular (p .multiplicity) → at ≡ 30 + start (job-sections (parametersOf p)) 3
+  pub a-made : (cells at alpha beta : ℕ) → Holds S (q .a2) (a″-words J R) → cells ≡ triangular (p .multiplicity) → at ≡ 31 + start (job-sections (parametersOf p)) 3
       → alpha ≡ start (randomness-sections (parametersOf p)) 3 → beta ≡ start (randomness-sections (parametersOf p)) 4
       → sum-of J R S (parametersOf p) cells at alpha beta (q .a2) ≡ a-words J R
   a-made cells at alpha beta holds t a b c =

@@ -17,7 +17,7 @@ use Rattle.relation.specs.SectionOne.{Sound}
 pub record Ready (J : List ℕ) (p : EnvironmentParameters) (q : Regions) (scratch : List ℕ) : Type 0 where
   pub same : parametersOf p ≡ parameters J
   pub sound : Sound J
-  pub job : Sections.Laid J 30 (job-sections (parameters J))
+  pub job : Sections.Laid J 31 (job-sections (parameters J))
   pub regions : Places.Laid (parameters J .n) (parameters J .r) (parameters J .κ) (parameters J .L) q
   pub room : scratch-need (parameters J) ≤ length scratch
 

@@ -8,7 +8,7 @@ use crate::tally::Tally;
 use crate::whole::BROKEN;
 use model::checks::is_two_digits;
 use model::refusals::{fit, output_need, Handed};
-use model::words::{join, read_witness, Job, Parameters, Randomness, Transcript};
+use model::words::{join, read_witness, Job, Parameters, Randomness, Transcript, PARAMETERS};
 use model::{checks, conditions, formulas, Answer, Call};
 
 pub struct Case {
@@ -36,13 +36,13 @@ pub struct Expected {
 impl Case {
     /// Parameters and purpose, for a difference.
     pub fn describe(&self) -> String {
-        let parameters = self.job.get(1..30).map(Parameters::read);
+        let parameters = self.job.get(1..1 + PARAMETERS).map(Parameters::read);
         format!("{} ({}) {parameters:?}", self.call.name(), self.purpose)
     }
 
     /// The parameters of a case that is refused nothing before the work.
     fn parameters(&self) -> Parameters {
-        Parameters::read(&self.job[1..30])
+        Parameters::read(&self.job[1..1 + PARAMETERS])
     }
 
     /// The scratch that the work needs.
@@ -57,6 +57,17 @@ pub const CONDITIONS: &str = "demand 3's conditions";
 pub const PURPOSES: &str = "purposes";
 pub const LEFT: &str = "23 with something left of z, by the Rust";
 pub const OF_CELLS: &str = "cells of t, g and h with something left, of acceptances";
+pub const SIZES: &str = "κ and L of the prover's calls";
+
+/// How κ and L lie to each other and to the least L.
+const KAPPA_AND_L: [&str; 6] = [
+    "κ below L",
+    "κ above L",
+    "κ equal to L",
+    "L at the quotient",
+    "L above the quotient",
+    "L 32",
+];
 
 /// The comparisons of calls on whole slices.
 pub const PLANTED: &str = "model: refusals 1 to 12 with the fault planted";
@@ -69,6 +80,9 @@ pub const WORKED: &str = "library: calls on whole slices with the Rust's";
 /// Where the Rust panics: statements of one kind only.
 pub const MODELLED: &str = "library: calls on whole slices with the model's, constraints of one kind only";
 pub const FOUR_MODELLED: &str = "model: the four conditions with its verdict, constraints of one kind only";
+/// Where the Rust is no oracle: κ is not L, or L is above 128 divided by log_q (document 02, Item 6).
+pub const APART: &str = "library: calls on whole slices with the model's, κ and L apart";
+pub const FOUR_APART: &str = "model: the four conditions with its verdict, κ and L apart";
 /// Where the Rust's sum of check 23 is another: something is left of z after two digits, and 23 fails.
 pub const LARGE: &str = "library: calls on whole slices with the model's, 23 with something left of z";
 pub const FOUR_LARGE: &str = "model: the four conditions with its verdict, 23 with something left of z";
@@ -85,6 +99,8 @@ enum Source {
     Rust,
     /// The model's: constraints of one kind only.
     OneKind,
+    /// The model's: κ is not L, or L is above 128 divided by log_q (document 02, Item 6).
+    Apart,
     /// The model's: 23 fails, and something is left of z after two digits (document 02, Item 9).
     LargeZ,
 }
@@ -93,6 +109,8 @@ impl Source {
     fn of(call: Call, p: &Parameters, third: &[u32], answer: &Answer) -> Source {
         if !p.has_both_kinds() {
             Source::OneKind
+        } else if !p.is_of_the_rust() {
+            Source::Apart
         } else if call == Call::Verify && answer.number == 23 && !is_two_digits(p.b, &Transcript::read(p, third).z) {
             Source::LargeZ
         } else {
@@ -132,6 +150,10 @@ impl Context {
         tally.must_compare(&[CELLS, FOUR_CELLS]);
         for row in [NONE, ONE, SOME, ALL] {
             tally.must_occur(OF_CELLS, row);
+        }
+        tally.must_compare(&[APART, FOUR_APART]);
+        for row in KAPPA_AND_L {
+            tally.must_occur(SIZES, row);
         }
         for row in [FAILED, PASSED] {
             tally.must_occur(LEFT, row);
@@ -174,9 +196,10 @@ impl Context {
     }
 
     /// The prover's whole call and its rounds on an instance, by one run of the Rust, or by the model where the Rust
-    /// panics. Gives the transcript back where it is made.
+    /// is no oracle. Gives the transcript back where it is made.
     pub fn prover(&mut self, purpose: &'static str, instance: &Instance, spare: usize) -> Option<Vec<u32>> {
         let p = &instance.parameters;
+        self.sizes(p);
         let job = instance.job_words();
         let randomness = instance.randomness_words();
         let witness = instance.witness_words();
@@ -185,7 +208,7 @@ impl Context {
         let drawn = Randomness::read(p, &randomness);
         let s = read_witness(p, &witness);
         let (made, modelled) = formulas::transcript(&values, &drawn, &s);
-        let (answer, sections) = if p.has_both_kinds() {
+        let (answer, sections) = if p.has_both_kinds() && p.is_of_the_rust() {
             let (answer, sections) = by_the_rust(&job, &randomness, &witness);
             self.tally.compare(PROVER, &modelled, &answer, described);
             if !sections.is_empty() {
@@ -235,6 +258,7 @@ impl Context {
         let kind = match Source::of(Call::Verify, p, &transcript, &verdict) {
             Source::Rust => FOUR,
             Source::OneKind => FOUR_MODELLED,
+            Source::Apart => FOUR_APART,
             Source::LargeZ => FOUR_LARGE,
         };
         self.tally
@@ -247,8 +271,8 @@ impl Context {
         Some(transcript)
     }
 
-    /// The verifier on a transcript: the Rust's verdict, or the model's where the Rust panics or its sum of check 23 is
-    /// another.
+    /// The verifier on a transcript: the Rust's verdict, or the model's where the Rust is no oracle or its sum of check
+    /// 23 is another.
     pub fn verifier(&mut self, purpose: &'static str, instance: &Instance, transcript: &[u32], spare: usize) -> Answer {
         let p = &instance.parameters;
         let job = instance.job_words();
@@ -270,7 +294,7 @@ impl Context {
                     ..answer
                 }
             }
-            Source::OneKind => modelled,
+            Source::OneKind | Source::Apart => modelled,
             Source::LargeZ => {
                 self.smaller(&modelled, &by_the_rust(), described);
                 modelled
@@ -324,6 +348,22 @@ const FAILED: &str = "23, with a smaller sum";
 const PASSED: &str = "within the limit";
 
 impl Context {
+    /// Counts how κ and L lie.
+    fn sizes(&mut self, p: &Parameters) {
+        let least = p.least_aggregations();
+        let held = [
+            p.kappa < p.aggregations,
+            p.kappa > p.aggregations,
+            p.kappa == p.aggregations,
+            p.aggregations == least,
+            p.aggregations > least,
+            p.aggregations == 32,
+        ];
+        for (row, _) in KAPPA_AND_L.iter().zip(held).filter(|(_, held)| *held) {
+            self.tally.occurred(SIZES, row);
+        }
+    }
+
     /// Compares a verdict of 23 with the Rust's, whose sum is smaller: it is a 23 with the same limit, or of a later check.
     fn smaller(&mut self, ours: &Answer, rust: &Answer, described: impl FnOnce() -> String) {
         let failed = rust.number == 23;
@@ -359,6 +399,7 @@ impl Tally {
         let kind = match case.expected.worked.as_ref().map(source) {
             Some(Source::Rust) => WORKED,
             Some(Source::OneKind) => MODELLED,
+            Some(Source::Apart) => APART,
             Some(Source::LargeZ) => LARGE,
             None => REFUSED,
         };

@@ -193,21 +193,23 @@ pub const BASES: [u32; 16] = [
 
 pub const PARTS: [usize; 10] = [1, 2, 3, 4, 5, 8, 16, 21, 31, 32];
 
-/// The parameters of case number i: every n, r, K and l up to 3 with every log_q, the others drawn.
+/// The parameters of case number i, with κ = L at its least: every n, r, K and l up to 3 with every log_q, the others drawn.
 pub fn small(random: &mut Random, i: usize) -> Parameters {
     let log_q = 16 + i % 17;
+    let least = 128_usize.div_ceil(log_q);
     Parameters {
         n: 1 + i % 3,
         r: 1 + i / 3 % 3,
         ring: 1 + i / 9 % 3,
         constant: 1 + i / 27 % 3,
         log_q,
-        kappa: 128_usize.div_ceil(log_q),
+        kappa: least,
         kappa1: 1 + random.below(3),
         kappa2: 1 + random.below(3),
         b: random.pick(&BASES),
         t1: random.pick(&PARTS),
         t2: random.pick(&PARTS),
+        aggregations: least,
         beta_sq: LOOSE,
         beta_prime_sq: LOOSE,
         bounds: [LOOSE; 4],
@@ -220,5 +222,27 @@ pub fn one_kind(random: &mut Random, i: usize) -> Parameters {
     match i % 2 {
         0 => Parameters { ring: 0, ..p },
         _ => Parameters { constant: 0, ..p },
+    }
+}
+
+/// Those of `small` with κ and L apart (document 02, Item 6): L at its least, above it and 32, κ below it, above it and
+/// equal to it.
+pub fn apart(random: &mut Random, i: usize) -> Parameters {
+    let p = small(random, i);
+    let least = p.aggregations;
+    let above = least + 1 + random.below(32 - least);
+    let aggregations = [least, above, 32][i % 3];
+    let below = 1 + random.below(16.min(aggregations - 1));
+    let kappa = match i / 3 % 3 {
+        0 => below,
+        1 if aggregations < 16 => aggregations + 1 + random.below(16 - aggregations),
+        1 => 16,
+        _ if aggregations > least => aggregations.min(16),
+        _ => 16,
+    };
+    Parameters {
+        kappa,
+        aggregations,
+        ..p
     }
 }

@@ -14,16 +14,21 @@ const NEEDS: &str = "library: a test load's lengths with the model's";
 const GUARD: usize = 16;
 const MARK: u32 = 0xc0de_c0de;
 
-/// Eleven parameters within their limits, with κ = L; sizes are small, and K and l also at 0, 1 and 64, not both 0.
-fn eleven(random: &mut Random, i: usize) -> [u32; 11] {
+/// Twelve parameters within their limits; sizes are small, and K and l also at 0, 1 and 64, not both 0. κ and L are the
+/// least L, apart, or at their limits.
+fn twelve(random: &mut Random, i: usize) -> [u32; 12] {
     let log_q = 16 + random.below(17) as u32;
+    let least = 128_u32.div_ceil(log_q);
+    let any = least + random.below(33 - least as usize) as u32;
+    let aggregations = [least, any, 32][i % 3];
+    let kappa = [least, 1 + random.below(16) as u32, 16][i / 3 % 3];
     let mut small = |most: usize| 1 + random.below(most) as u32;
     let ends = [small(6), 1, 64, 0];
     let both_zero = i % 16 == 15;
     [
         small(3),
         small(4),
-        128_u32.div_ceil(log_q),
+        kappa,
         small(3),
         small(3),
         ends[i % 4],
@@ -32,11 +37,12 @@ fn eleven(random: &mut Random, i: usize) -> [u32; 11] {
         2 + random.below(1 << 20) as u32,
         random.pick(&[1, 2, 3, 32]),
         random.pick(&[1, 2, 3, 32]),
+        aggregations,
     ]
 }
 
 /// One call with buffers of these lengths: answer, every word, and guard words on both sides.
-fn one(context: &mut Context, words: [u32; 11], seed: u32, lengths: [usize; 3]) {
+fn one(context: &mut Context, words: [u32; 12], seed: u32, lengths: [usize; 3]) {
     let expected = load(words, seed, lengths);
     let mut kept: [Vec<u32>; 3] = lengths.map(|length| vec![MARK; length + 2 * GUARD]);
     let [a, b, c] = &mut kept;
@@ -60,7 +66,7 @@ fn one(context: &mut Context, words: [u32; 11], seed: u32, lengths: [usize; 3]) 
     }
 }
 
-fn lengths_of(context: &mut Context, words: [u32; 11]) {
+fn lengths_of(context: &mut Context, words: [u32; 12]) {
     let found = library::load::needs(words);
     let expected = match needs(words) {
         Ok(lengths) => (Answer::FINE, lengths.map(|n| n as u64)),
@@ -79,9 +85,9 @@ fn sum(words: &[u32]) -> u64 {
 pub fn print_sums() {
     for i in 0..16 {
         let mut random = Random::new(i);
-        let words = eleven(&mut random, i as usize);
+        let words = twelve(&mut random, i as usize);
         let words = [words[0].min(2), words[1].min(2)].iter().chain(&words[2..]).copied().collect::<Vec<_>>();
-        let words: [u32; 11] = words.try_into().expect("eleven words");
+        let words: [u32; 12] = words.try_into().expect("twelve words");
         let seed = [0, 1, 4294967295, random.word()][i as usize % 4];
         let lengths = needs(words).expect("parameters within their limits");
         let Ok(made) = load(words, seed, lengths) else {
@@ -100,7 +106,7 @@ pub fn all(context: &mut Context, random: &mut Random, count: usize) {
     }
     context.tally.must_compare(&[ANSWER, WORDS, NEEDS]);
     for i in 0..count {
-        let words = eleven(random, i);
+        let words = twelve(random, i);
         let word = random.word();
         let seed = random.pick(&[0, 1, 4294967295, word]);
         let exact = needs(words).expect("parameters within their limits");
@@ -112,12 +118,12 @@ pub fn all(context: &mut Context, random: &mut Random, count: usize) {
         one(context, words, seed, short);
         one(context, words, seed, exact.map(|n| n - 1));
         let mut wrong = words;
-        let k = i % 11;
+        let k = i % 12;
         wrong[k] = random.pick(&[LIMITS[k].0.wrapping_sub(1), LIMITS[k].1.wrapping_add(1), 4294967295]);
         lengths_of(context, wrong);
         one(context, wrong, seed, exact);
         wrong = words;
-        wrong[2] = 1 + words[2] % 16;
+        wrong[11] = 1 + random.below(128_usize.div_ceil(words[7] as usize) - 1) as u32;
         lengths_of(context, wrong);
         one(context, wrong, seed, [0; 3]);
     }

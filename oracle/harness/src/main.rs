@@ -7,7 +7,7 @@
 //! Each prints a tally, and fails where anything differs, an answer never occurs or a comparison is never made.
 
 use harness::cases::Context;
-use harness::instances::{one_kind, small, Instance};
+use harness::instances::{apart, one_kind, small, Instance};
 use harness::random::Random;
 use harness::record::Recorder;
 use harness::{loads, ranges, recompose, replay, rust, slices, unfit, whole};
@@ -80,6 +80,8 @@ fn compare(seed: u64, count: u64, largest: bool) -> bool {
     context.tally.stage("sizes at their limits");
     whole::one_kind(&mut context, &mut random, 2);
     context.tally.stage("constraints of one kind only");
+    whole::apart(&mut context, &mut random, 2);
+    context.tally.stage("κ and L apart");
     whole::large_z(&mut context, &mut random, &base);
     context.tally.stage("something left of z after two digits");
     whole::lossy(&mut context, &mut random);
@@ -89,6 +91,10 @@ fn compare(seed: u64, count: u64, largest: bool) -> bool {
         whole::random_instance(&mut context, &mut random, parameters);
         if i % 4 == 0 {
             let parameters = one_kind(&mut random, i / 4);
+            whole::random_instance(&mut context, &mut random, parameters);
+        }
+        if i % 4 == 2 {
+            let parameters = apart(&mut random, i / 4);
             whole::random_instance(&mut context, &mut random, parameters);
         }
         if i % 20 == 0 {
@@ -116,6 +122,7 @@ fn record(folder: &Path) -> bool {
     whole::one_kind(&mut context, &mut random, 0);
     whole::large_z(&mut context, &mut random, &base);
     whole::lossy(&mut context, &mut random);
+    whole::apart(&mut context, &mut random, 0);
     context.tally.stage("recorded answers, made again");
     let recorder = context.recorder.take().expect("a recorder");
     recorder.write(folder).expect("the folder can be written");

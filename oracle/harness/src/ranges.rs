@@ -164,7 +164,7 @@ fn unfit_jobs(tally: &mut Tally, job: &[u32], lows: &[i64], highs: &[i64]) {
         (vec![], (3, 0)),
         (job[..last].to_vec(), (3, last)),
         (set(1, 65), (4, 1)),
-        (set(3, 9), (5, 3)),
+        (set(12, 3), (5, 12)),
         (set(last, u32::MAX), (6, last)),
     ];
     for (job, aim) in jobs {
@@ -253,7 +253,7 @@ fn one(tally: &mut Tally, random: &mut Random, parameters: Parameters, width: Wi
 
 /// The job of recorded case k: a load whose A's bound is put in after.
 fn recorded_job(k: u32) -> Vec<u32> {
-    let sizes = [1 + k % 2, 1 + k % 3, 4, 1, 1, 1, 1, 32, 256, 4, 4];
+    let sizes = [1 + k % 2, 1 + k % 3, 4, 1, 1, 1, 1, 32, 256, 4, 4, 4];
     let lengths = model::load::needs(sizes).expect("parameters within their limits");
     model::load::load(sizes, k, lengths).ok().expect("the buffers are long enough").job
 }
@@ -292,7 +292,7 @@ pub fn print_sums() {
         let first = ranges(&job, &lows, &highs).vectors[0];
         let bound = [first.least, first.greatest, first.least.saturating_sub(1)][k as usize % 3];
         let words = [bound as u32, (bound >> 32) as u32, (bound >> 64) as u32];
-        job[18..21].copy_from_slice(&words);
+        job[19..22].copy_from_slice(&words);
         let told = ranges(&job, &lows, &highs);
         let mut sum = 14695981039346656037_u64;
         let mut add = |x: u64| {

@@ -3,7 +3,7 @@
 
 use crate::cases::Case;
 use model::calls::{Leaf, LeafAnswer};
-use model::words::Parameters;
+use model::words::{Parameters, PARAMETERS};
 use model::Call;
 use std::path::Path;
 
@@ -142,7 +142,7 @@ impl Recorder {
             Some(words) if answer.number > 0 => (ZEROS, 0, words.len()),
             Some(words) => {
                 // a call's output stands in the transcript where its sections do
-                let counts = Parameters::read(&case.job[1..30]).transcript_counts();
+                let counts = Parameters::read(&case.job[1..1 + PARAMETERS]).transcript_counts();
                 let (first, _) = case.call.output_sections();
                 let start = counts[..first].iter().map(|count| 1 + count).sum();
                 self.put(TRANSCRIPT, start, words);

@@ -1,6 +1,6 @@
 //! Reads recorded answers back, as a program with fixed buffers does.
 
-use crate::cases::{Case, Expected, CELLS, JUDGED, LARGE, MODELLED, REFUSED, WORKED};
+use crate::cases::{Case, Expected, APART, CELLS, JUDGED, LARGE, MODELLED, REFUSED, WORKED};
 use crate::leaves::{without_left, LEFT};
 use crate::record::*;
 use crate::tally::Tally;
@@ -46,6 +46,7 @@ pub fn replay(folder: &Path) -> bool {
         MODELLED_CALL,
         WORKED,
         MODELLED,
+        APART,
         LARGE,
         REFUSED,
         JUDGED,

@@ -85,7 +85,7 @@ pub fn environment(p: &Parameters) -> EnvironmentParameters {
         kappa_2: p.kappa2,
         constraint_k: p.ring,
         constraint_l: p.constant,
-        const_agg_length: p.aggregations(),
+        const_agg_length: p.aggregations,
         log_q: p.log_q,
     }
 }

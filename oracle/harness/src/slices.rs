@@ -89,14 +89,12 @@ fn phi_parameters(r: usize, n: usize, number: usize) -> EnvironmentParameters {
         b: 2,
         t1: 1,
         t2: 1,
+        aggregations: number,
         beta_sq: LOOSE,
         beta_prime_sq: LOOSE,
         bounds: [LOOSE; 4],
     };
-    EnvironmentParameters {
-        const_agg_length: number,
-        ..environment(&p)
-    }
+    environment(&p)
 }
 
 /// A call's operands as the Rust has them.
@@ -306,7 +304,7 @@ const ABOVE: [(SliceCall, &[usize]); 12] = [
     (SliceCall::Phi, &[17, 1, 1, 1]),
     (SliceCall::Phi, &[1, 65, 1, 1]),
     (SliceCall::Phi, &[1, 1, 65, 1]),
-    (SliceCall::Phi, &[1, 1, 1, 9]),
+    (SliceCall::Phi, &[1, 1, 1, 33]),
     (SliceCall::U1, &[17, 1, 1, 1, 1]),
     (SliceCall::U1, &[1, 257, 1, 1, 1]),
     (SliceCall::U1, &[1, 1, 33, 1, 1]),
@@ -335,6 +333,7 @@ pub fn all(tally: &mut Tally, random: &mut Random, count: usize) {
     take(tally, random, SliceCall::Projection, &[64, 1], 2);
     take(tally, random, SliceCall::Projection, &[1, 16], 2);
     take(tally, random, SliceCall::Phi, &[16, 1, 64, 8], 2);
+    take(tally, random, SliceCall::Phi, &[1, 1, 2, 32], 2);
     take(tally, random, SliceCall::Phi, &[1, 64, 1, 1], 2);
     take(tally, random, SliceCall::U1, &u1_sizes(16, 16, 16, 1, 1), 256);
     take(tally, random, SliceCall::U1, &u1_sizes(1, 2, 1, 32, 32), 2);

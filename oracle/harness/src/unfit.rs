@@ -135,7 +135,7 @@ const ALONE: usize = usize::MAX;
 /// Every fault of a call on a fit input, by stages in document 01's order.
 fn faults(p: &Parameters, call: Call) -> Vec<Fault> {
     let mut faults = vec![];
-    // 0: section one's layout; 1: a parameter outside its limits; 2: κ is not L
+    // 0: section one's layout; 1: a parameter outside its limits; 2: L below the least
     faults.extend(layout_faults(Slice::Job, 0, 3, &[PARAMETERS], 0).into_iter().skip(1));
     for (k, (least, greatest)) in LIMITS.iter().enumerate() {
         for word in [least.wrapping_sub(1), greatest + 1, 0, Q] {
@@ -156,11 +156,11 @@ fn faults(p: &Parameters, call: Call) -> Vec<Fault> {
         aim: (4, 7),
         kind: Kind::NoConstraint,
     });
-    for kappa in [p.kappa - 1, p.kappa + 1, 1, 16] {
+    for aggregations in [p.least_aggregations() - 1, 1] {
         faults.push(Fault {
             stage: 2,
-            aim: (5, 3),
-            kind: Kind::Word(Slice::Job, 3, kappa as u32),
+            aim: (5, 12),
+            kind: Kind::Word(Slice::Job, 12, aggregations as u32),
         });
     }
     // 3: the other sections' layout; 4: their words

@@ -144,6 +144,7 @@ pub fn limits(context: &mut Context, random: &mut Random) {
         b: 16,
         t1: 2,
         t2: 2,
+        aggregations: 4,
         beta_sq: LOOSE,
         beta_prime_sq: LOOSE,
         bounds: [LOOSE; 4],
@@ -151,6 +152,7 @@ pub fn limits(context: &mut Context, random: &mut Random) {
     let eight = Parameters {
         log_q: 16,
         kappa: 8,
+        aggregations: 8,
         ..base
     };
     let all = [
@@ -164,6 +166,22 @@ pub fn limits(context: &mut Context, random: &mut Random) {
                 ..base
             },
         ),
+        ("κ at its limit", Parameters { kappa: 16, ..base }),
+        (
+            "L at its limit",
+            Parameters {
+                aggregations: 32,
+                ..base
+            },
+        ),
+        (
+            "κ and L at their limits",
+            Parameters {
+                kappa: 16,
+                aggregations: 32,
+                ..base
+            },
+        ),
         ("K at its limit", Parameters { ring: 64, ..base }),
         ("l at its limit", Parameters { constant: 64, ..base }),
         ("log_q at its least", eight),
@@ -172,6 +190,7 @@ pub fn limits(context: &mut Context, random: &mut Random) {
             Parameters {
                 log_q: 31,
                 kappa: 5,
+                aggregations: 5,
                 ..base
             },
         ),
@@ -229,7 +248,7 @@ fn at_bounds(context: &mut Context, random: &mut Random, purpose: &'static str, 
     context.prover(purpose, &instance, 1);
 }
 
-/// Every size at its limit at once: about 33 million words.
+/// Every size at its limit at once, κ = L at the greatest that the Rust takes: about 33 million words.
 pub fn largest(context: &mut Context, random: &mut Random) {
     let parameters = Parameters {
         n: 64,
@@ -243,6 +262,7 @@ pub fn largest(context: &mut Context, random: &mut Random) {
         b: 2,
         t1: 32,
         t2: 32,
+        aggregations: 8,
         beta_sq: LOOSE,
         beta_prime_sq: LOOSE,
         bounds: [LOOSE; 4],
@@ -265,6 +285,7 @@ pub fn pair_parameters() -> Parameters {
         b: 65536,
         t1: 2,
         t2: 1,
+        aggregations: 4,
         beta_sq: LOOSE,
         beta_prime_sq: LOOSE,
         bounds: [LOOSE; 4],
@@ -278,6 +299,7 @@ pub fn few(context: &mut Context, random: &mut Random) {
         r,
         log_q,
         kappa: 128_usize.div_ceil(log_q),
+        aggregations: 128_usize.div_ceil(log_q),
         b,
         t1,
         t2,
@@ -301,6 +323,53 @@ pub fn few(context: &mut Context, random: &mut Random) {
             parameters,
             size,
         );
+    }
+}
+
+/// κ and L apart (document 02, Item 6): κ below and above L, L at its least, above it and 32, each also with the least
+/// log_q; statements met and not met, bounds at their figures and just below, damaged transcripts and, with pairs as
+/// often as asked, unfit slices of each call.
+pub fn apart(context: &mut Context, random: &mut Random, pairs: usize) {
+    let with = |log_q: usize, kappa: usize, aggregations: usize| Parameters {
+        log_q,
+        kappa,
+        aggregations,
+        ..pair_parameters()
+    };
+    let all = [
+        with(32, 2, 4),
+        with(32, 16, 4),
+        with(32, 5, 5),
+        with(31, 4, 5),
+        with(16, 1, 9),
+        with(16, 16, 8),
+        with(32, 3, 17),
+        with(32, 16, 32),
+        with(16, 8, 32),
+    ];
+    for (k, parameters) in all.into_iter().enumerate() {
+        // two vectors in the first two, one in the others, whose randomness is shorter
+        let r = if k < 2 { 2 } else { 1 };
+        let instance = base(random, Parameters { r, ..parameters });
+        let mut tight = instance.clone();
+        let figures = instance.figures(&modelled(&instance));
+        tighten(&mut tight.parameters, &figures, Tight::Equal);
+        context.prover("κ and L apart, bounds equal to their figures", &tight, 1);
+        let mut unmet = instance.clone();
+        unmet.put_off(random, Off::ALL[1 + k % 7]);
+        context.prover("κ and L apart, constraints off", &unmet, 0);
+        // an error that the last psi row alone shows
+        let rows = parameters.aggregations - 1;
+        unmet = instance.clone();
+        unmet.put_off(random, Off::AllConstant);
+        unmet.randomness[1][..rows * parameters.constant].fill(0);
+        context.prover("κ and L apart, the last psi row shows an error", &unmet, 0);
+        if k == 1 || k == 7 {
+            damaged_sections(context, &instance);
+            for call in Call::ALL {
+                unfit(context, random, &instance, call, pairs);
+            }
+        }
     }
 }
 
@@ -431,7 +500,7 @@ pub fn bounds(context: &mut Context, instance: &Instance) {
 /// Constraints off, and weights under which an error does not show.
 pub fn statements(context: &mut Context, random: &mut Random, instance: &Instance) {
     let p = &instance.parameters;
-    let (l, rows) = (p.constant, p.aggregations());
+    let (l, rows) = (p.constant, p.aggregations);
     for off in Off::ALL {
         let mut unmet = instance.clone();
         unmet.put_off(random, off);

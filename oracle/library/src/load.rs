@@ -6,7 +6,7 @@ mod calls {
     #[repr(C)]
     #[derive(Clone, Copy)]
     pub struct Parameters {
-        pub words: [u32; 11],
+        pub words: [u32; 12],
     }
 
     #[repr(C)]
@@ -39,7 +39,7 @@ mod calls {
     }
 }
 
-pub fn load(words: [u32; 11], seed: u32, buffers: [&mut [u32]; 3]) -> Answer {
+pub fn load(words: [u32; 12], seed: u32, buffers: [&mut [u32]; 3]) -> Answer {
     use calls::*;
     let [job, witness, randomness] = buffers;
     // The call takes any words and buffers of any length.
@@ -63,7 +63,7 @@ pub fn load(words: [u32; 11], seed: u32, buffers: [&mut [u32]; 3]) -> Answer {
 }
 
 /// The answer, and the lengths of job, witness and randomness.
-pub fn needs(words: [u32; 11]) -> (Answer, [u64; 3]) {
+pub fn needs(words: [u32; 12]) -> (Answer, [u64; 3]) {
     use calls::*;
     // The call takes any words.
     let a = unsafe { labrador_load_needs(Parameters { words }) };

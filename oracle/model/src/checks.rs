@@ -50,7 +50,8 @@ pub fn verdict(job: &Job, x: &Randomness, sent: &Transcript) -> Answer {
     if size > projection_limit(p) {
         return Answer::over(21, size, projection_limit(p));
     }
-    for k in 0..p.kappa {
+    // "check 22 runs over L" (document 02, Item 6)
+    for k in 0..p.aggregations {
         let (value, computed) = row_values(job, x, k, &sent.b2, &sent.p);
         if value != computed {
             return Answer {

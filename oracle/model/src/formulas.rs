@@ -116,7 +116,7 @@ pub fn aggregated_row(job: &Job, x: &Randomness, k: usize) -> Constraint {
 
 /// All rows under psi and omega.
 pub fn aggregated_rows(job: &Job, x: &Randomness) -> Vec<Constraint> {
-    (0..job.parameters.aggregations())
+    (0..job.parameters.aggregations)
         .map(|k| aggregated_row(job, x, k))
         .collect()
 }

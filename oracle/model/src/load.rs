@@ -1,4 +1,4 @@
-//! Document 02, Item 1: a test load from eleven parameters and a seed word.
+//! Document 02, Item 1: a test load from the parameters and a seed word; "Item 1's call takes L too" (Item 6), as the twelfth.
 
 use crate::formulas::{left_side, triangle};
 use crate::leaves::{dot, sub, Q};
@@ -37,9 +37,9 @@ pub struct Load {
     pub randomness: Vec<u32>,
 }
 
-/// The parameters of eleven words; "The six bounds are the largest three-word number."
-fn parameters(eleven: [u32; 11]) -> Result<Parameters, Answer> {
-    refusals::parameters(&[&eleven[..], &[4294967295; 18]].concat())
+/// The parameters of twelve words; "The six bounds are the largest three-word number."
+fn parameters(twelve: [u32; 12]) -> Result<Parameters, Answer> {
+    refusals::parameters(&[&twelve[..], &[4294967295; 18]].concat())
 }
 
 fn need(counts: &[usize]) -> usize {
@@ -47,15 +47,15 @@ fn need(counts: &[usize]) -> usize {
 }
 
 /// The lengths of job, witness and randomness.
-pub fn needs(eleven: [u32; 11]) -> Result<[usize; 3], Answer> {
-    let p = parameters(eleven)?;
+pub fn needs(twelve: [u32; 12]) -> Result<[usize; 3], Answer> {
+    let p = parameters(twelve)?;
     Ok([need(&p.job_counts()), need(&p.witness_counts()), need(&p.randomness_counts())])
 }
 
 /// A load into buffers of these lengths.
-pub fn load(eleven: [u32; 11], seed: u32, lengths: [usize; 3]) -> Result<Load, Answer> {
-    let p = parameters(eleven)?;
-    for (need, length) in needs(eleven)?.into_iter().zip(lengths) {
+pub fn load(twelve: [u32; 12], seed: u32, lengths: [usize; 3]) -> Result<Load, Answer> {
+    let p = parameters(twelve)?;
+    for (need, length) in needs(twelve)?.into_iter().zip(lengths) {
         if length < need {
             return Err(Answer::refused(2, need));
         }

@@ -34,7 +34,7 @@ fn fine(answer: Answer) -> Result<(), Answer> {
 }
 
 /// The limits of the parameters, in the order of their words.
-pub const LIMITS: [(u32, u32); 11] = [
+pub const LIMITS: [(u32, u32); 12] = [
     (1, 64),
     (1, 16),
     (1, 16),
@@ -44,6 +44,7 @@ pub const LIMITS: [(u32, u32); 11] = [
     (0, 64),
     (16, 32),
     (2, 4294967294),
+    (1, 32),
     (1, 32),
     (1, 32),
 ];
@@ -60,8 +61,9 @@ pub fn parameters(words: &[u32]) -> Result<Parameters, Answer> {
         }
     }
     let p = Parameters::read(words);
-    if p.kappa != p.aggregations() {
-        return Err(Answer::refused(5, 3));
+    // document 02, Item 6: "an L below 128 divided by log_q, rounded up […] at L's place"
+    if p.aggregations < p.least_aggregations() {
+        return Err(Answer::refused(5, 12));
     }
     Ok(p)
 }

@@ -7,7 +7,7 @@ pub const ROWS: usize = 256;
 pub const SIGNS: usize = 41;
 pub const SHUFFLES: usize = 63;
 /// The words of section one of the job.
-pub const PARAMETERS: usize = 29;
+pub const PARAMETERS: usize = 30;
 
 #[derive(Clone, Copy, Debug, PartialEq, Eq)]
 pub struct Parameters {
@@ -24,6 +24,8 @@ pub struct Parameters {
     pub b: u32,
     pub t1: usize,
     pub t2: usize,
+    /// The number of aggregated equations, L (document 02, Item 6).
+    pub aggregations: usize,
     pub beta_sq: u128,
     pub beta_prime_sq: u128,
     /// The norm bounds of A, B, C and D.
@@ -35,7 +37,7 @@ fn bound(words: &[u32]) -> u128 {
 }
 
 impl Parameters {
-    /// Reads the 29 words of section one.
+    /// Reads the 30 words of section one: "L stands after t2".
     pub fn read(w: &[u32]) -> Self {
         let size = |k: usize| w[k] as usize;
         Parameters {
@@ -50,9 +52,10 @@ impl Parameters {
             b: w[8],
             t1: size(9),
             t2: size(10),
-            beta_sq: bound(&w[11..]),
-            beta_prime_sq: bound(&w[14..]),
-            bounds: std::array::from_fn(|k| bound(&w[17 + 3 * k..])),
+            aggregations: size(11),
+            beta_sq: bound(&w[12..]),
+            beta_prime_sq: bound(&w[15..]),
+            bounds: std::array::from_fn(|k| bound(&w[18 + 3 * k..])),
         }
     }
 
@@ -68,7 +71,7 @@ impl Parameters {
             self.log_q,
         ];
         let mut w: Vec<u32> = sizes.iter().map(|&x| x as u32).collect();
-        w.extend([self.b, self.t1 as u32, self.t2 as u32]);
+        w.extend([self.b, self.t1 as u32, self.t2 as u32, self.aggregations as u32]);
         let [a, b, c, d] = self.bounds;
         for x in [self.beta_sq, self.beta_prime_sq, a, b, c, d] {
             assert!(x < 1 << 96, "a bound has three words");
@@ -77,9 +80,14 @@ impl Parameters {
         w
     }
 
-    /// L.
-    pub fn aggregations(&self) -> usize {
+    /// "128 divided by log_q, rounded up": the least L.
+    pub fn least_aggregations(&self) -> usize {
         128_usize.div_ceil(self.log_q)
+    }
+
+    /// Whether the published Rust is the oracle: "where κ equals L and L is that quotient" (document 02, Item 6).
+    pub fn is_of_the_rust(&self) -> bool {
+        self.kappa == self.aggregations && self.aggregations == self.least_aggregations()
     }
 
     /// Whether there are constraints of both kinds (document 02, Item 4). The Rust panics where there are not.
@@ -111,7 +119,7 @@ impl Parameters {
     }
 
     pub fn randomness_counts(&self) -> Vec<usize> {
-        let l = self.aggregations();
+        let l = self.aggregations;
         vec![
             ROWS * DEGREE * self.n * self.r,
             l * self.constant,
@@ -132,7 +140,7 @@ impl Parameters {
         vec![
             self.kappa1 * DEGREE,
             ROWS,
-            self.kappa * DEGREE,
+            self.aggregations * DEGREE,
             self.kappa2 * DEGREE,
             self.n * DEGREE,
             self.r * self.kappa * DEGREE,
@@ -144,7 +152,7 @@ impl Parameters {
     /// The scratch that a call needs.
     pub fn scratch_need(&self) -> usize {
         let (n, r, t) = (self.n, self.r, self.cells());
-        64 * ((self.aggregations() + 2) * (r * n + t) + r * self.kappa + n + 64)
+        64 * ((self.aggregations + 2) * (r * n + t) + r * self.kappa + n + 64)
     }
 }
 
@@ -259,7 +267,7 @@ impl Randomness {
                 .iter()
                 .map(|rows| parts(rows, DEGREE * p.n))
                 .collect(),
-            psi: (0..p.aggregations())
+            psi: (0..p.aggregations)
                 .map(|k| s[1][k * p.constant..(k + 1) * p.constant].to_vec())
                 .collect(),
             omega: parts(&s[2], ROWS),

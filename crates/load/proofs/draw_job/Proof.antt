@@ -33,7 +33,7 @@ unfolding table
 returns c =
     let s = c .before .before .before .before .before .before .before .before .before .before .before .before .args in
     job-drawn-in (given (s .g)) (parametersOf (s .p)) (s .seed) _ (s .job .now) _ _ _ (c .before .before .before .before .before .before .before .before .before .before .before .before .pre .0 .same) (c .before .before .before .before .before .before .before .before .before .before .section-one-words .ensures) (c .before .before .before .before .before .before .before .copy .ensures)
-    (table-drawn (c .before .before .before .job-sections .ensures) (R.Word ∷ R.Word ∷ R.Later ∷ R.Word ∷ R.Word ∷ R.Later ∷ R.Word ∷ R.Word ∷ R.Word ∷ R.Word ∷ []) job-rules refl (s .seed) _ _ 30 _ (c .before .before .sections .ensures))
+    (table-drawn (c .before .before .before .job-sections .ensures) (R.Word ∷ R.Word ∷ R.Later ∷ R.Word ∷ R.Word ∷ R.Later ∷ R.Word ∷ R.Word ∷ R.Word ∷ R.Word ∷ []) job-rules refl (s .seed) _ _ 31 _ (c .before .before .sections .ensures))
 
 pub draw-job-spec : {M : Type 1} → statement M
 draw-job-spec = tie.close (tie.spec (λ c κs. search needs) (λ c. search needs) copy-requires (λ c κs. search needs) sections-requires (λ c. search needs) returns)

@@ -24,7 +24,7 @@ add-t4 c = let t = c .before .job-sections .ensures in omega (arith, c .span .en
 returns : tie.Need-returns
 unfolding span
 returns c = record {
-  job = ap (λ n. 30 + n) (c .before .before .before .before .span .ensures ∙ ap (λ l. span (take 10 (drop 0 l))) (c .before .before .before .before .before .job-sections .ensures .lists));
+  job = ap (λ n. 31 + n) (c .before .before .before .before .span .ensures ∙ ap (λ l. span (take 10 (drop 0 l))) (c .before .before .before .before .before .job-sections .ensures .lists));
   witness = c .before .before .span2 .ensures ∙ ap (λ l. span (take 1 (drop 0 l))) (c .before .before .before .witness-sections .ensures .lists);
   randomness = c .span3 .ensures ∙ ap (λ l. span (take 7 (drop 0 l))) (c .before .randomness-sections .ensures .lists);
 }

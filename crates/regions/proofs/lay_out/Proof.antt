@@ -11,11 +11,11 @@ use Rattle.regions.proofs.lay_out.Tie as tie
 record Sizes (n r κ L cells : ℕ) : Type 0 where
   vectors : r * n ≤ 16 * 64
   triangle : cells ≤ 136
-  all-vectors : L * (r * n) ≤ 16 * (16 * 64)
-  all-cells : L * cells ≤ 16 * 136
+  all-vectors : L * (r * n) ≤ 32 * (16 * 64)
+  all-cells : L * cells ≤ 32 * 136
   products : r * κ ≤ 16 * 16
 
-sizes : (n r κ L cells : ℕ) → cells ≡ triangular r → n ≤ 64 → r ≤ 16 → κ ≤ 16 → L ≤ 16 → Sizes n r κ L cells
+sizes : (n r κ L cells : ℕ) → cells ≡ triangular r → n ≤ 64 → r ≤ 16 → κ ≤ 16 → L ≤ 32 → Sizes n r κ L cells
 sizes n r κ L cells e hn hr hκ hL =
     let rows : r + 1 ≤ 17 = omega arith in
     let few : cells ≤ 136 = omega (arith, mul-le-mul hr rows) in

@@ -27,8 +27,8 @@ two c {x} e =
     let h = one (c .before .before) in
     sym (ap ofChecked e)
     ∙ c .sections .ensures
-    ∙ ap (λ P. layout 3 J 30 (job-sections P) then ranged 6 J 30 (job-sections P)) (h .1)
-    ∙ ap (λ a. a then layout 3 J 30 (job-sections (parameters J)) then ranged 6 J 30 (job-sections (parameters J))) (h .0)
+    ∙ ap (λ P. layout 3 J 31 (job-sections P) then ranged 6 J 31 (job-sections P)) (h .1)
+    ∙ ap (λ a. a then layout 3 J 31 (job-sections (parameters J)) then ranged 6 J 31 (job-sections (parameters J))) (h .0)
 
 sections-requires : tie.Need-sections-requires
 sections-requires c κs = let h = one (c .before) in (sound _ (sym (h .0)), h .1)
@@ -40,7 +40,7 @@ returns c =
     let ss = job-sections (parameters J) in
     let r = c .before .refusal .given .0 .0 in
     let e = sym (ap ofSectionOne (c .before .refusal .given .1)) ∙ c .before .before .before .read .ensures .0 in
-    (stops-at r (ranged 6 J 30 ss) (stops-at r (layout 3 J 30 ss) e), tt)
+    (stops-at r (ranged 6 J 31 ss) (stops-at r (layout 3 J 31 ss) e), tt)
 
 returns-2 : tie.Need-returns-2
 returns-2 c = (two (c .before .before .before) (c .before .refusal2 .given .1), tt)

@@ -12,10 +12,10 @@ use Rattle.relation.proofs.section_one.first_out_of_limits.Statement.{s
 use Rattle.relation.proofs.section_one.first_out_of_limits.Tie as tie
 
 abbrev Inv-loop : tie.InvT-loop
-Inv-loop job least greatest k₀ k = (k ≤ 11) × (first k (limit-at least greatest job) ≡ fine)
+Inv-loop job least greatest k₀ k = (k ≤ 12) × (first k (limit-at least greatest job) ≡ fine)
 
 abbrev μ-loop : tie.MeasureT-loop
-μ-loop job least greatest k₀ k = 11 - k
+μ-loop job least greatest k₀ k = 12 - k
 
 loop-holds : tie.Need-loop-holds Inv-loop μ-loop
 unfolding first
@@ -28,7 +28,7 @@ returns c =
     let value = getD (s .job .now) (l .k + 1) 0 in
     let low = getD (s .t2) (l .k + 1) 0 in
     let high = getD (s .t3) (l .k + 1) 0 in
-    first-found 11 (l .k) _ (omega arith) (l .inv .1) (limited-low low high (l .k + 1) value (omega arith))
+    first-found 12 (l .k) _ (omega arith) (l .inv .1) (limited-low low high (l .k + 1) value (omega arith))
 
 returns-2 : tie.Need-returns-2 Inv-loop μ-loop
 returns-2 c =
@@ -37,7 +37,7 @@ returns-2 c =
     let value = getD (s .job .now) (l .k + 1) 0 in
     let low = getD (s .t2) (l .k + 1) 0 in
     let high = getD (s .t3) (l .k + 1) 0 in
-    first-found 11 (l .k) _ (omega arith) (l .inv .1) (limited-high low high (l .k + 1) value (omega arith) (omega arith))
+    first-found 12 (l .k) _ (omega arith) (l .inv .1) (limited-high low high (l .k + 1) value (omega arith) (omega arith))
 
 loop-again : tie.Need-loop-again Inv-loop μ-loop
 loop-again c =
@@ -52,7 +52,7 @@ returns-3 : tie.Need-returns-3 Inv-loop μ-loop
 returns-3 c =
     let l = c .before .loop in
     let s = c .before .before .args in
-    let e : l .k ≡ 11 = omega arith in
+    let e : l .k ≡ 12 = omega arith in
     sym (l .inv .1) ∙ ap (λ n. first n (limit-at (s .t2) (s .t3) (s .job .now))) e
 
 pub first-out-of-limits-spec : {M : Type 1} → statement M

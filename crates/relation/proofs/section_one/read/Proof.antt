@@ -2,7 +2,7 @@
 use mathlib.Core.Path.{_≡_, sym, ap, _∙_}
 use native.Mathlib.Omega.{arith}
 use Rattle.definitions.specs.Answer.{_then_}
-use Rattle.protocol.specs.Parameters.{parameters, limits, kappa-is-L}
+use Rattle.protocol.specs.Parameters.{parameters, limits, enough-aggregations}
 use Rattle.protocol.specs.Layout.{span, counted, first-section}
 use Rattle.layout.specs.Sections.{ofCounted}
 use Rattle.layout.proofs.Then.{stops}
@@ -22,13 +22,13 @@ returns : tie.Need-returns
 returns c =
     let J = c .before .before .before .before .before .before .args .job .now in
     let e = sym (ap (ofCounted 3) (c .before .place .given .1)) ∙ c .before .before .before .count .ensures .0 3 ∙ ap (counted 3 J 0) (c .before .before .before .before .first-sections .ensures .0) in
-    (stops (kappa-is-L (parameters J)) (stops (limits (parameters J)) e), tt)
+    (stops (enough-aggregations (parameters J)) (stops (limits (parameters J)) e), tt)
 
 returns-2 : tie.Need-returns-2
 returns-2 c =
     let J = c .before .before .before .before .before .before .args .job .now in
     let e = sym (ap (ofCounted 3) (c .before .enum-told .given .1)) ∙ c .before .before .before .count .ensures .0 3 ∙ ap (counted 3 J 0) (c .before .before .before .before .first-sections .ensures .0) in
-    (c .within-limits .ensures .0 ∙ ap (λ a. a then limits (parameters J) then kappa-is-L (parameters J)) e, c .within-limits .ensures .1)
+    (c .within-limits .ensures .0 ∙ ap (λ a. a then limits (parameters J) then enough-aggregations (parameters J)) e, c .within-limits .ensures .1)
 
 pub read-spec : {M : Type 1} → statement M
 read-spec =

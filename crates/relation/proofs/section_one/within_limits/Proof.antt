@@ -1,7 +1,7 @@
 -- `within_limits` meets its contract.
 use mathlib.Core.Path.{_≡_, sym, ap, _∙_}
 use native.Mathlib.Omega.{arith}
-use Rattle.protocol.specs.Parameters.{parameters, kappa-is-L}
+use Rattle.protocol.specs.Parameters.{parameters, enough-aggregations}
 use Rattle.layout.specs.Sections.{ofFound}
 use Rattle.layout.proofs.Then.{stops, goes-on}
 use Rattle.relation.proofs.Limits.{limits-by}
@@ -9,21 +9,21 @@ use borrow.Author.Needs.{needs}
 use Rattle.relation.proofs.section_one.within_limits.Statement.{statement}
 use Rattle.relation.proofs.section_one.within_limits.Tie as tie
 
-kappa-is-l-requires : tie.Need-kappa-is-l-requires
-kappa-is-l-requires c κs =
+enough-aggregations-requires : tie.Need-enough-aggregations-requires
+enough-aggregations-requires c κs =
     let J = c .before .before .before .before .before .args .job .now in
     (omega arith, sym (c .before .before .first-out-of-limits .ensures ∙ limits-by J (c .before .before .before .least-l .result) (c .before .before .before .least-l .ensures)) ∙ ap (ofFound 4) (c .enum-told .given .1))
 
 returns : tie.Need-returns
 returns c =
     let J = c .before .before .before .before .before .before .args .job .now in
-    (stops (kappa-is-L (parameters J)) (sym (ap (ofFound 4) (c .before .place .given .1)) ∙ c .before .before .before .first-out-of-limits .ensures ∙ limits-by J (c .before .before .before .before .least-l .result) (c .before .before .before .before .least-l .ensures)), tt)
+    (stops (enough-aggregations (parameters J)) (sym (ap (ofFound 4) (c .before .place .given .1)) ∙ c .before .before .before .first-out-of-limits .ensures ∙ limits-by J (c .before .before .before .before .least-l .result) (c .before .before .before .before .least-l .ensures)), tt)
 
 returns-2 : tie.Need-returns-2
 returns-2 c =
     let J = c .before .before .before .before .before .before .args .job .now in
     let e = sym (ap (ofFound 4) (c .before .enum-told .given .1)) ∙ c .before .before .before .first-out-of-limits .ensures ∙ limits-by J (c .before .before .before .before .least-l .result) (c .before .before .before .before .least-l .ensures) in
-    (goes-on e (c .kappa-is-l .ensures .0), c .kappa-is-l .ensures .1)
+    (goes-on e (c .enough-aggregations .ensures .0), c .enough-aggregations .ensures .1)
 
 pub within-limits-spec : {M : Type 1} → statement M
 within-limits-spec =
@@ -33,6 +33,6 @@ within-limits-spec =
     (λ c κs. search needs)
     (λ c. search needs)
     (λ c. search needs)
-    kappa-is-l-requires
+    enough-aggregations-requires
     returns
     returns-2)

@@ -20,7 +20,7 @@ add-result c =
     omega (arith, c .start .ensures, e, start-within (job-sections (parametersOf (c .before .before .args .p))) (c .before .before .args .m) (omega (arith, t .size)))
 
 returns : tie.Need-returns
-returns c = ap (λ n. 30 + n) (c .start .ensures ∙ ap (λ l. start l (c .before .before .args .m)) (c .before .job-sections .ensures .lists))
+returns c = ap (λ n. 31 + n) (c .start .ensures ∙ ap (λ l. start l (c .before .before .args .m)) (c .before .job-sections .ensures .lists))
 
 pub of-job-spec : {M : Type 1} → statement M
 of-job-spec = tie.close (tie.spec (λ c κs. search needs) start-requires add-result returns)

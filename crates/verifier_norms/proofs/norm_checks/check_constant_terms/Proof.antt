@@ -18,10 +18,10 @@ use Rattle.verifier_norms.proofs.norm_checks.check_constant_terms.Tie a
 
 abbrev Inv-loop : tie.InvT-loop
 Inv-loop job randomness transcript p b0 l psi om projection at k₀ k =
-    (k ≤ p .kappa) × (first k (test job randomness transcript) ≡ fine) × Terms job randomness transcript (p .kappa) l b0 psi om projection at
+    (k ≤ p .«const_agg_length») × (first k (test job randomness transcript) ≡ fine) × Terms job randomness transcript (p .«const_agg_length») l b0 psi om projection at
 
 abbrev μ-loop : tie.MeasureT-loop
-μ-loop job randomness transcript p b0 l psi om projection at k₀ k = p .kappa - k
+μ-loop job randomness transcript p b0 l psi om projection at k₀ k = p .«const_agg_length» - k
 
 loop-holds : tie.Need-loop-holds Inv-loop μ-loop
 unfolding first
@@ -64,11 +64,11 @@ returns c =
     let at = c .before .before .before .before .before .before .of-transcript2 .result in
     let sent = getD (s .transcript .now) (at + 64 * l .k) 0 in
     let computed = c .before .constant-term .result in
-    let h : l .k < s .p .kappa = c .before .before .before .if1 .taken in
-    let h′ : l .k < parameters (s .job .now) .κ = omega (arith, m .rows) in
+    let h : l .k < s .p .«const_agg_length» = c .before .before .before .if1 .taken in
+    let h′ : l .k < parameters (s .job .now) .L = omega (arith, m .rows) in
     sym
     (sym (check-22-is (s .job .now) (s .randomness .now) (s .transcript .now))
-    ∙ first-failed (parameters (s .job .now) .κ) (l .k) (test (s .job .now) (s .randomness .now) (s .transcript .now)) 22 (l .k ∷ sent ∷ computed ∷ []) h′ (l .inv .1)
+    ∙ first-failed (parameters (s .job .now) .L) (l .k) (test (s .job .now) (s .randomness .now) (s .transcript .now)) 22 (l .k ∷ sent ∷ computed ∷ []) h′ (l .inv .1)
     (test-is m (l .k) computed h (c .before .constant-term .ensures) ∙ require-fails (ℕ-discrete sent computed) (failed 22 (l .k ∷ sent ∷ computed ∷ [])) (c .if2 .taken)))
 
 loop-again : tie.Need-loop-again Inv-loop μ-loop
@@ -79,7 +79,7 @@ loop-again c =
     let at = c .before .before .before .before .before .before .of-transcript2 .result in
     let sent = getD (s .transcript .now) (at + 64 * l .k) 0 in
     let computed = c .before .constant-term .result in
-    let h : l .k < s .p .kappa = c .before .before .before .if1 .taken in (
+    let h : l .k < s .p .«const_agg_length» = c .before .before .before .if1 .taken in (
       omega (arith, h),
       first-next (l .k) (test (s .job .now) (s .randomness .now) (s .transcript .now)) (l .inv .1)
           (test-is m (l .k) computed h (c .before .constant-term .ensures) ∙ require-holds (ℕ-discrete sent computed) (failed 22 (l .k ∷ sent ∷ computed ∷ [])) (c .if2 .left)),
@@ -90,7 +90,7 @@ returns-2 : tie.Need-returns-2 Inv-loop μ-loop
 returns-2 c =
     let s = c .before .before .before .before .before .before .before .before .before .before .before .args in
     let l = c .before .before .loop in
-    let n : l .k ≡ parameters (s .job .now) .κ = omega (arith, l .inv .2 .rows, c .if1 .left) in
+    let n : l .k ≡ parameters (s .job .now) .L = omega (arith, l .inv .2 .rows, c .if1 .left) in
     sym
     (sym (check-22-is (s .job .now) (s .randomness .now) (s .transcript .now))
     ∙ ap (λ k. first k (test (s .job .now) (s .randomness .now) (s .transcript .now))) (sym n)
