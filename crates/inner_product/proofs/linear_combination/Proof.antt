@@ -1,7 +1,7 @@
 -- `linear_combination` meets its contract. The invariant: the totals are those of the first m scaled elements, and i stands at the next element.
 use mathlib.Core.Path.{_≡_, _∙_, subst}
 use mathlib.Core.List.{List}
-use Prim.Native.Nat.{ℕ, _+_, _-_, _*_, _≤_, _<_}
+use Prim.Native.Nat.{ℕ, _+_, _-_, _*_, _≤_, _<_, _^_}
 use native.Mathlib.Omega.{arith}
 use borrow.Author.Needs.{needs}
 use lib.ListN.{length, getD, length-replicate}
@@ -14,7 +14,7 @@ use Rattle.inner_product.proofs.linear_combination.Tie as tie
 
 abbrev Inv-loop : tie.InvT-loop
 Inv-loop x x-at x-step factors at n totals₀ i₀ m₀ totals i m =
-    (m ≤ n) × (i ≡ x-at + x-step * m) × Totals totals m (scaled-of x x-at x-step factors at) × (length totals ≡ 64)
+    (m ≤ n) × (i ≡ x-at + x-step * m) × Totals (2 ^ 39) totals m (scaled-of x x-at x-step factors at) × (length totals ≡ 64)
 
 abbrev μ-loop : tie.MeasureT-loop
 μ-loop x x-at x-step factors at n totals₀ i₀ m₀ totals i m = n - m
@@ -36,7 +36,7 @@ loop-again c =
     let scaled : ℕ → List ℕ = λ at. rscale (part (s .x .now) at 64) (getD (s .factors .now) (s .at + l .m) 0) in (
       omega arith,
       omega arith,
-      totals-next _ _ (l .m) _ (l .inv .2) (subst (λ at. Added (l .totals) (scaled at) (c .before .add-scaled .last .0)) (l .inv .1) (c .before .add-scaled .ensures .1)),
+      totals-next _ _ _ (l .m) _ (l .inv .2) (subst (λ at. Added (2 ^ 39) (l .totals) (scaled at) (c .before .add-scaled .last .0)) (l .inv .1) (c .before .add-scaled .ensures .1)),
       c .before .add-scaled .ensures .0,
     )
 
@@ -53,7 +53,7 @@ linear-combination-spec =
     (tie.spec
     Inv-loop
     μ-loop
-    (λ c. (omega arith, omega arith, totals-none _, length-replicate {A = ℕ} 64 0))
+    (λ c. (omega arith, omega arith, totals-none _ _, length-replicate {A = ℕ} 64 0))
     (λ c. omega arith)
     (λ c. omega arith)
     (λ c. omega arith)

@@ -40,7 +40,7 @@ fit-next words at c k before last j l = go (ℕ-discrete j k)
 
 -- sums with the halves of an element's products added have the scaled element added
 added : (sums words result : List ℕ) (at c : ℕ) → length sums ≡ 64 → result ≡ splice sums 0 (table 64 (folded sums words at c)) → Fit words at c 64
-    → Added sums (rscale (part words at 64) c) result
+    → Added (2 ^ 39) sums (rscale (part words at 64) c) result
 unfolding halves rscale
 added sums words result at c n e b =
     let read : (k : ℕ) → k < 64 → getD result k 0 ≡ folded sums words at c k = λ k h.
