@@ -1,6 +1,6 @@
 -- The numbers of four rows' entries, and what they give added to the sums of columns.
 use mathlib.Core.List.{List}
-use Prim.Native.Nat.{ℕ, _+_, _*_, _/_, _%_, _<_}
+use Prim.Native.Nat.{ℕ, _+_, _*_, _/_, _%_}
 use lib.ListN.{getD}
 use Rattle.lists.specs.Table.{table}
 use Rattle.jl_omega.specs.Omega.{carried}
@@ -9,14 +9,6 @@ use Rattle.jl_pairs.specs.Pairs.{pair-number}
 -- the number of the entries of four projection words, `step` words apart: those of two, and 16 times those of the next two
 abbrev pub four-number : List ℕ → (at step : ℕ) → ℕ
 four-number R at step = pair-number R at step + 16 * pair-number R (at + 2 * step) step
-
--- both pairs' numbers are below 16
-abbrev pub Few : List ℕ → (at step : ℕ) → Type 0
-Few R at step = (pair-number R at step < 16) × (pair-number R (at + 2 * step) step < 16)
-
--- those of n columns from a place on
-abbrev pub AllFew : List ℕ → (at step n : ℕ) → Type 0
-AllFew R at step n = (w : ℕ) → w < n → Few R (at + w) step
 
 -- four sums from a place on, with four entries from x on added
 abbrev pub four-added : List ℕ → (at : ℕ) → List ℕ → (x : ℕ) → List ℕ

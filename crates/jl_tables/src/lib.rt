@@ -7,7 +7,7 @@ ghost use lib.ListN.{length, getD};
 ghost use Rattle.lists.specs.Table.{table};
 ghost use Rattle.lists.specs.Part.{splice};
 ghost use Rattle.jl_pairs.specs.Pairs.{pair-number, column-sums};
-ghost use Rattle.jl_tables.specs.Tables.{four-number, Few, AllFew, four-added, block-added};
+ghost use Rattle.jl_tables.specs.Tables.{four-number, four-added, block-added};
 
 // The upper two bits of a projection word: 0 where its entry is −1, 1 where it is 1, and 2 or 3 where it is 0.
 fn entry_number(code: u32) -> u32
@@ -27,7 +27,7 @@ fn pair_number(randomness: &[u32], at: usize, step: usize) -> u32
 // The number of the entries of four projection words, `step` words apart.
 fn four_number(randomness: &[u32], at: usize, step: usize) -> u32
     requires { ⌜ at + 3 * step < length (now randomness) ⌝ }
-    ensures { λ r. ⌜ (r ≡ four-number (now (randomness .entry)) at step) × Few (now (randomness .entry)) at step ⌝ }
+    ensures { λ r. ⌜ r ≡ four-number (now (randomness .entry)) at step ⌝ }
 {
     let first = pair_number(randomness, at, step);
     let second = pair_number(randomness, at + 2 * step, step);
@@ -37,7 +37,7 @@ fn four_number(randomness: &[u32], at: usize, step: usize) -> u32
 // The numbers of 64 columns.
 fn numbers(randomness: &[u32], at: usize, step: usize) -> [u32; 64]
     requires { ⌜ at + 63 + 3 * step < length (now randomness) ⌝ }
-    ensures { λ r. ⌜ (r ≡ table 64 (λ w. four-number (now (randomness .entry)) (at + w) step)) × AllFew (now (randomness .entry)) at step 64 ⌝ }
+    ensures { λ r. ⌜ r ≡ table 64 (λ w. four-number (now (randomness .entry)) (at + w) step) ⌝ }
 {
     let mut out = [0u32; 64];
     for w in 0..64 {

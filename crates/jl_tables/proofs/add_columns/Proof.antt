@@ -1,6 +1,6 @@
 -- `add_columns` meets its contract. The invariant: the sums of the first m blocks of 64 columns are stored.
 use mathlib.Core.Path.{_≡_, refl, sym, _∙_, ap}
-use Prim.Native.Nat.{_+_, _-_, _*_, _≤_, _<_}
+use Prim.Native.Nat.{ℕ, _+_, _-_, _*_, _≤_, _<_, _^_}
 use native.Mathlib.Omega.{arith}
 use borrow.Author.Needs.{needs}
 use lib.ListN.{length, getD}
@@ -28,9 +28,10 @@ loop-holds c = (omega arith, sym (splice-nil _ _), refl)
 add-block-requires : tie.Need-add-block-requires Inv-loop μ-loop
 add-block-requires c κs =
     let s = c .before .before .before .before .before .before .before .before .before .args in
+    let words : (i : ℕ) → getD (s .randomness .now) i 0 < 2 ^ 32 = λ i. omega (arith, c .before .before .before .before .before .before .before .before .shared-slice-known .given i) in
     let codes = c .before .before .numbers .ensures in (
       ap length (c .before .before .before .before .before .four-sums .ensures) ∙ length-table 1024 _,
-      codes-below (s .randomness .now) _ (s .row-at + 64 * c .before .before .before .before .loop .m) (64 * s .n) (codes .0) (codes .1),
+      codes-below (s .randomness .now) _ (s .row-at + 64 * c .before .before .before .before .loop .m) (64 * s .n) words codes,
       omega arith,
     )
 
@@ -38,9 +39,10 @@ loop-again : tie.Need-loop-again Inv-loop μ-loop
 loop-again c =
     let l = c .before .before .before .before .before .before .before .loop in
     let s = c .before .before .before .before .before .before .before .before .before .before .before .before .args in
+    let words : (i : ℕ) → getD (s .randomness .now) i 0 < 2 ^ 32 = λ i. omega (arith, c .before .before .before .before .before .before .before .before .before .before .before .shared-slice-known .given i) in
     let codes = c .before .before .before .before .before .numbers .ensures in
     let stored = c .before .before .add-block .ensures
-    ∙ block-stored (s .randomness .now) (s .row-at) (64 * s .n) (s .pairs .now) (s .sums .now) (l .sums) _ _ (l .m) (l .inv .1) (c .before .before .before .before .before .before .before .before .four-sums .ensures) (codes .0) (codes .1) in
+    ∙ block-stored (s .randomness .now) (s .row-at) (64 * s .n) (s .pairs .now) words (s .sums .now) (l .sums) _ _ (l .m) (l .inv .1) (c .before .before .before .before .before .before .before .before .four-sums .ensures) codes in
     (omega arith, stored, ap length stored ∙ length-splice _ _ _)
 
 returns : tie.Need-returns Inv-loop μ-loop

@@ -1,9 +1,8 @@
 -- `add_scaled` meets its contract. The invariant: the first k sums have their product's halves added.
-use mathlib.Core.Path.{_≡_, refl, sym, _∙_, ap, ap₂, subst}
+use mathlib.Core.Path.{_≡_, refl, sym, _∙_, ap, ap₂}
 use mathlib.Core.List.{List}
 use Prim.Native.Nat.{ℕ, _+_, _-_, _*_, _/_, _%_, _≤_, _<_, _^_}
-use native.Mathlib.Nat.{zero-add, not-suc-le-zero}
-use native.Mathlib.Decide.{ℕ-discrete}
+use native.Mathlib.Nat.{zero-add}
 use native.Mathlib.Omega.{arith}
 use borrow.Author.Needs.{needs}
 use lib.ListN.{length, getD, set, length-set}
@@ -26,20 +25,8 @@ halves sum product = sum + (product % 4294967296 + product / 4294967296)
 abbrev folded : (sums words : List ℕ) (at c : ℕ) → ℕ → ℕ
 folded sums words at c k = halves (getD sums k 0) (getD words (at + k) 0 * c)
 
--- the first k products of words with a number are below 2^64
-abbrev Fit : (words : List ℕ) (at c k : ℕ) → Type 0
-Fit words at c k = (j : ℕ) → j < k → getD words (at + j) 0 * c ≤ 18446744065119617025
-
--- one more
-fit-next : (words : List ℕ) (at c k : ℕ) → Fit words at c k → getD words (at + k) 0 * c ≤ 18446744065119617025 → Fit words at c (k + 1)
-fit-next words at c k before last j l = go (ℕ-discrete j k)
-  where
-    go : Dec (j ≡ k) → getD words (at + j) 0 * c ≤ 18446744065119617025
-    go (yes same) = subst (λ i. getD words (at + i) 0 * c ≤ 18446744065119617025) (sym same) last
-    go (no other) = before j (omega arith)
-
 -- sums with the halves of an element's products added have the scaled element added
-added : (sums words result : List ℕ) (at c : ℕ) → length sums ≡ 64 → result ≡ splice sums 0 (table 64 (folded sums words at c)) → Fit words at c 64
+added : (sums words result : List ℕ) (at c : ℕ) → length sums ≡ 64 → result ≡ splice sums 0 (table 64 (folded sums words at c)) → ((k : ℕ) → k < 64 → getD words (at + k) 0 * c ≤ 18446744065119617025)
     → Added (2 ^ 39) sums (rscale (part words at 64) c) result
 unfolding halves rscale
 added sums words result at c n e b =
@@ -58,14 +45,14 @@ added sums words result at c n e b =
 
 abbrev Inv-loop : tie.InvT-loop
 Inv-loop sums₀ words at factor c k₀ sums k =
-    (k ≤ 64) × (sums ≡ splice sums₀ 0 (table k (folded sums₀ words at factor))) × (length sums ≡ length sums₀) × Fit words at factor k
+    (k ≤ 64) × (sums ≡ splice sums₀ 0 (table k (folded sums₀ words at factor))) × (length sums ≡ length sums₀)
 
 abbrev μ-loop : tie.MeasureT-loop
 μ-loop sums₀ words at factor c k₀ sums k = 64 - k
 
 loop-holds : tie.Need-loop-holds Inv-loop μ-loop
 unfolding table
-loop-holds c = (omega arith, sym (splice-nil _ _), refl, λ j l. absurd (not-suc-le-zero l))
+loop-holds c = (omega arith, sym (splice-nil _ _), refl)
 
 -- the product is below 2^64
 product-at : (c : tie.After-wide2 Inv-loop μ-loop) → c .wide2 .result * c .before .before .before .before .wide .result ≤ 18446744065119617025
@@ -98,7 +85,6 @@ loop-again c =
       ap₂ (λ w i. set w i v) (l .inv .1) (sym (zero-add (l .k)))
           ∙ splice-table-next (s .sums .now) 0 (l .k) f v (ap₂ (λ x p. x + (p % 4294967296 + p / 4294967296)) (sum-at c) product),
       simp length-set (l .inv .2),
-      fit-next (s .words .now) (s .at) (s .factor) (l .k) (l .inv .3) (subst (λ p. p ≤ 18446744065119617025) product (product-at (c .before))),
     )
 
 returns : tie.Need-returns Inv-loop μ-loop
@@ -108,7 +94,8 @@ returns c =
     let n : l .k ≡ 64 = omega arith in (
       omega arith,
       added (s .sums .now) (s .words .now) _ (s .at) (s .factor) (omega arith)
-          (l .inv .1 ∙ ap (λ k. splice (s .sums .now) 0 (table k (folded (s .sums .now) (s .words .now) (s .at) (s .factor)))) n) (rw n at (l .inv .3)),
+          (l .inv .1 ∙ ap (λ k. splice (s .sums .now) 0 (table k (folded (s .sums .now) (s .words .now) (s .at) (s .factor)))) n) (λ k h.
+          product-max {a = getD (s .words .now) (s .at + k) 0} {b = s .factor} (omega (arith, c .before .before .before .shared-slice-known .given (s .at + k))) (omega arith)),
     )
 
 pub add-scaled-spec : {M : Type 1} → statement M
