@@ -12,4 +12,4 @@ returns-2 : tie.Need-returns-2
 returns-2 c = failed _ _ (lt-leb _ _ (c .if1 .left))
 
 pub combination-fits-spec : {M : Type 1} → statement M
-combination-fits-spec = tie.close (tie.spec (λ c. search needs) (λ c. search needs) returns returns-2)
+combination-fits-spec = tie.close (tie.spec (λ c. search needs) returns returns-2)
