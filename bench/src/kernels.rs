@@ -333,6 +333,7 @@ pub const KERNELS: &[Entry] = &[
     ("digits of an element, base 65536, 2 parts", |random| digits(random, 65536, 2)),
     ("challenge", challenge),
     ("inner product, n 16", |random| slice(random, SliceCall::InnerProduct, vec![16])),
+    ("linear combination of 64 elements with numbers", |random| slice(random, SliceCall::Combination, vec![64])),
     ("p, n 16, r 4", |random| slice(random, SliceCall::Projection, vec![16, 4])),
     ("phi'', n 16, r 4, 5 constraints, 4 rows of psi", |random| slice(random, SliceCall::Phi, vec![4, 16, 5, 4])),
     ("u1, r 4, κ and κ1 4, base 256, 4 parts", |random| slice(random, SliceCall::U1, u1_sizes(4, 4, 4, 4, 4))),

@@ -1,3 +1,4 @@
+mod SmallParts
 pub mod Added
 pub mod Answers
 pub mod Products

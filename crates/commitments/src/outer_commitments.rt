@@ -1,11 +1,15 @@
 // Commitments to the digits of cells, without storing all digits at once.
+use digit_products::forms;
+use digit_products::products;
 use rq_vector::digits;
 use rq_vector::vector::zero;
+use zq::wide::wide;
 ghost use mathlib.Core.Path.{_≡_};
 ghost use Prim.Native.Nat.{_+_, _*_, _≤_, _<_, _^_};
 ghost use lib.ListN.{length};
 ghost use Rattle.lists.specs.Part.{splice};
 ghost use Rattle.inner_product.specs.Run.{run};
+ghost use Rattle.digit_products.specs.Forms.{DigitForms};
 ghost use Rattle.commitments.specs.Cells.{width, Room, added, row-product, digits-of-element, digits-product, u1-of, u2-of, Cells, Blocks, CanonicalFrom};
 
 // The digits of `cells` elements from `at` on, each element in `parts` digits.
@@ -15,25 +19,27 @@ pub struct Digits {
     pub parts: usize,
 }
 
-// The inner products of n elements with the rows' parts added to the rows' elements.
+// The inner products of n digits, whose forms are made before, with the rows' parts added to the rows' elements.
 pub fn add_products(
     matrix: &[u32],
     m_at: usize,
     m_step: usize,
     rows: usize,
     v: &[u32],
+    forms: &[u64],
+    half: u64,
     n: usize,
     out: &mut [u32],
     out_at: usize,
 )
-    requires { ⌜ Blocks (now matrix) «m_at» «m_step» (64 * n) rows × (64 * n ≤ length (now v)) × Room (now out) «out_at» rows × (n ≤ 2 ^ 20) ⌝ }
+    requires { ⌜ Blocks (now matrix) «m_at» «m_step» (64 * n) rows × (64 * n ≤ length (now v)) × Room (now out) «out_at» rows × DigitForms (now forms) half (now v) n ⌝ }
     ensures { λ _. ⌜ now (out .exit) ≡ added (now (out .entry)) «out_at» rows (row-product (now (matrix .entry)) «m_at» «m_step» n (run (now (v .entry)) 0 64)) ⌝ }
 {
     let mut row = m_at;
     let mut place = out_at;
     let mut k = 0;
     while k < rows {
-        let product = inner_product::inner_product(matrix, row, 64, v, 0, 64, n);
+        let product = products::inner_product(matrix, row, v, forms, half, n);
         let sum = words::load(out, place).add(product);
         words::store(out, place, sum);
         row += m_step;
@@ -60,7 +66,21 @@ pub fn add_cell(
 {
     let mut digits = [0u32; 2048];
     digits::decompose_to(from, at, base, parts, &mut digits, 0);
-    add_products(matrix, m_at, m_step, rows, &digits, parts, out, out_at);
+    let half = wide(base / 2);
+    let mut forms = [0u64; 4096];
+    forms::store_forms(&digits, parts, half, &mut forms);
+    add_products(
+        matrix,
+        m_at,
+        m_step,
+        rows,
+        &digits,
+        &forms,
+        half,
+        parts,
+        out,
+        out_at,
+    );
 }
 
 // A matrix times the digits added to the rows' elements, cell after cell.

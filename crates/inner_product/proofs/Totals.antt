@@ -18,22 +18,22 @@ use Rattle.definitions.proofs.Bridge.{words-sum, words-element, element-rmul, e
 use Rattle.rq.specs.Sums.{Room, Added}
 use Rattle.inner_product.specs.Run.{run}
 
--- totals of the first m of the elements f 0, f 1, …
-pub record Totals (totals : List ℕ) (m : ℕ) (f : ℕ → List ℕ) : Type 0 where
+-- totals of the first m of the elements f 0, f 1, …, each of which adds so much at most
+pub record Totals (growth : ℕ) (totals : List ℕ) (m : ℕ) (f : ℕ → List ℕ) : Type 0 where
   pub value : (k : ℕ) → k < 64 → getD totals k 0 % Q ≡ Σ m (λ i. coeff (f i) k) % Q
-  pub bound : (k : ℕ) → k < 64 → getD totals k 0 ≤ 2 ^ 39 * m
+  pub bound : (k : ℕ) → k < 64 → getD totals k 0 ≤ growth * m
 
 -- none
-pub totals-none : (f : ℕ → List ℕ) → Totals (replicate 64 0) 0 f
+pub totals-none : (growth : ℕ) (f : ℕ → List ℕ) → Totals growth (replicate 64 0) 0 f
 unfolding Σ
-totals-none f = record {
+totals-none growth f = record {
   value = λ k h. ap (λ v. v % 4294967295) (getD-replicate {A = ℕ} 64 k 0 0 h);
   bound = λ k h. omega (arith, getD-replicate {A = ℕ} 64 k 0 0 h);
 }
 
 -- one more
-pub totals-next : (totals next : List ℕ) (m : ℕ) (f : ℕ → List ℕ) → Totals totals m f → Added totals (f m) next → Totals next (m + 1) f
-totals-next totals next m f t a = record {
+pub totals-next : (growth : ℕ) (totals next : List ℕ) (m : ℕ) (f : ℕ → List ℕ) → Totals growth totals m f → Added growth totals (f m) next → Totals growth next (m + 1) f
+totals-next growth totals next m f t a = record {
   value = λ k h.
       a .value k h ∙ step (getD totals k 0) (Σ m (λ i. coeff (f i) k)) (coeff (f m) k) (t .value k h) ∙ ap (λ v. v % 4294967295) (sym (Σ-suc m (λ i. coeff (f i) k)));
   bound = λ k h. omega (arith, a .bound k h, t .bound k h);
@@ -43,13 +43,13 @@ totals-next totals next m f t a = record {
     step x y z e = omega arith
 
 -- there is room while they are few
-pub totals-room : (totals : List ℕ) (m : ℕ) (f : ℕ → List ℕ) → Totals totals m f → m ≤ 2 ^ 20 → Room totals
+pub totals-room : (totals : List ℕ) (m : ℕ) (f : ℕ → List ℕ) → Totals (2 ^ 39) totals m f → m ≤ 2 ^ 20 → Room totals
 totals-room totals m f t few k h = omega (arith, t .bound k h)
 
 -- reduced, they are the words of the elements' sum
-pub totals-words : (totals : List ℕ) (n : ℕ) (f : ℕ → List ℕ) → Totals totals n f → ((m : ℕ) → IsElement (f m))
+pub totals-words : (growth : ℕ) (totals : List ℕ) (n : ℕ) (f : ℕ → List ℕ) → Totals growth totals n f → ((m : ℕ) → IsElement (f m))
     → table 64 (λ k. getD totals k 0 % Q) ≡ words (sum RqOps n (λ m. element (f m)))
-totals-words totals n f t e =
+totals-words growth totals n f t e =
     table-ext 64 (λ k. getD totals k 0 % Q) (λ k. Σ n (λ i. coeff (words (element (f i))) k) % Q)
     (λ k h. t .value k h ∙ ap (λ v. v % Q) (Σ-ext n (λ i. coeff (f i) k) (λ i. coeff (words (element (f i))) k) (λ i l. ap (λ w. coeff w k) (sym (words-element (f i) (e i))))))
     ∙ sym (words-sum n (λ m. element (f m)))
@@ -59,11 +59,11 @@ abbrev pub product-of : (x : List ℕ) (x-at x-step : ℕ) (y : List ℕ) (y-at 
 product-of x x-at x-step y y-at y-step m = rmul (part x (x-at + x-step * m) 64) (part y (y-at + y-step * m) 64)
 
 -- the totals of products are the inner product
-pub totals-dot : (x : List ℕ) (x-at x-step : ℕ) (y : List ℕ) (y-at y-step n : ℕ) (totals : List ℕ) → Totals totals n (product-of x x-at x-step y y-at y-step)
+pub totals-dot : (growth : ℕ) (x : List ℕ) (x-at x-step : ℕ) (y : List ℕ) (y-at y-step n : ℕ) (totals : List ℕ) → Totals growth totals n (product-of x x-at x-step y y-at y-step)
     → table 64 (λ k. getD totals k 0 % Q) ≡ words (dot RqOps n (run x x-at x-step) (run y y-at y-step))
 unfolding dot
-totals-dot x x-at x-step y y-at y-step n totals t =
-    totals-words totals n (product-of x x-at x-step y y-at y-step) t (λ m. rmul-element (part x (x-at + x-step * m) 64) (part y (y-at + y-step * m) 64))
+totals-dot growth x x-at x-step y y-at y-step n totals t =
+    totals-words growth totals n (product-of x x-at x-step y y-at y-step) t (λ m. rmul-element (part x (x-at + x-step * m) 64) (part y (y-at + y-step * m) 64))
     ∙ ap words (sum-ext RqOps n (λ m. element (product-of x x-at x-step y y-at y-step m)) (λ m. RqOps .mul (run x x-at x-step m) (run y y-at y-step m))
     (λ m l. element-rmul (part x (x-at + x-step * m) 64) (part y (y-at + y-step * m) 64)))
 
@@ -72,9 +72,9 @@ abbrev pub scaled-of : (x : List ℕ) (x-at x-step : ℕ) (factors : List ℕ) (
 scaled-of x x-at x-step factors at m = rscale (part x (x-at + x-step * m) 64) (getD factors (at + m) 0)
 
 -- the totals of scaled elements are the linear combination
-pub totals-combination : (x : List ℕ) (x-at x-step : ℕ) (factors : List ℕ) (at n : ℕ) (totals : List ℕ) → Totals totals n (scaled-of x x-at x-step factors at)
+pub totals-combination : (x : List ℕ) (x-at x-step : ℕ) (factors : List ℕ) (at n : ℕ) (totals : List ℕ) → Totals (2 ^ 39) totals n (scaled-of x x-at x-step factors at)
     → table 64 (λ k. getD totals k 0 % Q) ≡ words (sum RqOps n (λ m. scale (run x x-at x-step m) (getD factors (at + m) 0)))
 totals-combination x x-at x-step factors at n totals t =
-    totals-words totals n (scaled-of x x-at x-step factors at) t (λ m. rscale-element (part x (x-at + x-step * m) 64) (getD factors (at + m) 0))
+    totals-words (2 ^ 39) totals n (scaled-of x x-at x-step factors at) t (λ m. rscale-element (part x (x-at + x-step * m) 64) (getD factors (at + m) 0))
     ∙ ap words (sum-ext RqOps n (λ m. element (scaled-of x x-at x-step factors at m)) (λ m. scale (run x x-at x-step m) (getD factors (at + m) 0))
     (λ m l. element-rscale (part x (x-at + x-step * m) 64) (getD factors (at + m) 0)))

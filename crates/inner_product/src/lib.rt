@@ -56,9 +56,7 @@ pub fn linear_combination(
     let mut i = x_at;
     let mut m = 0;
     while m < n {
-        let a = words::load(x, i).coeffs;
-        let next = sums::add_scaled(totals, a, factors[at + m]);
-        totals = next;
+        sums::add_scaled(&mut totals, x, i, factors[at + m]);
         i += x_step;
         m += 1;
     }

@@ -11,29 +11,24 @@ ghost use Rattle.jl_omega.specs.Omega.{omega-element};
 ghost use Rattle.jl_pairs.specs.Pairs.{pair-table, column-sums};
 ghost use Rattle.jl_fours.specs.Fours.{Summed, summed-element, spread};
 
-// The four rows from `row_at` on, each times its omega for each of four k, added to the sums of `width` columns.
-fn add_four_rows(randomness: &[u32], row_at: usize, width: usize, omega_at: usize, sums: &mut [u32])
-    requires { ⌜ («row_at» + 4 * width ≤ length (now randomness)) × («omega_at» + 772 ≤ length (now randomness)) × (4 * width ≤ length (now sums)) ⌝ }
-    ensures { λ _. ⌜ now (sums .exit) ≡ splice (now (sums .entry)) 0 (column-sums (now (randomness .entry)) «row_at» width (pair-table (now (randomness .entry)) «omega_at») (now (sums .entry))) ⌝ }
+// The four rows of n elements from `row_at` on, each times its omega for each of four k, added to the sums of their columns.
+fn add_four_rows(randomness: &[u32], row_at: usize, n: usize, omega_at: usize, sums: &mut [u32])
+    requires { ⌜ («row_at» + 4 * (64 * n) ≤ length (now randomness)) × («omega_at» + 772 ≤ length (now randomness)) × (4 * (64 * n) ≤ length (now sums)) ⌝ }
+    ensures { λ _. ⌜ now (sums .exit) ≡ splice (now (sums .entry)) 0 (column-sums (now (randomness .entry)) «row_at» (64 * n) (pair-table (now (randomness .entry)) «omega_at») (now (sums .entry))) ⌝ }
 {
     let pairs = jl_pairs::pair_sums(randomness, omega_at);
-    jl_pairs::add_columns(randomness, row_at, width, &pairs, sums);
+    jl_tables::add_columns(randomness, row_at, n, &pairs, sums);
 }
 
-// The 256 rows from `pi_at` on, each times its omega for each of four k, added to the sums of `width` columns, which are zero before.
-fn add_rows(randomness: &[u32], pi_at: usize, width: usize, omega_at: usize, sums: &mut [u32])
-    requires { ⌜ («pi_at» + 256 * width ≤ length (now randomness)) × («omega_at» + 1024 ≤ length (now randomness)) × (now sums ≡ replicate 16384 0) × (width ≤ 4096) ⌝ }
-    ensures { λ _. ⌜ (length (now (sums .exit)) ≡ 16384) × Summed (now (randomness .entry)) «pi_at» «omega_at» width 256 (now (sums .exit)) ⌝ }
+// The 256 rows of n elements from `pi_at` on, each times its omega for each of four k, added to the sums of their columns, which are zero before.
+fn add_rows(randomness: &[u32], pi_at: usize, n: usize, omega_at: usize, sums: &mut [u32])
+    requires { ⌜ («pi_at» + 256 * (64 * n) ≤ length (now randomness)) × («omega_at» + 1024 ≤ length (now randomness)) × (now sums ≡ replicate 16384 0) × (n ≤ 64) ⌝ }
+    ensures { λ _. ⌜ (length (now (sums .exit)) ≡ 16384) × Summed (now (randomness .entry)) «pi_at» «omega_at» (64 * n) 256 (now (sums .exit)) ⌝ }
 {
+    let width = 64 * n;
     let mut g = 0;
     while g < 64 {
-        add_four_rows(
-            randomness,
-            pi_at + 4 * g * width,
-            width,
-            omega_at + 4 * g,
-            sums,
-        );
+        add_four_rows(randomness, pi_at + 4 * g * width, n, omega_at + 4 * g, sums);
         g += 1;
     }
 }
@@ -90,6 +85,6 @@ pub fn omega_part(
     ensures { λ _. ⌜ now (out .exit) ≡ spread (now (out .entry)) «out_at» step 4 (λ k. flat (table n (omega-element (now (randomness .entry)) «pi_at» («omega_at» + k * 256) n))) ⌝ }
 {
     let mut sums = [0u32; 16384];
-    add_rows(randomness, pi_at, 64 * n, omega_at, &mut sums);
+    add_rows(randomness, pi_at, n, omega_at, &mut sums);
     store_parts(&sums, out, out_at, step, n);
 }

@@ -22,9 +22,17 @@ pair-entry R om q = pair-sum R (om + q / 64 * 2 + q % 4 * 256) (q / 4 % 16)
 abbrev pub pair-table : List ℕ → (om : ℕ) → List ℕ
 pair-table R om = table 128 (pair-entry R om)
 
--- four sums from a place on, with four entries of the pairs' sums from x on and four from y on added
-abbrev pub four-sums : List ℕ → (at : ℕ) → List ℕ → (x y : ℕ) → List ℕ
-four-sums sums at pairs x y = table 4 (λ k. carried (getD sums (at + k) 0) (carried (getD pairs (x + k) 0) (getD pairs (y + k) 0)))
+-- four entries of the pairs' sums from x on, and four from y on added
+abbrev pub joined-sums : List ℕ → (x y : ℕ) → List ℕ
+joined-sums pairs x y = table 4 (λ k. carried (getD pairs (x + k) 0) (getD pairs (y + k) 0))
+
+-- entry q of the sums of four rows: the sums for number q / 4 of their entries and k = q % 4
+abbrev pub four-entry : List ℕ → ℕ → ℕ
+four-entry pairs q = carried (getD pairs (q % 64) 0) (getD pairs (64 + 4 * (q / 64) + q % 4) 0)
+
+-- the sums of four rows
+abbrev pub four-table : List ℕ → List ℕ
+four-table pairs = table 1024 (four-entry pairs)
 
 -- what is added to sum p, that of column p / 4 for k = p % 4, for the four rows from a place on
 abbrev pub column-term : List ℕ → (row width : ℕ) → List ℕ → ℕ → ℕ

@@ -1,27 +1,10 @@
-// The terms of four rows added to the sums of the columns for four k. The sums of two rows' terms for each pair of entries are worked out before, and a
-// column's four sums, one for each k, stand side by side.
+// The sums of four rows' terms for four k, for each number of the rows' entries: those of two rows are worked out first.
 use jl::projection;
 ghost use mathlib.Core.Path.{_≡_};
-ghost use Prim.Native.Nat.{_+_, _*_, _/_, _≤_, _<_};
-ghost use lib.ListN.{length, getD};
+ghost use Prim.Native.Nat.{_+_, _*_, _≤_, _<_};
+ghost use lib.ListN.{length};
 ghost use Rattle.lists.specs.Part.{splice};
-ghost use Rattle.jl_omega.specs.Omega.{carried};
-ghost use Rattle.jl_pairs.specs.Pairs.{pair-number, pair-sum, pair-table, four-sums, column-sums};
-
-// The upper two bits of a projection word: 0 where its entry is −1, 1 where it is 1, and 2 or 3 where it is 0.
-fn entry_number(code: u32) -> usize
-    ensures { λ r. ⌜ (r ≡ code / 1073741824) × (r < 4) ⌝ }
-{
-    (code / 1073741824) as usize
-}
-
-// The number of the entries of two projection words.
-fn pair_number(randomness: &[u32], at: usize, step: usize) -> usize
-    requires { ⌜ at + step < length (now randomness) ⌝ }
-    ensures { λ r. ⌜ (r ≡ pair-number (now (randomness .entry)) at step) × (r < 16) ⌝ }
-{
-    entry_number(randomness[at]) + 4 * entry_number(randomness[at + step])
-}
+ghost use Rattle.jl_pairs.specs.Pairs.{pair-sum, pair-table, joined-sums, four-table};
 
 // The sum of the terms of two words of omega and the entries of number x.
 fn pair_sum(randomness: &[u32], at: usize, x: usize) -> u32
@@ -48,39 +31,31 @@ pub fn pair_sums(randomness: &[u32], omega_at: usize) -> [u32; 128]
     sums
 }
 
-// A sum with two entries of the pairs' sums added.
-fn next_sum(pairs: &[u32], x: usize, y: usize, sums: &[u32], at: usize) -> u32
-    requires { ⌜ (x < length (now pairs)) × (y < length (now pairs)) × (at < length (now sums)) ⌝ }
-    ensures { λ r. ⌜ r ≡ carried (getD (now (sums .entry)) at 0) (carried (getD (now (pairs .entry)) x 0) (getD (now (pairs .entry)) y 0)) ⌝ }
+// Four entries of the pairs' sums from x on and four from y on, added and stored from `at` on.
+fn join_four(pairs: &[u32], x: usize, y: usize, fours: &mut [u32], at: usize)
+    requires { ⌜ (x + 4 ≤ length (now pairs)) × (y + 4 ≤ length (now pairs)) × (at + 4 ≤ length (now fours)) ⌝ }
+    ensures { λ _. ⌜ now (fours .exit) ≡ splice (now (fours .entry)) at (joined-sums (now (pairs .entry)) x y) ⌝ }
 {
-    jl_omega::carry_add(sums[at], jl_omega::carry_add(pairs[x], pairs[y]))
+    let first = jl_omega::carry_add(pairs[x], pairs[y]);
+    let second = jl_omega::carry_add(pairs[x + 1], pairs[y + 1]);
+    let third = jl_omega::carry_add(pairs[x + 2], pairs[y + 2]);
+    let fourth = jl_omega::carry_add(pairs[x + 3], pairs[y + 3]);
+    fours[at] = first;
+    fours[at + 1] = second;
+    fours[at + 2] = third;
+    fours[at + 3] = fourth;
 }
 
-// The four sums of a column, with four entries from x on and four from y on added.
-fn add_column(pairs: &[u32], x: usize, y: usize, sums: &mut [u32], at: usize)
-    requires { ⌜ (x + 4 ≤ length (now pairs)) × (y + 4 ≤ length (now pairs)) × (at + 4 ≤ length (now sums)) ⌝ }
-    ensures { λ _. ⌜ now (sums .exit) ≡ splice (now (sums .entry)) at (four-sums (now (sums .entry)) at (now (pairs .entry)) x y) ⌝ }
+// The sums of four rows' terms for each number of their entries and each of four k, from those of two rows.
+pub fn four_sums(pairs: &[u32]) -> [u32; 1024]
+    requires { ⌜ length (now pairs) ≡ 128 ⌝ }
+    ensures { λ r. ⌜ r ≡ four-table (now (pairs .entry)) ⌝ }
 {
-    let first = next_sum(pairs, x, y, sums, at);
-    let second = next_sum(pairs, x + 1, y + 1, sums, at + 1);
-    let third = next_sum(pairs, x + 2, y + 2, sums, at + 2);
-    let fourth = next_sum(pairs, x + 3, y + 3, sums, at + 3);
-    sums[at] = first;
-    sums[at + 1] = second;
-    sums[at + 2] = third;
-    sums[at + 3] = fourth;
-}
-
-// The terms of four rows from `row_at` on added to the sums of `width` columns.
-pub fn add_columns(randomness: &[u32], row_at: usize, width: usize, pairs: &[u32], sums: &mut [u32])
-    requires { ⌜ («row_at» + 4 * width ≤ length (now randomness)) × (length (now pairs) ≡ 128) × (4 * width ≤ length (now sums)) ⌝ }
-    ensures { λ _. ⌜ now (sums .exit) ≡ splice (now (sums .entry)) 0 (column-sums (now (randomness .entry)) «row_at» width (now (pairs .entry)) (now (sums .entry))) ⌝ }
-{
-    let mut c = 0;
-    while c < width {
-        let x = pair_number(randomness, row_at + c, width);
-        let y = pair_number(randomness, row_at + 2 * width + c, width);
-        add_column(pairs, 4 * x, 64 + 4 * y, sums, 4 * c);
-        c += 1;
+    let mut fours = [0u32; 1024];
+    let mut z = 0;
+    while z < 256 {
+        join_four(pairs, 4 * (z % 16), 64 + 4 * (z / 16), &mut fours, 4 * z);
+        z += 1;
     }
+    fours
 }

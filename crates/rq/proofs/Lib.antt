@@ -1,2 +1,2 @@
 mod Halves
-mod Coefficient
+pub mod Coefficient

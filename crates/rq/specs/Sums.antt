@@ -10,7 +10,7 @@ use Rattle.definitions.specs.Rq.{coeff}
 abbrev pub Room : List ℕ → Type 0
 Room sums = (k : ℕ) → k < 64 → getD sums k 0 ≤ 2 ^ 63
 
--- an element added to the sums: each is the same modulo Q, and grows by at most 2^39
-pub record Added (sums element result : List ℕ) : Type 0 where
+-- an element added to the sums: each is the same modulo Q, and grows by so much at most
+pub record Added (growth : ℕ) (sums element result : List ℕ) : Type 0 where
   pub value : (k : ℕ) → k < 64 → getD result k 0 % Q ≡ (getD sums k 0 + coeff element k) % Q
-  pub bound : (k : ℕ) → k < 64 → getD result k 0 ≤ getD sums k 0 + 2 ^ 39
+  pub bound : (k : ℕ) → k < 64 → getD result k 0 ≤ getD sums k 0 + growth

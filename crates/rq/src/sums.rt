@@ -2,9 +2,10 @@
 use crate::product;
 use zq::wide::wide;
 ghost use mathlib.Core.Path.{_≡_};
-ghost use Prim.Native.Nat.{_%_};
-ghost use lib.ListN.{getD};
+ghost use Prim.Native.Nat.{_+_, _%_, _^_, _≤_};
+ghost use lib.ListN.{length, getD};
 ghost use Rattle.lists.specs.Table.{table};
+ghost use Rattle.lists.specs.Part.{part};
 ghost use Rattle.definitions.specs.Zq.{Q};
 ghost use Rattle.definitions.specs.Rq.{rmul, rscale};
 ghost use Rattle.rq.specs.Sums.{Room, Added};
@@ -12,7 +13,7 @@ ghost use Rattle.rq.specs.Sums.{Room, Added};
 // The product of two elements added to the sums.
 pub fn add_product(sums: [u64; 64], a: [u32; 64], b: [u32; 64]) -> [u64; 64]
     requires { ⌜ Room sums ⌝ }
-    ensures { λ r. ⌜ Added sums (rmul a b) r ⌝ }
+    ensures { λ r. ⌜ Added (2 ^ 39) sums (rmul a b) r ⌝ }
 {
     let y = product::extend(a);
     let x = product::reverse(b);
@@ -23,18 +24,16 @@ pub fn add_product(sums: [u64; 64], a: [u32; 64], b: [u32; 64]) -> [u64; 64]
     out
 }
 
-// The product of an element with a number added to the sums.
-pub fn add_scaled(sums: [u64; 64], a: [u32; 64], factor: u32) -> [u64; 64]
-    requires { ⌜ Room sums ⌝ }
-    ensures { λ r. ⌜ Added sums (rscale a factor) r ⌝ }
+// The product of the element at `at` with a number added to the sums, each product folded once: 2^32 is 1 modulo Q.
+pub fn add_scaled(sums: &mut [u64], words: &[u32], at: usize, factor: u32)
+    requires { ⌜ (length (now sums) ≡ 64) × (at + 64 ≤ length (now words)) × Room (now sums) ⌝ }
+    ensures { λ _. ⌜ (length (now (sums .exit)) ≡ 64) × Added (2 ^ 39) (now (sums .entry)) (rscale (part (now (words .entry)) at 64) factor) (now (sums .exit)) ⌝ }
 {
     let c = wide(factor);
-    let mut out = [0u64; 64];
     for k in 0..64 {
-        let term = wide(a[k]) * c;
-        out[k] = sums[k] + (term % product::RADIX + term / product::RADIX);
+        let term = wide(words[at + k]) * c;
+        sums[k] = sums[k] + (term % product::RADIX + term / product::RADIX);
     }
-    out
 }
 
 // The sums modulo Q.

@@ -6,7 +6,7 @@ use native.Mathlib.Nat.{mul-le-mul}
 use native.Mathlib.Omega.{arith}
 use borrow.Author.Tests.{leb-true, eqb-true}
 use lib.Dec.{leb, eqb}
-use Rattle.slice_calls.specs.Fits.{inner-product-fits, projection-fits, omega-place, phi-fits, u1-fits}
+use Rattle.slice_calls.specs.Fits.{inner-product-fits, combination-fits, projection-fits, omega-place, phi-fits, u1-fits}
 use Rattle.slice_calls.proofs.Tests.{both, three}
 
 -- of an inner product
@@ -15,6 +15,13 @@ inner-product-sizes x y out n e =
     let h = both (leb n 64) (eqb x (64 * n) && eqb y (64 * n) && eqb out 64) e in
     let l = three (eqb x (64 * n)) (eqb y (64 * n)) (eqb out 64) (h .1) in
     (leb-true n 64 (h .0), eqb-true x (64 * n) (l .0), eqb-true y (64 * n) (l .1), eqb-true out 64 (l .2))
+
+-- of a linear combination
+pub combination-sizes : (x factors out n : ℕ) → combination-fits x factors out n ≡ true → (n ≤ 64) × (x ≡ 64 * n) × (factors ≡ n) × (out ≡ 64)
+combination-sizes x factors out n e =
+    let h = both (leb n 64) (eqb x (64 * n) && eqb factors n && eqb out 64) e in
+    let l = three (eqb x (64 * n)) (eqb factors n) (eqb out 64) (h .1) in
+    (leb-true n 64 (h .0), eqb-true x (64 * n) (l .0), eqb-true factors n (l .1), eqb-true out 64 (l .2))
 
 -- the sizes of a projection, and a product of them
 pub projection-limits : (n r : ℕ) → leb n 64 && leb r 16 ≡ true → (n ≤ 64) × (r ≤ 16) × (r * n ≤ 16 * 64)

@@ -7,6 +7,10 @@ use lib.Dec.{leb, eqb}
 abbrev pub inner-product-fits : (x y out n : ℕ) → Bool
 inner-product-fits x y out n = leb n 64 && (eqb x (64 * n) && eqb y (64 * n) && eqb out 64)
 
+-- n elements, as many numbers, and an element
+abbrev pub combination-fits : (x factors out n : ℕ) → Bool
+combination-fits x factors out n = leb n 64 && (eqb x (64 * n) && eqb factors n && eqb out 64)
+
 -- r matrices of 256 rows of n elements, as many vectors, and 256 words
 abbrev pub projection-fits : (pi s out n r : ℕ) → Bool
 projection-fits pi s out n r = (leb n 64 && leb r 16) && (eqb pi (r * 256 * (64 * n)) && eqb s (r * (64 * n)) && eqb out 256)

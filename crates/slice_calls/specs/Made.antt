@@ -2,13 +2,14 @@
 use mathlib.Core.Bool.{Bool, cond}
 use mathlib.Core.List.{List}
 use Prim.Native.Nat.{ℕ, _+_, _*_}
+use lib.ListN.{getD}
 use Rattle.lists.specs.Table.{table, cat}
 use Rattle.lists.specs.Part.{splice}
 use Rattle.definitions.specs.Rq.{Element}
-use Rattle.definitions.specs.Ring.{RqOps, words}
+use Rattle.definitions.specs.Ring.{RqOps, words, scale}
 use Rattle.inner_product.specs.Run.{run}
 use Rattle.jl.specs.Run.{run as projection-of}
-use Rattle.protocol.specs.Formulas.{dot, flat, rows, times, digits-of}
+use Rattle.protocol.specs.Formulas.{sum, dot, flat, rows, times, digits-of}
 use Rattle.rq_matrix.specs.Region.{vector}
 use Rattle.aggregate.specs.Weighed.{both}
 use Rattle.slice_calls.specs.Fits.{psi-place, omega-place}
@@ -20,6 +21,10 @@ left fits before made = cond fits (splice before 0 made) before
 -- the inner product of two vectors of n elements
 abbrev pub inner-product-made : List ℕ → List ℕ → ℕ → List ℕ
 inner-product-made x y n = words (dot n (run x 0 64) (run y 0 64))
+
+-- the linear combination of n elements with as many numbers
+abbrev pub combination-made : List ℕ → List ℕ → ℕ → List ℕ
+combination-made x factors n = words (sum n (λ m. scale (run x 0 64 m) (getD factors m 0)))
 
 -- the projection of r vectors of n elements
 abbrev pub projection-made : List ℕ → List ℕ → (n r : ℕ) → List ℕ

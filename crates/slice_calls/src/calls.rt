@@ -3,8 +3,8 @@ use crate::fits;
 use crate::work;
 ghost use mathlib.Core.Path.{_≡_};
 ghost use lib.ListN.{length};
-ghost use Rattle.slice_calls.specs.Fits.{inner-product-fits, projection-fits, phi-fits, u1-fits};
-ghost use Rattle.slice_calls.specs.Made.{left, inner-product-made, projection-made, phi-made, u1-made};
+ghost use Rattle.slice_calls.specs.Fits.{inner-product-fits, combination-fits, projection-fits, phi-fits, u1-fits};
+ghost use Rattle.slice_calls.specs.Made.{left, inner-product-made, combination-made, projection-made, phi-made, u1-made};
 
 // The inner product of two vectors of n elements.
 #[no_mangle]
@@ -14,6 +14,20 @@ pub extern "C" fn slice_inner_product(x: &[u32], y: &[u32], n: usize, out: &mut 
 {
     if fits::inner_product_fits(x.len(), y.len(), out.len(), n) {
         work::inner_product(x, y, n, out);
+        true
+    } else {
+        false
+    }
+}
+
+// The linear combination of n elements with as many numbers.
+#[no_mangle]
+pub extern "C" fn slice_combination(x: &[u32], factors: &[u32], n: usize, out: &mut [u32]) -> bool
+    ensures { λ b. ⌜ b ≡ combination-fits (length (now (x .entry))) (length (now (factors .entry))) (length (now (out .entry))) n ⌝ }
+    ensures { λ b. ⌜ now (out .exit) ≡ left b (now (out .entry)) (combination-made (now (x .entry)) (now (factors .entry)) n) ⌝ }
+{
+    if fits::combination_fits(x.len(), factors.len(), out.len(), n) {
+        work::combination(x, factors, n, out);
         true
     } else {
         false

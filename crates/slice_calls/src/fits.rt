@@ -1,6 +1,6 @@
 // Whether the slices hold exactly the operands that the sizes tell.
 ghost use mathlib.Core.Path.{_≡_};
-ghost use Rattle.slice_calls.specs.Fits.{inner-product-fits, projection-fits, phi-fits, u1-fits};
+ghost use Rattle.slice_calls.specs.Fits.{inner-product-fits, combination-fits, projection-fits, phi-fits, u1-fits};
 
 // An inner product of two vectors of n elements.
 pub fn inner_product_fits(x: usize, y: usize, out: usize, n: usize) -> bool
@@ -8,6 +8,17 @@ pub fn inner_product_fits(x: usize, y: usize, out: usize, n: usize) -> bool
 {
     if n <= 64 {
         (x == 64 * n) & (y == 64 * n) & (out == 64)
+    } else {
+        false
+    }
+}
+
+// A linear combination of n elements with as many numbers.
+pub fn combination_fits(x: usize, factors: usize, out: usize, n: usize) -> bool
+    ensures { λ b. ⌜ b ≡ combination-fits x factors out n ⌝ }
+{
+    if n <= 64 {
+        (x == 64 * n) & (factors == n) & (out == 64)
     } else {
         false
     }

@@ -6,8 +6,8 @@ ghost use mathlib.Core.Path.{_≡_};
 ghost use mathlib.Core.Bool.{Bool};
 ghost use lib.ListN.{length};
 ghost use Rattle.lists.specs.Part.{splice};
-ghost use Rattle.slice_calls.specs.Fits.{inner-product-fits, projection-fits, phi-fits, u1-fits};
-ghost use Rattle.slice_calls.specs.Made.{inner-product-made, projection-made, phi-made, u1-made};
+ghost use Rattle.slice_calls.specs.Fits.{inner-product-fits, combination-fits, projection-fits, phi-fits, u1-fits};
+ghost use Rattle.slice_calls.specs.Made.{inner-product-made, combination-made, projection-made, phi-made, u1-made};
 
 // The inner product.
 pub fn inner_product(x: &[u32], y: &[u32], n: usize, out: &mut [u32])
@@ -15,6 +15,18 @@ pub fn inner_product(x: &[u32], y: &[u32], n: usize, out: &mut [u32])
     ensures { λ _. ⌜ now (out .exit) ≡ splice (now (out .entry)) 0 (inner-product-made (now (x .entry)) (now (y .entry)) n) ⌝ }
 {
     words::store(out, 0, inner_product::inner_product(x, 0, 64, y, 0, 64, n));
+}
+
+// The linear combination.
+pub fn combination(x: &[u32], factors: &[u32], n: usize, out: &mut [u32])
+    requires { ⌜ combination-fits (length (now x)) (length (now factors)) (length (now out)) n ≡ Bool.true ⌝ }
+    ensures { λ _. ⌜ now (out .exit) ≡ splice (now (out .entry)) 0 (combination-made (now (x .entry)) (now (factors .entry)) n) ⌝ }
+{
+    words::store(
+        out,
+        0,
+        inner_product::linear_combination(x, 0, 64, factors, 0, n),
+    );
 }
 
 // The projection.

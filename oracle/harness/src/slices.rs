@@ -30,6 +30,7 @@ const UNFIT: &str = "library: slice calls that do not fit, with a refusal that t
 fn kind(call: SliceCall) -> &'static str {
     match call {
         SliceCall::InnerProduct => "library: inner product with the Rust's",
+        SliceCall::Combination => "library: linear combination with the Rust's",
         SliceCall::Projection => "library: p with the Rust's",
         SliceCall::Phi => "library: phi'' with the Rust's",
         SliceCall::U1 => "library: u1 with the Rust's",
@@ -43,6 +44,7 @@ const D: usize = 64;
 pub fn lengths(call: SliceCall, sizes: &[usize]) -> ([usize; 2], usize) {
     match (call, sizes) {
         (SliceCall::InnerProduct, &[n]) => ([D * n, D * n], D),
+        (SliceCall::Combination, &[n]) => ([D * n, n], D),
         (SliceCall::Projection, &[n, r]) => ([r * 256 * D * n, r * D * n], 256),
         (SliceCall::Phi, &[r, n, count, number]) => (
             [D * r * n * count, r * 256 * D * n + number * count + number * 256],
@@ -100,6 +102,7 @@ fn phi_parameters(r: usize, n: usize, number: usize) -> EnvironmentParameters {
 /// A call's operands as the Rust has them.
 pub enum Operands {
     InnerProduct(Vec<Rq>, Vec<Rq>),
+    Combination(Vec<Rq>, Vec<Zq>),
     Projection(Projection, Vec<RqVector>),
     Phi {
         parameters: EnvironmentParameters,
@@ -154,6 +157,9 @@ impl Operands {
     pub fn new(call: SliceCall, [first, second]: [&[u32]; 2], sizes: &[usize], base: u32) -> Self {
         match (call, sizes) {
             (SliceCall::InnerProduct, _) => Operands::InnerProduct(elements(first), elements(second)),
+            (SliceCall::Combination, &[n]) => {
+                Operands::Combination(elements(first), number_rows(second, n).concat())
+            }
             (SliceCall::Projection, &[n, r]) => Operands::Projection(projection(first, n, r), vectors(second, n)),
             (SliceCall::Phi, &[r, n, count, number]) => {
                 let (matrices, rest) = second.split_at(r * 256 * D * n);
@@ -191,6 +197,7 @@ impl Operands {
     pub fn run(&self) -> Made {
         match self {
             Operands::InnerProduct(x, y) => Made::Element(compute_linear_combination(x, y)),
+            Operands::Combination(x, factors) => Made::Element(compute_linear_combination(x, factors)),
             Operands::Projection(projection, s) => Made::Numbers(projection.compute_batch_projection(s)),
             Operands::Phi {
                 parameters,
@@ -297,8 +304,9 @@ fn refused(
 }
 
 /// Sizes just above their limits, with slices of the lengths that they tell.
-const ABOVE: [(SliceCall, &[usize]); 12] = [
+const ABOVE: [(SliceCall, &[usize]); 13] = [
     (SliceCall::InnerProduct, &[65]),
+    (SliceCall::Combination, &[65]),
     (SliceCall::Projection, &[65, 1]),
     (SliceCall::Projection, &[1, 17]),
     (SliceCall::Phi, &[17, 1, 1, 1]),
@@ -329,6 +337,7 @@ pub fn all(tally: &mut Tally, random: &mut Random, count: usize) {
     }
     for n in [1, 2, 16, 63, 64] {
         take(tally, random, SliceCall::InnerProduct, &[n], 2);
+        take(tally, random, SliceCall::Combination, &[n], 2);
     }
     take(tally, random, SliceCall::Projection, &[64, 1], 2);
     take(tally, random, SliceCall::Projection, &[1, 16], 2);
@@ -340,6 +349,7 @@ pub fn all(tally: &mut Tally, random: &mut Random, count: usize) {
     for _ in 0..count {
         let n = 1 + random.below(64);
         take(tally, random, SliceCall::InnerProduct, &[n], 2);
+        take(tally, random, SliceCall::Combination, &[n], 2);
         let small = |random: &mut Random| 1 + random.below(4);
         let (n, r) = (small(random), small(random));
         take(tally, random, SliceCall::Projection, &[n, r], 2);

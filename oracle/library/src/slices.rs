@@ -5,6 +5,8 @@
 pub enum SliceCall {
     /// x and y; n.
     InnerProduct,
+    /// Elements and numbers; n.
+    Combination,
     /// Projection words and s; n, r.
     Projection,
     /// φ', and projection words, psi and omega; r, n, constraints, rows of psi and of omega.
@@ -14,8 +16,9 @@ pub enum SliceCall {
 }
 
 impl SliceCall {
-    pub const ALL: [SliceCall; 4] = [
+    pub const ALL: [SliceCall; 5] = [
         SliceCall::InnerProduct,
+        SliceCall::Combination,
         SliceCall::Projection,
         SliceCall::Phi,
         SliceCall::U1,
@@ -24,6 +27,7 @@ impl SliceCall {
     pub fn name(self) -> &'static str {
         match self {
             SliceCall::InnerProduct => "inner product",
+            SliceCall::Combination => "combination",
             SliceCall::Projection => "p",
             SliceCall::Phi => "phi''",
             SliceCall::U1 => "u1",
@@ -38,6 +42,15 @@ mod exported {
             x_length: usize,
             y: *const u32,
             y_length: usize,
+            n: usize,
+            out: *mut u32,
+            out_length: usize,
+        ) -> bool;
+        pub fn slice_combination(
+            x: *const u32,
+            x_length: usize,
+            factors: *const u32,
+            factors_length: usize,
             n: usize,
             out: *mut u32,
             out_length: usize,
@@ -126,6 +139,7 @@ pub fn slice_call(call: SliceCall, [first, second]: [&[u32]; 2], sizes: &[usize]
     unsafe {
         match call {
             SliceCall::InnerProduct => slice_inner_product(a, a_length, b, b_length, sizes[0], to, length),
+            SliceCall::Combination => slice_combination(a, a_length, b, b_length, sizes[0], to, length),
             SliceCall::Projection => slice_projection(a, a_length, b, b_length, sizes[0], sizes[1], to, length),
             SliceCall::Phi => slice_phi(
                 a, a_length, b, b_length, sizes[0], sizes[1], sizes[2], sizes[3], to, length,

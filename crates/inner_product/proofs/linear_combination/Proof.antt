@@ -1,9 +1,10 @@
 -- `linear_combination` meets its contract. The invariant: the totals are those of the first m scaled elements, and i stands at the next element.
-use mathlib.Core.Path.{_≡_, refl, _∙_, ap, subst}
-use Prim.Native.Nat.{_+_, _-_, _*_, _≤_, _<_}
+use mathlib.Core.Path.{_≡_, _∙_, subst}
+use mathlib.Core.List.{List}
+use Prim.Native.Nat.{ℕ, _+_, _-_, _*_, _≤_, _<_, _^_}
 use native.Mathlib.Omega.{arith}
 use borrow.Author.Needs.{needs}
-use lib.ListN.{length, getD}
+use lib.ListN.{length, getD, length-replicate}
 use Rattle.lists.specs.Part.{part}
 use Rattle.definitions.specs.Rq.{rscale}
 use Rattle.rq.specs.Sums.{Added}
@@ -13,20 +14,15 @@ use Rattle.inner_product.proofs.linear_combination.Tie as tie
 
 abbrev Inv-loop : tie.InvT-loop
 Inv-loop x x-at x-step factors at n totals₀ i₀ m₀ totals i m =
-    (m ≤ n) × (i ≡ x-at + x-step * m) × Totals totals m (scaled-of x x-at x-step factors at)
+    (m ≤ n) × (i ≡ x-at + x-step * m) × Totals (2 ^ 39) totals m (scaled-of x x-at x-step factors at) × (length totals ≡ 64)
 
 abbrev μ-loop : tie.MeasureT-loop
 μ-loop x x-at x-step factors at n totals₀ i₀ m₀ totals i m = n - m
 
-load-requires : tie.Need-load-requires Inv-loop μ-loop
-load-requires c κs =
-    let l = c .before .loop in
-    omega (arith, c .before .before .before .before .pre .0 .within (l .m) (omega arith))
-
 add-scaled-requires : tie.Need-add-scaled-requires Inv-loop μ-loop
 add-scaled-requires c κs =
-    let l = c .before .before .before .before .loop in
-    totals-room _ (l .m) _ (l .inv .2) (omega arith)
+    let l = c .before .before .before .loop in
+    (omega arith, omega (arith, c .before .before .before .before .before .before .pre .0 .within (l .m) (omega arith)), totals-room _ (l .m) _ (l .inv .2) (omega arith))
 
 add-i : tie.Need-add-i Inv-loop μ-loop
 add-i c =
@@ -37,8 +33,12 @@ loop-again : tie.Need-loop-again Inv-loop μ-loop
 loop-again c =
     let l = c .before .before .before .before .before .loop in
     let s = c .before .before .before .before .before .before .before .before .args in
-    let a = c .before .before .before .load .ensures ∙ ap (λ at. part (s .x .now) at 64) (l .inv .1) in
-    (omega arith, omega arith, totals-next _ _ (l .m) _ (l .inv .2) (subst (λ e. Added (l .totals) (rscale e (getD (s .factors .now) (s .at + l .m) 0)) (c .add-scaled .result)) a (c .add-scaled .ensures)))
+    let scaled : ℕ → List ℕ = λ at. rscale (part (s .x .now) at 64) (getD (s .factors .now) (s .at + l .m) 0) in (
+      omega arith,
+      omega arith,
+      totals-next _ _ _ (l .m) _ (l .inv .2) (subst (λ at. Added (2 ^ 39) (l .totals) (scaled at) (c .before .add-scaled .last .0)) (l .inv .1) (c .before .add-scaled .ensures .1)),
+      c .before .add-scaled .ensures .0,
+    )
 
 returns : tie.Need-returns Inv-loop μ-loop
 returns c =
@@ -53,8 +53,8 @@ linear-combination-spec =
     (tie.spec
     Inv-loop
     μ-loop
-    (λ c. (omega arith, omega arith, totals-none _))
-    load-requires
+    (λ c. (omega arith, omega arith, totals-none _ _, length-replicate {A = ℕ} 64 0))
+    (λ c. omega arith)
     (λ c. omega arith)
     (λ c. omega arith)
     (λ c. omega arith)

@@ -18,7 +18,7 @@ returns : tie.Need-returns
 returns c =
     let s = c .before .before .before .before .before .before .before .before .args in
     c .before .before .add-columns .ensures
-    ∙ ap (λ pairs. splice (s .sums .now) 0 (table (4 * s .width) (λ p. carried (getD (s .sums .now) p 0) (column-term (s .randomness .now) (s .row-at) (s .width) pairs p))))
+    ∙ ap (λ pairs. splice (s .sums .now) 0 (table (4 * (64 * s .n)) (λ p. carried (getD (s .sums .now) p 0) (column-term (s .randomness .now) (s .row-at) (64 * s .n) pairs p))))
     (c .before .before .before .before .before .pair-sums .ensures)
 
 pub add-four-rows-spec : {M : Type 1} → statement M

@@ -34,7 +34,6 @@ omega-part-spec =
     tie.close
     (tie.spec
     (λ c. search needs)
-    (λ c. search needs)
     add-rows-requires
     (λ c. search needs)
     (λ c κs. search needs)

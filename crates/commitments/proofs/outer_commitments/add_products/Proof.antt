@@ -18,7 +18,7 @@ use Rattle.commitments.proofs.outer_commitments.add_products.Statement.
 use Rattle.commitments.proofs.outer_commitments.add_products.Tie as tie
 
 abbrev Inv-loop : tie.InvT-loop
-Inv-loop matrix m-at m-step rows v n out₀ out-at row₀ place₀ k₀ out row place k =
+Inv-loop matrix m-at m-step rows v forms half n out₀ out-at row₀ place₀ k₀ out row place k =
     (k ≤ rows)
     × (row ≡ m-at + m-step * k)
     × (place ≡ out-at + 64 * k)
@@ -26,17 +26,19 @@ Inv-loop matrix m-at m-step rows v n out₀ out-at row₀ place₀ k₀ out row 
     × (length out ≡ length out₀)
 
 abbrev μ-loop : tie.MeasureT-loop
-μ-loop matrix m-at m-step rows v n out₀ out-at row₀ place₀ k₀ out row place k = rows - k
+μ-loop matrix m-at m-step rows v forms half n out₀ out-at row₀ place₀ k₀ out row place k = rows - k
 
 inner-product-requires : tie.Need-inner-product-requires Inv-loop μ-loop
-inner-product-requires c κs = omega (arith, c .before .before .before .before .before .pre .0 .within (c .before .loop .k) (omega arith))
+inner-product-requires c κs =
+    let p = c .before .before .before .before .before .before .pre in
+    (omega (arith, p .0 .within (c .before .loop .k) (omega arith), p .3 .few), omega (arith, p .3 .few), p .3)
 
 add-row : tie.Need-add-row Inv-loop μ-loop
-add-row c = omega (arith, c .before .before .before .before .before .before .before .before .before .before .before .before .before .pre .0 .within (c .before .before .before .before .before .before .before .before .before .loop .k) (omega arith), c .before .before .before .before .before .before .before .before .before .before .before .before .before .pre .0 .near)
+add-row c = omega (arith, c .before .before .before .before .before .before .before .before .before .before .before .before .before .before .pre .0 .within (c .before .before .before .before .before .before .before .before .before .loop .k) (omega arith), c .before .before .before .before .before .before .before .before .before .before .before .before .before .before .pre .0 .near)
 
 loop-again : tie.Need-loop-again Inv-loop μ-loop
 loop-again c =
-    let s = c .before .before .before .before .before .before .before .before .before .before .before .before .before .args in
+    let s = c .before .before .before .before .before .before .before .before .before .before .before .before .before .before .args in
     let l = c .before .before .before .before .before .before .before .before .before .loop in
     let d : ℕ → Element = λ p. dot (s .n) (run (s .matrix .now) p 64) (run (s .v .now) 0 64) in
     let f : ℕ → Element = λ k. run (s .out .now) (s .out-at) 64 k ⊕ d (s .m-at + s .m-step * k) in
@@ -53,7 +55,7 @@ loop-again c =
 
 returns : tie.Need-returns Inv-loop μ-loop
 returns c =
-    let s = c .before .before .before .before .before .args in
+    let s = c .before .before .before .before .before .before .args in
     let l = c .before .loop in
     let done : l .k ≡ s .rows = omega arith in
     l .inv .3 ∙ ap (λ k. splice (s .out .now) (s .out-at) (flat (table k (λ k. run (s .out .now) (s .out-at) 64 k ⊕ dot (s .n) (run (s .matrix .now) (s .m-at + s .m-step * k) 64) (run (s .v .now) 0 64))))) done

@@ -25,7 +25,7 @@ with-kernel sums x y k = getD sums k 0 + folded x y (k + 1)
 
 -- such sums have the product added
 added : (sums a b x y result : List ℕ) → x ≡ reversed b → y ≡ extended a → ((i : ℕ) → i < 64 → coeff a i ≤ Q) → ((i : ℕ) → i < 64 → coeff b i ≤ Q)
-    → result ≡ table 64 (with-kernel sums x y) → Added sums (rmul a b) result
+    → result ≡ table 64 (with-kernel sums x y) → Added (2 ^ 39) sums (rmul a b) result
 unfolding with-kernel rmul
 added sums a b x y result ex ey wa wb e = record {
   value = λ k h.

@@ -2,14 +2,15 @@
 use mathlib.Core.Path.{_≡_, refl, sym, _∙_, ap, ap₂}
 use mathlib.Core.List.{List}
 use Prim.Native.Nat.{ℕ, _+_, _-_, _*_, _/_, _%_, _≤_, _<_, _^_}
+use native.Mathlib.Nat.{zero-add}
 use native.Mathlib.Omega.{arith}
 use borrow.Author.Needs.{needs}
-use lib.ListN.{getD}
-use mir.Val.{Fits}
-use mir.Syntax.{w32}
-use Rattle.lists.specs.Table.{table, padded}
-use Rattle.lists.proofs.Table.{getD-table}
-use Rattle.lists.proofs.Padded.{padded-none, padded-next, padded-done}
+use lib.ListN.{length, getD, set, length-set}
+use Rattle.lists.specs.Table.{table}
+use Rattle.lists.specs.Part.{part, splice}
+use Rattle.lists.proofs.Table.{length-table, getD-table}
+use Rattle.lists.proofs.Splice.{splice-nil, getD-splice-after, getD-part}
+use Rattle.lists.proofs.Fill.{splice-table-next, getD-splice-table}
 use Rattle.definitions.specs.Rq.{coeff, rscale}
 use Rattle.definitions.proofs.Fits.{product-max}
 use Rattle.rq.specs.Sums.{Added}
@@ -20,53 +21,82 @@ use Rattle.rq.proofs.sums.add_scaled.Tie as tie
 halves : ℕ → ℕ → ℕ
 halves sum product = sum + (product % 4294967296 + product / 4294967296)
 
+-- sum k with the halves of its product added
+abbrev folded : (sums words : List ℕ) (at c : ℕ) → ℕ → ℕ
+folded sums words at c k = halves (getD sums k 0) (getD words (at + k) 0 * c)
+
 -- sums with the halves of an element's products added have the scaled element added
-added : (sums a result : List ℕ) (c : ℕ) → result ≡ table 64 (λ k. halves (getD sums k 0) (getD a k 0 * c)) → ((k : ℕ) → k < 64 → getD a k 0 * c ≤ 18446744065119617025)
-    → Added sums (rscale a c) result
+added : (sums words result : List ℕ) (at c : ℕ) → length sums ≡ 64 → result ≡ splice sums 0 (table 64 (folded sums words at c)) → ((k : ℕ) → k < 64 → getD words (at + k) 0 * c ≤ 18446744065119617025)
+    → Added (2 ^ 39) sums (rscale (part words at 64) c) result
 unfolding halves rscale
-added sums a result c e b = record {
-  value = λ k h.
-      ap (λ r. getD r k 0 % 4294967295) e
-      ∙ ap (λ v. v % 4294967295) (getD-table 64 (λ k. halves (getD sums k 0) (getD a k 0 * c)) k 0 h)
-      ∙ folds (getD sums k 0) (getD a k 0 * c)
-      ∙ ap (λ v. (getD sums k 0 + v) % 4294967295) (sym (getD-table 64 (λ k. getD a k 0 * c % 4294967295) k 0 h));
-  bound = λ k h.
-      omega (arith, ap (λ r. getD r k 0) e ∙ getD-table 64 (λ k. halves (getD sums k 0) (getD a k 0 * c)) k 0 h, b k h);
-}
+added sums words result at c n e b =
+    let read : (k : ℕ) → k < 64 → getD result k 0 ≡ folded sums words at c k = λ k h.
+    ap (λ r. getD r k 0) e ∙ ap (λ i. getD (splice sums 0 (table 64 (folded sums words at c))) i 0) (sym (zero-add k)) ∙ getD-splice-table sums 0 64 (folded sums words at c) k 0 h (omega arith) in record {
+      value = λ k h.
+          ap (λ v. v % 4294967295) (read k h)
+          ∙ folds (getD sums k 0) (getD words (at + k) 0 * c)
+          ∙ ap (λ v. (getD sums k 0 + v * c % 4294967295) % 4294967295) (sym (getD-part 0 words at 64 k h))
+          ∙ ap (λ v. (getD sums k 0 + v) % 4294967295) (sym (getD-table 64 (λ k. getD (part words at 64) k 0 * c % 4294967295) k 0 h));
+      bound = λ k h. omega (arith, read k h, b k h);
+    }
   where
     folds : (s p : ℕ) → (s + (p % 4294967296 + p / 4294967296)) % 4294967295 ≡ (s + p % 4294967295) % 4294967295
     folds s p = omega arith
 
 abbrev Inv-loop : tie.InvT-loop
-Inv-loop factor sums a c out₀ k₀ out k = (k ≤ 64) × (out ≡ padded 64 k 0 (λ j. halves (getD sums j 0) (getD a j 0 * factor)))
+Inv-loop sums₀ words at factor c k₀ sums k =
+    (k ≤ 64) × (sums ≡ splice sums₀ 0 (table k (folded sums₀ words at factor))) × (length sums ≡ length sums₀)
 
 abbrev μ-loop : tie.MeasureT-loop
-μ-loop factor sums a c out₀ k₀ out k = 64 - k
+μ-loop sums₀ words at factor c k₀ sums k = 64 - k
+
+loop-holds : tie.Need-loop-holds Inv-loop μ-loop
+unfolding table
+loop-holds c = (omega arith, sym (splice-nil _ _), refl)
 
 -- the product is below 2^64
-product-at : (c : tie.After-wide2 Inv-loop μ-loop) → c .wide2 .result * c .before .before .before .wide .result ≤ 18446744065119617025
-product-at c = product-max (c .wide2 .ensures .1) (c .before .before .before .wide .ensures .1)
+product-at : (c : tie.After-wide2 Inv-loop μ-loop) → c .wide2 .result * c .before .before .before .before .wide .result ≤ 18446744065119617025
+product-at c = product-max (c .wide2 .ensures .1) (c .before .before .before .before .wide .ensures .1)
 
-add-out-2 : tie.Need-add-out-2 Inv-loop μ-loop
-add-out-2 c =
-    let l = c .before .before .loop in
-    omega (arith, product-at c, c .before .before .before .before .pre (l .k) (omega arith))
+-- sum k is the one lent
+sum-at : (c : tie.After-slice-known2 Inv-loop μ-loop) → getD (c .before .before .before .before .loop .sums) (c .before .before .before .before .loop .k) 0
+    ≡ getD (c .before .before .before .before .before .before .before .before .args .sums .now) (c .before .before .before .before .loop .k) 0
+sum-at c =
+    let l = c .before .before .before .before .loop in
+    let s = c .before .before .before .before .before .before .before .before .args in
+    let f : ℕ → ℕ = folded (s .sums .now) (s .words .now) (s .at) (s .factor) in
+    let n = length-table (l .k) f in
+    ap (λ w. getD w (l .k) 0) (l .inv .1) ∙ getD-splice-after (s .sums .now) 0 (table (l .k) f) (l .k) 0 (omega arith)
+
+add-sums-2 : tie.Need-add-sums-2 Inv-loop μ-loop
+add-sums-2 c =
+    omega (arith, product-at (c .before), sum-at c, c .before .before .before .before .before .before .before .before .pre .2 (c .before .before .before .before .loop .k) (omega arith))
 
 loop-again : tie.Need-loop-again Inv-loop μ-loop
 unfolding halves
 loop-again c =
-    let l = c .before .before .loop in
-    let s = c .before .before .before .before .args in (
+    let l = c .before .before .before .before .loop in
+    let s = c .before .before .before .before .before .before .before .before .args in
+    let f : ℕ → ℕ = folded (s .sums .now) (s .words .now) (s .at) (s .factor) in
+    let p = c .before .wide2 .result * c .before .before .before .before .before .wide .result in
+    let v = getD (l .sums) (l .k) 0 + (p % 4294967296 + p / 4294967296) in
+    let product = ap₂ _*_ (c .before .wide2 .ensures .0) (c .before .before .before .before .before .wide .ensures .0) in (
       omega arith,
-      padded-next 64 0 _ _ (l .k) _ (l .inv .1) (omega arith)
-          (ap₂ (λ x y. getD (s .t1) (l .k) 0 + (x * y % 4294967296 + x * y / 4294967296)) (c .wide2 .ensures .0) (c .before .before .before .wide .ensures .0)),
+      ap₂ (λ w i. set w i v) (l .inv .1) (sym (zero-add (l .k)))
+          ∙ splice-table-next (s .sums .now) 0 (l .k) f v (ap₂ (λ x p. x + (p % 4294967296 + p / 4294967296)) (sum-at c) product),
+      simp length-set (l .inv .2),
     )
 
 returns : tie.Need-returns Inv-loop μ-loop
 returns c =
-    let s = c .before .before .before .args in
-    added (s .t1) (s .t2) _ (s .factor) (padded-done 64 0 _ _ _ (c .before .loop .inv .1) (omega arith))
-    (λ k h. let f : Fits w32 (getD (s .t2) k 0) = search needs in product-max {a = getD (s .t2) k 0} {b = s .factor} (omega arith) (omega arith))
+    let l = c .before .loop in
+    let s = c .before .before .before .before .before .args in
+    let n : l .k ≡ 64 = omega arith in (
+      omega arith,
+      added (s .sums .now) (s .words .now) _ (s .at) (s .factor) (omega arith)
+          (l .inv .1 ∙ ap (λ k. splice (s .sums .now) 0 (table k (folded (s .sums .now) (s .words .now) (s .at) (s .factor)))) n) (λ k h.
+          product-max {a = getD (s .words .now) (s .at + k) 0} {b = s .factor} (omega (arith, c .before .before .before .shared-slice-known .given (s .at + k))) (omega arith)),
+    )
 
 pub add-scaled-spec : {M : Type 1} → statement M
 add-scaled-spec =
@@ -75,18 +105,20 @@ add-scaled-spec =
     Inv-loop
     μ-loop
     (λ c κs. search needs)
-    (λ c. (omega arith, padded-none 64 0 _))
+    loop-holds
+    (λ c. omega arith)
     (λ c. omega arith)
     (λ c. omega arith)
     (λ c κs. search needs)
     (λ c. omega (arith, product-at c))
     (λ c. omega arith)
     (λ c. omega arith)
-    (λ c. omega (arith, product-at c))
-    add-out-2
+    (λ c. omega (arith, product-at (c .before)))
+    add-sums-2
     (λ c. omega arith)
     (λ c. omega arith)
     (λ c. omega arith)
     (λ c. omega arith)
     loop-again
+    (λ c. omega arith)
     returns)

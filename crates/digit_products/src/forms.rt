@@ -1,0 +1,48 @@
+// The form in which the products take the digits: the coefficients of −a, then those of a, as `rq::product` takes them, each with half the base added, so
+// that none is below zero.
+use rq::product;
+ghost use mathlib.Core.Path.{_≡_};
+ghost use mathlib.Core.List.{flatMap};
+ghost use Prim.Native.Nat.{_+_, _*_, _%_, _≤_};
+ghost use lib.ListN.{length};
+ghost use Rattle.lists.specs.Table.{table};
+ghost use Rattle.lists.specs.Part.{part, splice};
+ghost use Rattle.definitions.specs.Zq.{Q};
+ghost use Rattle.digit_products.specs.Forms.{shifted};
+
+// A coefficient with half the base added modulo Q.
+fn shift(x: u64, half: u64) -> u64
+    requires { ⌜ (x ≤ Q) × (half ≤ 2147483648) ⌝ }
+    ensures { λ r. ⌜ r ≡ (x + half) % Q ⌝ }
+{
+    let sum = x + half;
+    if sum < product::MODULUS {
+        sum
+    } else {
+        sum - product::MODULUS
+    }
+}
+
+// The form of an element stored from `to` on.
+fn store_form(a: [u32; 64], half: u64, forms: &mut [u64], to: usize)
+    requires { ⌜ (half ≤ 2147483648) × (to + 128 ≤ length (now forms)) ⌝ }
+    ensures { λ _. ⌜ now (forms .exit) ≡ splice (now (forms .entry)) to (shifted half a) ⌝ }
+{
+    let y = product::extend(a);
+    for m in 0..128 {
+        forms[to + m] = shift(y[m], half);
+    }
+}
+
+// The forms of n elements, one after the other.
+pub fn store_forms(v: &[u32], n: usize, half: u64, forms: &mut [u64])
+    requires { ⌜ (half ≤ 2147483648) × (64 * n ≤ length (now v)) × (128 * n ≤ length (now forms)) ⌝ }
+    ensures { λ _. ⌜ now (forms .exit) ≡ splice (now (forms .entry)) 0 (flatMap (shifted half) (table n (λ m. part (now (v .entry)) (64 * m) 64))) ⌝ }
+{
+    let mut m = 0;
+    while m < n {
+        let a = words::load(v, 64 * m).coeffs;
+        store_form(a, half, forms, 128 * m);
+        m += 1;
+    }
+}
