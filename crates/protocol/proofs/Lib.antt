@@ -21,7 +21,7 @@ pub mod Rounds
 pub mod Total
 pub mod Demand3
 pub mod Stated
-pub mod Unaccepted
+pub mod Acceptance
 pub mod OneKind
 pub mod SecondPart
 pub mod LoadSections

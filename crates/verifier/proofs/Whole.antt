@@ -14,7 +14,7 @@ use Rattle.protocol.specs.Formulas.{cells-left-of, u₁-of, u₂-of}
 use Rattle.protocol.specs.Prover.{t-norm, g-norm, h-norm, zeroed}
 use Rattle.protocol.specs.Verifier.{check-21, check-22, check-23, check-24, check-25, check-26, check-27, check-28, check-29, checks, verify-refusal, verify, verify-scratch}
 use Rattle.protocol.proofs.Then.{then-assoc}
-use Rattle.protocol.proofs.Unaccepted.{Unaccepted, norms-no}
+use Rattle.protocol.proofs.Acceptance.{Unaccepted, norms-no}
 use Rattle.layout.specs.Laid.{Laid}
 use Rattle.layout.proofs.Then.{goes-on}
 use Rattle.regions.specs.declared.Regions.{Regions}

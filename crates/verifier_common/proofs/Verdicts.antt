@@ -20,7 +20,7 @@ use Rattle.definitions.specs.declared.answers.Verdict.{Verdict}
 use Rattle.definitions.specs.declared.answers.Verdict.the-variants as V′
 use Rattle.protocol.specs.Checks.{first}
 use Rattle.protocol.proofs.Fine.{refused-not-accepted, failed-not-accepted}
-use Rattle.protocol.proofs.Unaccepted.{Unaccepted, after-unaccepted}
+use Rattle.protocol.proofs.Acceptance.{Unaccepted, after-unaccepted}
 
 -- the first of the tests that fails gives the answer
 pub first-failed : (n i : ℕ) (f : ℕ → Answer) (number : ℕ) (values : List ℕ) → i < n → first i f ≡ fine → f i ≡ failed number values → first n f ≡ failed number values

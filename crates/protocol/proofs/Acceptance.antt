@@ -1,0 +1,310 @@
+-- What an acceptance says: nothing is refused before the work, each check passes, and the acceptance has its number (document 02, Item 5). A refusal and a check are no acceptance.
+use mathlib.Core.Path.{_≡_, refl, sym}
+use mathlib.Core.Bool.{Bool, true, false, cond}
+use mathlib.Core.List.{List, [], _∷_}
+use Prim.Native.Nat.{ℕ, zero, suc, _+_, _*_, _≤_}
+use native.Mathlib.Decide.{decLe, ℕ-discrete}
+use lib.Dec.{ltb, eqb}
+use lib.ListN.{length, getD, take}
+use borrow.Author.Tests.{ltb-false}
+use Rattle.lists.specs.Part.{part}
+use Rattle.lists.specs.Table.{table}
+use Rattle.definitions.specs.Norm.{norm}
+use Rattle.definitions.specs.Answer.{Answer, fine, accepted, refused, failed, below, _then_}
+use Rattle.definitions.specs.Leaf.{limited}
+use Rattle.definitions.specs.Rq.{coeff}
+use Rattle.definitions.specs.Ring.{words}
+use Rattle.protocol.specs.Checks.{require, first}
+use Rattle.protocol.specs.Parameters.{Parameters, parameters, rounded-up, some-constraint, limits, enough-aggregations}
+use Rattle.protocol.specs.Layout.{Section, Range, free, under, span, counted, ranged, in-range, layout, first-section, job-sections, randomness-sections, transcript-sections, job-refusal, randomness-refusal, transcript-refusal, scratch-refusal, scratch-need}
+use Rattle.protocol.specs.Views.{Public, Message, public, message}
+use Rattle.protocol.specs.Formulas.{_⊕_, _⊗_, sum, dot, pairs, norm-of, t-digits, g-digits, h-digits, a-sum, φ-sum, b-sum, cells-left-of, u₁-of, u₂-of}
+use Rattle.protocol.specs.Prover.{t-norm, g-norm, h-norm}
+use Rattle.protocol.specs.Verifier.{same, twice, check-21, check-22, check-23, check-24, check-25, check-26, check-27, check-28, check-29, checks, verify, verify-refusal}
+use Rattle.protocol.proofs.Fine.{accepted-not-fine, accepted-same, refused-not-fine, refused-not-accepted, failed-not-accepted, then-fine-left, then-fine-right, then-fine-each}
+
+-- no acceptance
+abbrev pub Unaccepted : Answer → Type 0
+Unaccepted a = (cells : ℕ) → a ≡ accepted cells → ⊥
+
+fine-no : Unaccepted fine
+fine-no cells e = accepted-not-fine cells (sym e)
+
+refused-no : (number place : ℕ) → Unaccepted (refused number place)
+refused-no number place cells e = refused-not-accepted number place cells e
+
+failed-no : (number : ℕ) (values : List ℕ) → Unaccepted (failed number values)
+failed-no number values cells e = failed-not-accepted number values cells e
+
+-- of two answers that are none the first that is not fine is none
+then-no : (a b : Answer) → Unaccepted a → Unaccepted b → Unaccepted (a then b)
+then-no fine b x y = y
+then-no (accepted c) b x y = absurd (x c refl)
+then-no (refused n p) b x y = refused-no n p
+then-no (failed n vs) b x y = failed-no n vs
+
+-- a test
+require-no {ℓ} : {A : Type ℓ} (d : Dec A) (answer : Answer) → Unaccepted answer → Unaccepted (require d answer)
+require-no (yes a) answer x = fine-no
+require-no (no n) answer x = x
+
+first-no : (n : ℕ) (f : ℕ → Answer) → ((k : ℕ) → Unaccepted (f k)) → Unaccepted (first n f)
+unfolding first
+first-no zero f x = fine-no
+first-no (suc n) f x = then-no (first n f) (f n) (first-no n f x) (x n)
+
+-- an acceptance after what is none: that was fine
+after : (a b : Answer) (cells : ℕ) → Unaccepted a → a then b ≡ accepted cells → (a ≡ fine) × (b ≡ accepted cells)
+after fine b cells x e = (refl, e)
+after (accepted c) b cells x e = absurd (x c refl)
+after (refused n p) b cells x e = absurd (refused-not-accepted n p cells e)
+after (failed n vs) b cells x e = absurd (failed-not-accepted n vs cells e)
+
+-- and where the last answer is the acceptance, it has the number
+pub after-unaccepted : (a : Answer) (last cells : ℕ) → Unaccepted a → a then accepted last ≡ accepted cells → (a ≡ fine) × (last ≡ cells)
+after-unaccepted a last cells x e = let both = after a (accepted last) cells x e in (both .0, accepted-same last cells (both .1))
+
+cond-no : (t : Bool) (a b : Answer) → Unaccepted a → Unaccepted b → Unaccepted (cond t a b)
+cond-no true a b x y = x
+cond-no false a b x y = y
+
+limited-no : (least greatest place x : ℕ) → Unaccepted (limited least greatest place x)
+limited-no least greatest place x =
+    cond-no (ltb x least) (refused 4 place) (cond (ltb greatest x) (refused 4 place) fine) (refused-no 4 place) (cond-no (ltb greatest x) (refused 4 place) fine (refused-no 4 place) fine-no)
+
+below-no : (limit number place : ℕ) (ws : List ℕ) → Unaccepted (below limit number place ws)
+unfolding below
+below-no limit number place [] = fine-no
+below-no limit number place (w ∷ ws) = cond-no (ltb w limit) (below limit number (place + 1) ws) (refused number place) (below-no limit number (place + 1) ws) (refused-no number place)
+
+counted-no : (number : ℕ) (ws : List ℕ) (place : ℕ) (ss : List Section) → Unaccepted (counted number ws place ss)
+unfolding counted
+counted-no number ws place [] = fine-no
+counted-no number ws place (s ∷ ss) =
+    let next = place + 1 + s .count in
+    let long = require (decLe next (length ws)) (refused number (length ws)) in
+    cond-no (ltb place (length ws))
+    (cond (eqb (getD ws place 0) (s .count)) (long then counted number ws next ss) (refused number place))
+    (refused number (length ws))
+    (cond-no (eqb (getD ws place 0) (s .count)) (long then counted number ws next ss) (refused number place)
+    (then-no long (counted number ws next ss) (require-no (decLe next (length ws)) (refused number (length ws)) (refused-no number (length ws))) (counted-no number ws next ss))
+    (refused-no number place))
+    (refused-no number (length ws))
+
+layout-no : (number : ℕ) (ws : List ℕ) (place : ℕ) (ss : List Section) → Unaccepted (layout number ws place ss)
+unfolding layout
+layout-no number ws place ss =
+    let end = place + span ss in
+    then-no (counted number ws place ss) (require (decLe (length ws) end) (refused number end)) (counted-no number ws place ss)
+    (require-no (decLe (length ws) end) (refused number end) (refused-no number end))
+
+in-range-no : (range : Range) (number place : ℕ) (ws : List ℕ) → Unaccepted (in-range range number place ws)
+in-range-no free number place ws = fine-no
+in-range-no (under limit) number place ws = below-no limit number place ws
+
+ranged-no : (number : ℕ) (ws : List ℕ) (place : ℕ) (ss : List Section) → Unaccepted (ranged number ws place ss)
+unfolding ranged
+ranged-no number ws place [] = fine-no
+ranged-no number ws place (s ∷ ss) =
+    let own = part ws (place + 1) (s .count) in
+    then-no (in-range (s .range) number (place + 1) own) (ranged number ws (place + 1 + s .count) ss) (in-range-no (s .range) number (place + 1) own) (ranged-no number ws (place + 1 + s .count) ss)
+
+infixl 20 _and_
+-- two answers, one after the other
+_and_ : {a b : Answer} → Unaccepted a → Unaccepted b → Unaccepted (a then b)
+_and_ {a} {b} x y = then-no a b x y
+
+limits-no : (P : Parameters) → Unaccepted (limits P)
+unfolding limits
+limits-no P =
+    limited-no 1 64 1 (P .n)
+    and limited-no 1 16 2 (P .r)
+    and limited-no 1 16 3 (P .κ)
+    and limited-no 1 16 4 (P .κ₁)
+    and limited-no 1 16 5 (P .κ₂)
+    and limited-no 0 64 6 (P .K)
+    and limited-no 0 64 7 (P .l)
+    and require-no (decLe 1 (P .K + P .l)) (refused 4 7) (refused-no 4 7)
+    and limited-no 16 32 8 (P .log-q)
+    and limited-no 2 4294967294 9 (P .b)
+    and limited-no 1 32 10 (P .t₁)
+    and limited-no 1 32 11 (P .t₂)
+    and limited-no 1 32 12 (P .L)
+
+job-no : (J : List ℕ) → Unaccepted (job-refusal J)
+unfolding job-refusal enough-aggregations
+job-no J =
+    let P = parameters J in
+    counted-no 3 J 0 first-section
+    and limits-no P
+    and require-no (decLe (rounded-up (P .log-q)) (P .L)) (refused 5 12) (refused-no 5 12)
+    and layout-no 3 J 31 (job-sections P)
+    and ranged-no 6 J 31 (job-sections P)
+
+refusal-no : (J R X : List ℕ) (lent : ℕ) → Unaccepted (verify-refusal J R X lent)
+unfolding verify-refusal randomness-refusal transcript-refusal
+refusal-no J R X lent =
+    let P = parameters J in
+    job-no J
+    and (layout-no 7 R 0 (take 7 (randomness-sections P)) and ranged-no 8 R 0 (take 7 (randomness-sections P)))
+    and (layout-no 9 X 0 (transcript-sections P) and ranged-no 10 X 0 (transcript-sections P))
+    and require-no (decLe (scratch-need P) lent) (refused 1 (scratch-need P)) (refused-no 1 (scratch-need P))
+
+module _ (X : Public) (M : Message) where
+  open Public X using (P, A, c)
+  open Parameters P using (n, r, κ, κ₁, κ₂, L, beta-sq, beta-prime-sq)
+
+  no-21 : Unaccepted (check-21 X M)
+  unfolding check-21
+  no-21 = require-no (decLe (norm (table 256 (M .p))) (128 * beta-sq)) _ (failed-no 21 _)
+
+  no-22 : Unaccepted (check-22 X M)
+  unfolding check-22
+  no-22 = first-no L _ (λ k. require-no (ℕ-discrete (coeff (words (M .b″ k)) 0) _) _ (failed-no 22 _))
+
+  no-23 : Unaccepted (check-23 X M)
+  unfolding check-23
+  no-23 = require-no (decLe _ beta-prime-sq) _ (failed-no 23 _)
+
+  no-24 : Unaccepted (check-24 X M)
+  unfolding check-24
+  no-24 = first-no κ _ (λ k. require-no (same (dot n (A k) (M .z)) (sum r (λ i. M .t i k ⊗ c i))) _ (failed-no 24 []))
+
+  no-25 : Unaccepted (check-25 X M)
+  unfolding check-25
+  no-25 = require-no (same (dot n (M .z) (M .z)) (pairs r (λ i j. M .g i j ⊗ c i ⊗ c j))) _ (failed-no 25 [])
+
+  no-26 : Unaccepted (check-26 X M)
+  unfolding check-26
+  no-26 = require-no (same (twice (sum r (λ i. dot n (φ-sum X i) (M .z) ⊗ c i))) (pairs r (λ i j. M .h i j ⊗ c i ⊗ c j))) _ (failed-no 26 [])
+
+  no-27 : Unaccepted (check-27 X M)
+  unfolding check-27
+  no-27 = require-no (same (twice (pairs r (λ i j. a-sum X i j ⊗ M .g i j)) ⊕ sum r (λ i. M .h i i)) (twice (b-sum X (M .b″)))) _ (failed-no 27 [])
+
+  no-28 : Unaccepted (check-28 X M)
+  unfolding check-28
+  no-28 = first-no κ₁ _ (λ k. require-no (same (M .u₁ k) (u₁-of X (M .t) (M .g) k)) _ (failed-no 28 []))
+
+  no-29 : Unaccepted (check-29 X M)
+  unfolding check-29
+  no-29 = first-no κ₂ _ (λ k. require-no (same (M .u₂ k) (u₂-of X (M .h) k)) _ (failed-no 29 []))
+
+  no-14 : Unaccepted (t-norm X (M .t))
+  unfolding t-norm
+  no-14 = require-no (decLe (norm-of (t-digits X (M .t))) (P .bound-B)) _ (refused-no 14 0)
+
+  no-15 : Unaccepted (g-norm X (M .g))
+  unfolding g-norm
+  no-15 = require-no (decLe (norm-of (g-digits X (M .g))) (P .bound-C)) _ (refused-no 15 0)
+
+  no-16 : Unaccepted (h-norm X (M .h))
+  unfolding h-norm
+  no-16 = require-no (decLe (norm-of (h-digits X (M .h))) (P .bound-D)) _ (refused-no 16 0)
+
+  -- 21 to 23
+  pub norms-no : Unaccepted (check-21 X M then check-22 X M then check-23 X M)
+  norms-no = then-no (check-21 X M then check-22 X M) (check-23 X M) (then-no (check-21 X M) (check-22 X M) no-21 no-22) no-23
+
+  -- all checks, in order
+  abbrev pub up-to-27 : Answer
+  up-to-27 = check-21 X M then check-22 X M then check-23 X M then check-24 X M then check-25 X M then check-26 X M then check-27 X M
+
+  abbrev pub up-to-29 : Answer
+  up-to-29 = up-to-27 then t-norm X (M .t) then g-norm X (M .g) then check-28 X M then h-norm X (M .h) then check-29 X M
+
+  no-up-to-27 : Unaccepted up-to-27
+  no-up-to-27 =
+      let a = check-21 X M then check-22 X M then check-23 X M in
+      let b = a then check-24 X M in
+      let d = b then check-25 X M in
+      let e = d then check-26 X M in
+      then-no e (check-27 X M) (then-no d (check-26 X M) (then-no b (check-25 X M) (then-no a (check-24 X M) norms-no no-24) no-25) no-26) no-27
+
+  no-up-to-29 : Unaccepted up-to-29
+  no-up-to-29 =
+      let a = up-to-27 then t-norm X (M .t) in
+      let b = a then g-norm X (M .g) in
+      let d = b then check-28 X M in
+      let e = d then h-norm X (M .h) in
+      then-no e (check-29 X M) (then-no d (h-norm X (M .h)) (then-no b (check-28 X M) (then-no a (g-norm X (M .g)) (then-no up-to-27 (t-norm X (M .t)) no-up-to-27 no-14) no-15) no-28) no-16) no-29
+
+  -- where the checks accept, each passes, and the number is that of the cells that are sent
+  pub accepted-checks : (cells : ℕ) → checks X M ≡ accepted cells → (up-to-29 ≡ fine) × (cells-left-of X (M .t) (M .g) (M .h) ≡ cells)
+  unfolding checks
+  accepted-checks cells e = after-unaccepted up-to-29 _ cells no-up-to-29 e
+
+  -- what holds where the checks accept: 23, 28 and 29, on which binding rests, and the number
+  pub record Passed (cells : ℕ) : Type 0 where
+    pub norm-sum : check-23 X M ≡ fine
+    pub first-commitment : check-28 X M ≡ fine
+    pub second-commitment : check-29 X M ≡ fine
+    pub number : cells-left-of X (M .t) (M .g) (M .h) ≡ cells
+
+  -- 23 passes where 15 does
+  to-23 : up-to-27 then t-norm X (M .t) then g-norm X (M .g) ≡ fine → check-21 X M then check-22 X M then check-23 X M ≡ fine
+  to-23 e = six (check-21 X M then check-22 X M then check-23 X M) (check-24 X M) (check-25 X M) (check-26 X M) (check-27 X M) (t-norm X (M .t)) (g-norm X (M .g)) e
+    where
+      six : (a b c d e f g : Answer) → a then b then c then d then e then f then g ≡ fine → a ≡ fine
+      six a b c d e f g h =
+          then-fine-left a b
+          (then-fine-left (a then b) c (then-fine-left (a then b then c) d (then-fine-left (a then b then c then d) e (then-fine-left (a then b then c then d then e) f (then-fine-left (a then b then c then d then e then f) g h)))))
+
+  passed : (cells : ℕ) → checks X M ≡ accepted cells → Passed cells
+  passed cells e =
+      let found = accepted-checks cells e in
+      let to-15 = up-to-27 then t-norm X (M .t) then g-norm X (M .g) in
+      let to-16 : to-15 then check-28 X M then h-norm X (M .h) ≡ fine = then-fine-left (to-15 then check-28 X M then h-norm X (M .h)) (check-29 X M) (found .0) in
+      let to-28 : to-15 then check-28 X M ≡ fine = then-fine-left (to-15 then check-28 X M) (h-norm X (M .h)) to-16 in
+      record {
+        norm-sum = then-fine-right (check-21 X M then check-22 X M) (check-23 X M) (to-23 (then-fine-left to-15 (check-28 X M) to-28));
+        first-commitment = then-fine-right to-15 (check-28 X M) to-28;
+        second-commitment = then-fine-right (to-15 then check-28 X M then h-norm X (M .h)) (check-29 X M) (found .0);
+        number = found .1;
+      }
+
+-- an accepted transcript passes those checks
+pub accepted-passes : (J R X : List ℕ) (lent cells : ℕ) → verify J R X lent ≡ accepted cells → Passed (public J R) (message (parameters J) X) cells
+unfolding verify
+accepted-passes J R X lent cells e =
+    passed (public J R) (message (parameters J) X) cells (after (verify-refusal J R X lent) (checks (public J R) (message (parameters J) X)) cells (refusal-no J R X lent) e .1)
+
+-- and its job is refused nothing
+accepted-job : (J R X : List ℕ) (lent cells : ℕ) → verify J R X lent ≡ accepted cells → job-refusal J ≡ fine
+unfolding verify verify-refusal
+accepted-job J R X lent cells e =
+    let P = parameters J in
+    let slices = job-refusal J then randomness-refusal P 7 R then transcript-refusal P X in
+    let none = after (verify-refusal J R X lent) (checks (public J R) (message P X)) cells (refusal-no J R X lent) e .0 in
+    then-fine-left (job-refusal J) (randomness-refusal P 7 R) (then-fine-left (job-refusal J then randomness-refusal P 7 R) (transcript-refusal P X) (then-fine-left slices (scratch-refusal P lent) none))
+
+-- a number that is not refused is at least its least value
+at-least : (least greatest place x : ℕ) → limited least greatest place x ≡ fine → least ≤ x
+at-least least greatest place x e = go (ltb x least) refl e
+  where
+    go : (t : Bool) → ltb x least ≡ t → cond t (refused 4 place) (cond (ltb greatest x) (refused 4 place) fine) ≡ fine → least ≤ x
+    go true f e = absurd (refused-not-fine 4 place e)
+    go false f e = ltb-false x least f
+
+-- so its base is at least 2
+pub base-at-least : (J R X : List ℕ) (lent cells : ℕ) → verify J R X lent ≡ accepted cells → 2 ≤ parameters J .b
+unfolding job-refusal limits
+base-at-least J R X lent cells e =
+    let P = parameters J in
+    let before =
+    limited 1 64 1 (P .n)
+    then limited 1 16 2 (P .r)
+    then limited 1 16 3 (P .κ)
+    then limited 1 16 4 (P .κ₁)
+    then limited 1 16 5 (P .κ₂)
+    then limited 0 64 6 (P .K)
+    then limited 0 64 7 (P .l)
+    then some-constraint P
+    then limited 16 32 8 (P .log-q)
+    in
+    let base = before then limited 2 4294967294 9 (P .b) in
+    let within = then-fine-each (counted 3 J 0 first-section) (limits P) (enough-aggregations P) (layout 3 J 31 (job-sections P)) (ranged 6 J 31 (job-sections P)) (accepted-job J R X lent cells e) .1 in
+    at-least 2 4294967294 9 (P .b)
+    (then-fine-right before (limited 2 4294967294 9 (P .b))
+    (then-fine-left base (limited 1 32 10 (P .t₁))
+    (then-fine-left (base then limited 1 32 10 (P .t₁)) (limited 1 32 11 (P .t₂)) (then-fine-left (base then limited 1 32 10 (P .t₁) then limited 1 32 11 (P .t₂)) (limited 1 32 12 (P .L)) within))))
