@@ -3,8 +3,8 @@
 
 #include "fuzz.h"
 
-enum { NUMBERS = 8192 };
-static int64_t lows[NUMBERS], highs[NUMBERS];
+enum { PAIRS = 8192 };
+static int64_t lows[PAIRS], highs[PAIRS];
 
 /* So many pairs, now and then one of them crossed or beyond the numbers allowed. */
 static void draw_pairs(size_t count) {
@@ -27,7 +27,7 @@ static size_t pairs_needed(void) {
 
 void draw_ranges(void) {
     draw_job();
-    size_t need = pairs_needed(), count = need < NUMBERS ? need : NUMBERS;
+    size_t need = pairs_needed(), count = need < PAIRS ? need : PAIRS;
     draw_pairs(count);
     hand_input(LOWS, (const uint32_t *)lows, count);
     hand_input(HIGHS, (const uint32_t *)highs, count);
