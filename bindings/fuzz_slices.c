@@ -51,12 +51,11 @@ size_t about(size_t need) {
     }
 }
 
-/* A slice of few words, some of them like section one's. */
-static void draw_small(int s) {
-    static const uint32_t likely[] = {29, 1, 1, 4, 1, 1, 1, 1, 32, 256, 4, 4, 30, 64, 256, 65};
+/* The first few words of a load's slice, some of them changed. */
+static void draw_small(const load *from, int s) {
     static uint32_t words[INPUTS][64];
     size_t length = one_in(3) ? 0 : below(64);
-    for (size_t k = 0; k < length; k++) words[s][k] = one_in(6) ? draw_word() : likely[k % 16];
+    for (size_t k = 0; k < length; k++) words[s][k] = one_in(12) ? draw_word() : from->words[s][k];
     hand_input(s, words[s], length);
 }
 
@@ -75,7 +74,7 @@ static void draw_inputs(const int *which, size_t count) {
     int small = one_in(2);
     for (size_t k = 0; k < count; k++)
         if (small && !one_in(64))
-            draw_small(which[k]);
+            draw_small(from, which[k]);
         else
             hand_whole(one_in(32) ? draw_load() : from, which[k]);
     if (small || one_in(4)) return;
