@@ -31,11 +31,53 @@ pub fn meaning(number: u32) -> Option<&'static Meaning> {
     MEANINGS.iter().find(|m| m.number == number)
 }
 
-/// The verifier's answers in the order in which they are tested.
-pub const ORDER: [u32; 12] = [21, 22, 23, 24, 25, 26, 27, 14, 15, 28, 16, 29];
+/// A test of the verifier's work.
+#[derive(Clone, Copy, Debug)]
+pub struct Check {
+    /// What is answered where it fails.
+    pub number: u32,
+    /// What holds where it passes.
+    pub holds: &'static str,
+    /// Whether it is one of demand 3's four conditions: of a transcript that the prover made of the same job and randomness,
+    /// no other can fail.
+    pub condition: bool,
+}
 
-/// Demand 3's four conditions: of a transcript that the prover made of the same job and randomness, only these can fail.
-pub const CONDITIONS: [u32; 4] = [21, 22, 23, 27];
+const fn check(number: u32, condition: bool, holds: &'static str) -> Check {
+    Check {
+        number,
+        holds,
+        condition,
+    }
+}
+
+/// The tests of the verifier's work in their order.
+pub const CHECKS: [Check; 12] = [
+    check(21, true, "the norm of the projection p is at most 128·beta_sq"),
+    check(
+        22,
+        true,
+        "each constant term of b'' is the one that psi, b0, omega and p give",
+    ),
+    check(
+        23,
+        true,
+        "the norms of z's two parts and of the digits of t, g and h are together at most beta_prime_sq",
+    ),
+    check(24, false, "A·z is the sum of t_i·c_i"),
+    check(25, false, "<z,z> is the sum of g_ij·c_i·c_j"),
+    check(26, false, "twice the sum of <phi_i,z>·c_i is the sum of h_ij·c_i·c_j"),
+    check(
+        27,
+        true,
+        "twice the sum of a_ij·g_ij plus the sum of h_ii is twice the aggregated b",
+    ),
+    check(14, false, "the norm of the digits of t is at most B's bound"),
+    check(15, false, "the norm of the digits of g is at most C's bound"),
+    check(28, false, "u1 is the commitment to the digits of t and g"),
+    check(16, false, "the norm of the digits of h is at most D's bound"),
+    check(29, false, "u2 is the commitment to the digits of h"),
+];
 
 const JOB: &str = "whoever writes the job";
 const RANDOMNESS: &str = "whoever draws the randomness";

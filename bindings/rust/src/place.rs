@@ -27,7 +27,7 @@ pub enum Spot {
         axes: Vec<(&'static str, String)>,
     },
     /// Behind the last section.
-    Surplus { last: Option<&'static str>, words: u64 },
+    Surplus { last: Option<&'static str> },
     /// Nothing is known of it: the job's parameters are unfit.
     Unknown,
 }
@@ -58,7 +58,6 @@ impl Place {
             None if sections.is_empty() && slice != Slice::Randomness => Spot::Unknown,
             None => Spot::Surplus {
                 last: sections.last().map(|s| s.section.name),
-                words: (words.len() as u64).saturating_sub(index),
             },
         };
         Place {
@@ -92,12 +91,12 @@ impl Place {
             (Spot::Word { section, .. }, _) => {
                 format!("the {slice} ends after {} words, within section {section}", self.index)
             }
-            (Spot::Surplus { last, words }, _) => {
+            (Spot::Surplus { last }, _) => {
                 let behind = match last {
                     Some(last) => format!("behind its last section, {last}"),
-                    None => "and should have none".to_string(),
+                    None => "and should have no words".to_string(),
                 };
-                format!("the {slice} goes on at word {}, {behind} ({words} more)", self.index)
+                format!("the {slice} goes on at word {}, {behind}", self.index)
             }
             (Spot::Unknown, _) => format!("the {slice}'s word {}", self.index),
         }

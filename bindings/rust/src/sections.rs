@@ -28,7 +28,7 @@ impl Slice {
         match self {
             Slice::Job => job(p),
             Slice::Randomness => randomness(p),
-            Slice::Witness => vec![section("witness", "s_1 to s_r", &vectors(p))],
+            Slice::Witness => vec![section("witness", "the witness vectors", &vectors(p))],
             Slice::Transcript => transcript(p),
         }
     }

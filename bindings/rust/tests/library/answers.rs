@@ -1,6 +1,6 @@
 //! Every answer of the verifier, and its words.
 
-use labrador::meaning::{meaning, CONDITIONS, MEANINGS, ORDER};
+use labrador::meaning::{meaning, CHECKS, MEANINGS};
 use labrador::{prove, verify, Parameters, Refusal, Slice, Verdict, Q};
 
 use crate::common::{begin, set_bound, with_answer, Case};
@@ -14,8 +14,9 @@ fn the_table_has_each_number_once() {
     let numbers: Vec<u32> = MEANINGS.iter().map(|m| m.number).collect();
     let expected: Vec<u32> = (1..=16).chain(21..=29).chain(31..=37).collect();
     assert_eq!(numbers, expected);
-    assert!(ORDER.iter().all(|&n| meaning(n).is_some()));
-    assert!(CONDITIONS.iter().all(|n| ORDER.contains(n)));
+    assert!(CHECKS.iter().all(|check| meaning(check.number).is_some()));
+    let conditions: Vec<u32> = CHECKS.iter().filter(|c| c.condition).map(|c| c.number).collect();
+    assert_eq!(conditions, [21, 22, 23, 27]);
 }
 
 #[test]
@@ -63,7 +64,7 @@ fn refusals_are_told_with_their_place() {
     );
     told(
         7,
-        format!("refusal 7: the randomness goes on at word {drawn}, behind its last section, shuffle (1 more)"),
+        format!("refusal 7: the randomness goes on at word {drawn}, behind its last section, shuffle"),
     );
     let signs = "section signs, challenge 1, sign 1";
     told(

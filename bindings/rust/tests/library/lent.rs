@@ -89,7 +89,10 @@ fn a_rounds_surplus_randomness_is_told() {
             .unwrap_err()
             .to_string()
     };
-    assert!(told(Round::One).starts_with("refusal 7: the randomness goes on at word 0, and should have none ("));
+    assert_eq!(
+        told(Round::One),
+        "refusal 7: the randomness goes on at word 0, and should have no words"
+    );
     assert!(told(Round::Two).contains("behind its last section, projection"));
 }
 

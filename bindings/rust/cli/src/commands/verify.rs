@@ -1,0 +1,97 @@
+//! `labrador verify`
+
+use std::path::Path;
+
+use labrador::review::review;
+use labrador::{verify, FailedCheck, Refusal, Slice, Verdict};
+
+use crate::args::Args;
+use crate::end::{End, Outcome, Status};
+use crate::files::read_slice;
+use crate::help::Command;
+use crate::json::Json;
+use crate::output::{self, Output};
+use crate::page::{page, Report};
+use crate::progress::Progress;
+
+/// The figures of a failed check.
+fn figures(check: &FailedCheck) -> Vec<(&'static str, Json)> {
+    match check {
+        FailedCheck::ProjectionNorm { norm, limit } => vec![("norm", Json::text(norm)), ("limit", Json::text(limit))],
+        FailedCheck::ConstantTerm { row, sent, worked_out } => vec![
+            ("row", Json::Number((*row).into())),
+            ("sent", Json::text(sent)),
+            ("worked_out", Json::text(worked_out)),
+        ],
+        FailedCheck::NormSum { sum, limit } => vec![("sum", Json::text(sum)), ("limit", Json::text(limit))],
+        _ => Vec::new(),
+    }
+}
+
+fn place_of(refusal: &Refusal) -> Vec<(&'static str, Json)> {
+    let mut fields = vec![("place", Json::Number(refusal.place()))];
+    if let Some(place) = refusal.word() {
+        fields.push(("slice", Json::text(place.slice.name())));
+        fields.push(("at", Json::text(&place.spot)));
+        fields.push(("word", place.found.map_or(Json::Null, |word| Json::Number(word.into()))));
+    }
+    fields
+}
+
+fn end_of(verdict: &Verdict) -> End {
+    let (status, kind, more) = match verdict {
+        Verdict::Accepted { cells_left } => (
+            Status::Fine,
+            "accepted",
+            vec![("cells_left", Json::Number(*cells_left))],
+        ),
+        Verdict::Failed(check) => (Status::Failed, "failed", figures(check)),
+        Verdict::Refused(refusal) => (Status::Unfit, "refused", place_of(refusal)),
+    };
+    let number = Json::Number(verdict.number().into());
+    let told = vec![("verdict", Json::text(kind)), ("number", number)];
+    End::new(status, verdict.to_string()).with(told).with(more)
+}
+
+pub fn run(command: &Command, args: &Args) -> Outcome {
+    args.no_rest(command)?;
+    let [job, randomness, transcript] =
+        ["--job", "--randomness", "--transcript"].map(|name| args.needed(command, name));
+    let names = [job?, randomness?, transcript?];
+    let [job, randomness, transcript] = [&names[0], &names[1], &names[2]].map(|path| path.as_path());
+    let (report, force) = (args.file("--report"), args.flag("--force"));
+    let outputs: Vec<&Path> = report.into_iter().collect();
+    output::admit(&outputs, &[job, randomness, transcript], force)?;
+    let progress = Progress::start();
+    progress.step("reading the job, the randomness and the transcript");
+    let slices = [
+        read_slice(Slice::Job, job)?.words,
+        read_slice(Slice::Randomness, randomness)?.words,
+        read_slice(Slice::Transcript, transcript)?.words,
+    ];
+    progress.step("verifying: the slices, then the checks 21 to 29");
+    let verdict = verify(&slices[0], &slices[1], &slices[2]);
+    progress.step("reviewing the job");
+    let findings = review(&slices[0]).unwrap_or_default();
+    let told = findings.iter().map(Json::text).collect();
+    let end = end_of(&verdict).with(vec![("findings", Json::List(told))]);
+    if let Some(path) = report {
+        progress.step("writing the page");
+        let page = page(&Report {
+            names: [job, randomness, transcript],
+            slices: [&slices[0], &slices[1], &slices[2]],
+            verdict: &verdict,
+            findings: &findings,
+        });
+        let file = Output {
+            path: path.to_path_buf(),
+            secret: false,
+            bytes: page.into_bytes(),
+        };
+        output::write(&[file], force).map_err(|failed| {
+            let line = format!("{}, but the page was not written: {}", end.line, failed.line);
+            End::new(Status::FileSystem, line).with(end.fields.clone())
+        })?;
+    }
+    Ok(end)
+}
