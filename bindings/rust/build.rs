@@ -7,11 +7,7 @@ use std::process::{Command, Stdio};
 /// The archive that the kit builds from this repository.
 fn built(root: &Path) -> PathBuf {
     println!("cargo:rerun-if-changed={}", root.join("crates").display());
-    let made = Command::new("rt")
-        .args(["staticlib", "labrador"])
-        .current_dir(root)
-        .stdin(Stdio::null())
-        .output();
+    let made = Command::new("rt").args(["staticlib", "labrador"]).current_dir(root).stdin(Stdio::null()).output();
     match made {
         Ok(said) if said.status.success() => root.join("target/staticlib/liblabrador.a"),
         Ok(said) => panic!(
@@ -33,15 +29,10 @@ fn main() {
         Some(named) if !named.is_empty() => package.join(named),
         _ => built(&package.join("../..")),
     };
-    let archive = archive
-        .canonicalize()
-        .unwrap_or_else(|error| panic!("no archive at {}: {error}", archive.display()));
+    let archive = archive.canonicalize().unwrap_or_else(|error| panic!("no archive at {}: {error}", archive.display()));
     println!("cargo:rerun-if-changed={}", archive.display());
     let folder = archive.parent().expect("an archive stands in a folder");
-    let name = archive
-        .file_name()
-        .and_then(|name| name.to_str())
-        .expect("an archive's name in UTF-8");
+    let name = archive.file_name().and_then(|name| name.to_str()).expect("an archive's name in UTF-8");
     println!("cargo:rustc-link-search=native={}", folder.display());
     println!("cargo:rustc-link-lib=static:+verbatim={name}");
 }

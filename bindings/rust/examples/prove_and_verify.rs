@@ -3,11 +3,7 @@
 use labrador::{load, prove, verify, Parameters, Verdict};
 
 fn main() -> Result<(), Box<dyn std::error::Error>> {
-    let parameters = Parameters {
-        n: 8,
-        r: 2,
-        ..Parameters::SMALL
-    };
+    let parameters = Parameters { n: 8, r: 2, ..Parameters::SMALL };
     let load = load(&parameters, 2026)?;
     let mut transcript = prove(&load.job, &load.randomness, &load.witness)?;
     println!("as it was made: {}", verify(&load.job, &load.randomness, &transcript));

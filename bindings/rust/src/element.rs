@@ -80,17 +80,9 @@ impl Element {
     pub fn digits_into(&self, base: u32, parts: u32, out: &mut [u32]) -> Result<(), Refusal> {
         let answer = ffi::rq_digits(base, parts, self.raw(), out);
         if answer.number == 2 {
-            return Err(Refusal::Output {
-                buffer: "output",
-                needed: answer.place.into(),
-                lent: out.len() as u64,
-            });
+            return Err(Refusal::Output { buffer: "output", needed: answer.place.into(), lent: out.len() as u64 });
         }
-        operand(
-            answer.number,
-            answer.place.into(),
-            &[&[base, parts], &self.coeffs[..]].concat(),
-        )
+        operand(answer.number, answer.place.into(), &[&[base, parts], &self.coeffs[..]].concat())
     }
 
     /// The digit rows.
@@ -125,9 +117,5 @@ pub(crate) fn operand(number: u32, place: u64, words: &[u32]) -> Result<(), Refu
         return Ok(());
     }
     let found = usize::try_from(place).ok().and_then(|k| words.get(k)).copied();
-    Err(Refusal::Operand {
-        number,
-        place,
-        found: found.unwrap_or_default(),
-    })
+    Err(Refusal::Operand { number, place, found: found.unwrap_or_default() })
 }

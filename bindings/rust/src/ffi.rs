@@ -245,14 +245,9 @@ pub fn prove(
     scratch: &mut [u32],
     output: &mut [u32],
 ) -> Answer {
-    let call = [
-        labrador_prove,
-        labrador_round_1,
-        labrador_round_2,
-        labrador_round_3,
-        labrador_round_4,
-        labrador_round_5,
-    ][round];
+    let call =
+        [labrador_prove, labrador_round_1, labrador_round_2, labrador_round_3, labrador_round_4, labrador_round_5]
+            [round];
     // SAFETY: the pointers are those of slices, so none is null and that many words of each can be read, and what is only
     // read may overlap; scratch and output are lent alone, so they can be written and overlap with nothing.
     unsafe {
@@ -290,14 +285,5 @@ pub fn verify(job: &[u32], randomness: &[u32], transcript: &[u32], scratch: &mut
 
 pub fn ranges(job: &[u32], lows: &[i64], highs: &[i64]) -> RangesAnswer {
     // SAFETY: the pointers are those of slices, so none is null and that many numbers of each can be read; nothing is written.
-    unsafe {
-        labrador_ranges(
-            job.as_ptr(),
-            job.len(),
-            lows.as_ptr(),
-            lows.len(),
-            highs.as_ptr(),
-            highs.len(),
-        )
-    }
+    unsafe { labrador_ranges(job.as_ptr(), job.len(), lows.as_ptr(), lows.len(), highs.as_ptr(), highs.len()) }
 }

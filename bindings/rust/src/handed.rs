@@ -23,15 +23,8 @@ impl Handed<'_> {
     /// The refusal of this number and place.
     pub fn refusal(&self, number: u32, place: u64) -> Refusal {
         match number {
-            1 => Refusal::Scratch {
-                needed: place,
-                lent: self.scratch as u64,
-            },
-            2 => Refusal::Output {
-                buffer: "output",
-                needed: place,
-                lent: self.output as u64,
-            },
+            1 => Refusal::Scratch { needed: place, lent: self.scratch as u64 },
+            2 => Refusal::Output { buffer: "output", needed: place, lent: self.output as u64 },
             3 => Refusal::JobLayout(self.place(Slice::Job, place)),
             4 => Refusal::Parameter(self.place(Slice::Job, place)),
             5 => Refusal::Aggregations {
@@ -73,10 +66,6 @@ impl Handed<'_> {
         let length = 64 * one.parameters.n as usize;
         let begin = vector as usize * length;
         let norm = norms::norm_of(&words[begin..begin + length]).unwrap_or_default();
-        Refusal::WitnessNorm {
-            vector,
-            norm,
-            bound: one.bound("bound_A"),
-        }
+        Refusal::WitnessNorm { vector, norm, bound: one.bound("bound_A") }
     }
 }

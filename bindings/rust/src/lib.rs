@@ -21,30 +21,36 @@
 //! ```
 #![deny(unsafe_code)]
 
-mod calls;
 mod element;
 #[allow(unsafe_code)]
 mod ffi;
 mod handed;
 mod load;
 pub mod meaning;
+mod needs;
 pub mod norms;
 mod number;
 mod place;
+mod prover;
 mod ranges;
 mod refusal;
 pub mod review;
+mod rounds;
 pub mod section_one;
 pub mod sections;
 mod verdict;
+mod verifier;
 
-pub use calls::{output_need, prove, prove_into, round, round_into, scratch_need, verify, verify_with, Round};
 pub use element::{ChallengeWords, DigitRows, Element};
 pub use load::{load, load_into, load_needs, Load, LoadNeeds};
+pub use needs::{output_need, scratch_need};
 pub use number::{parts_needed, projection_entry, recompose, Digits, Zq, Q};
 pub use place::{expected, Place, Spot};
+pub use prover::{prove, prove_into};
 pub use ranges::{ranges, Meets, RangeNorms};
 pub use refusal::Refusal;
+pub use rounds::{round, round_into, Round};
 pub use section_one::Parameters;
 pub use sections::Slice;
 pub use verdict::{FailedCheck, Verdict};
+pub use verifier::{verify, verify_with};

@@ -22,19 +22,14 @@ pub struct LoadNeeds {
 }
 
 fn raw(parameters: &Parameters) -> ffi::Parameters {
-    ffi::Parameters {
-        words: parameters.words(),
-    }
+    ffi::Parameters { words: parameters.words() }
 }
 
 /// 4 and 5 are of the parameters, at section one's places.
 fn refusal(parameters: &Parameters, number: u32, place: u64) -> Refusal {
     let bounds = [u32::MAX; 3 * BOUNDS.len()];
     let section_one = [&[COUNT as u32], &parameters.words()[..], &bounds[..]].concat();
-    let handed = Handed {
-        job: &section_one,
-        ..Handed::default()
-    };
+    let handed = Handed { job: &section_one, ..Handed::default() };
     handed.refusal(number, place)
 }
 
@@ -42,11 +37,7 @@ fn refusal(parameters: &Parameters, number: u32, place: u64) -> Refusal {
 pub fn load_needs(parameters: &Parameters) -> Result<LoadNeeds, Refusal> {
     let needs = ffi::load_needs(raw(parameters));
     match needs.number {
-        0 => Ok(LoadNeeds {
-            job: needs.job,
-            witness: needs.witness,
-            randomness: needs.randomness,
-        }),
+        0 => Ok(LoadNeeds { job: needs.job, witness: needs.witness, randomness: needs.randomness }),
         number => Err(refusal(parameters, number, needs.place)),
     }
 }
@@ -71,11 +62,7 @@ pub fn load_into(
             ];
             let first = short.into_iter().find(|(_, needed, lent)| (*lent as u64) < *needed);
             let (buffer, _, lent) = first.expect("a buffer is too short");
-            Err(Refusal::Output {
-                buffer,
-                needed: answer.place,
-                lent: lent as u64,
-            })
+            Err(Refusal::Output { buffer, needed: answer.place, lent: lent as u64 })
         }
         number => Err(refusal(parameters, number, answer.place)),
     }
@@ -92,11 +79,8 @@ pub fn load_into(
 pub fn load(parameters: &Parameters, seed: u32) -> Result<Load, Refusal> {
     let needs = load_needs(parameters)?;
     let buffer = |words: u64| vec![0; usize::try_from(words).expect("a need fits the machine")];
-    let mut load = Load {
-        job: buffer(needs.job),
-        witness: buffer(needs.witness),
-        randomness: buffer(needs.randomness),
-    };
+    let mut load =
+        Load { job: buffer(needs.job), witness: buffer(needs.witness), randomness: buffer(needs.randomness) };
     load_into(parameters, seed, &mut load.job, &mut load.witness, &mut load.randomness)?;
     Ok(load)
 }

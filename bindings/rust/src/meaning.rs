@@ -44,34 +44,18 @@ pub struct Check {
 }
 
 const fn check(number: u32, condition: bool, holds: &'static str) -> Check {
-    Check {
-        number,
-        holds,
-        condition,
-    }
+    Check { number, holds, condition }
 }
 
 /// The tests of the verifier's work in their order.
 pub const CHECKS: [Check; 12] = [
     check(21, true, "the norm of the projection p is at most 128·beta_sq"),
-    check(
-        22,
-        true,
-        "each constant term of b'' is the one that psi, b0, omega and p give",
-    ),
-    check(
-        23,
-        true,
-        "the norms of z's two parts and of the digits of t, g and h are together at most beta_prime_sq",
-    ),
+    check(22, true, "each constant term of b'' is the one that psi, b0, omega and p give"),
+    check(23, true, "the norms of z's two parts and of the digits of t, g and h are together at most beta_prime_sq"),
     check(24, false, "A·z is the sum of t_i·c_i"),
     check(25, false, "<z,z> is the sum of g_ij·c_i·c_j"),
     check(26, false, "twice the sum of <phi_i,z>·c_i is the sum of h_ij·c_i·c_j"),
-    check(
-        27,
-        true,
-        "twice the sum of a_ij·g_ij plus the sum of h_ii is twice the aggregated b",
-    ),
+    check(27, true, "twice the sum of a_ij·g_ij plus the sum of h_ii is twice the aggregated b"),
     check(14, false, "the norm of the digits of t is at most B's bound"),
     check(15, false, "the norm of the digits of g is at most C's bound"),
     check(28, false, "u1 is the commitment to the digits of t and g"),
@@ -113,13 +97,7 @@ const fn row(
     place: &'static str,
     follows: &'static str,
 ) -> Meaning {
-    Meaning {
-        number,
-        short,
-        cause,
-        place,
-        follows,
-    }
+    Meaning { number, short, cause, place, follows }
 }
 
 pub const MEANINGS: [Meaning; 32] = [
@@ -198,21 +176,21 @@ pub const MEANINGS: [Meaning; 32] = [
         "the norm of the projection p is above its limit",
         STATEMENT,
         "the norm, and the limit 128·beta_sq",
-        "Honestly made, the witness is too large for the statement's beta_sq, or the randomness projects it badly.",
+        "If the transcript was made honestly, the witness is too large for the statement's beta_sq, or this randomness projects it badly.",
     ),
     row(
         22,
         "a constant term of b'' is not the one that psi, b0, omega and p give",
         STATEMENT,
         "the row, the constant term sent and the one worked out",
-        "Honestly made, the witness breaks a constant-term constraint: a total is not the one stated in b0.",
+        "If the transcript was made honestly, the witness breaks a constant-term constraint: a total is not the one stated in b0.",
     ),
     row(
         23,
         "the norms of z's two parts and of the digits of t, g and h together are above their limit",
         STATEMENT,
         "the sum, and the limit beta_prime_sq",
-        "Honestly made, the witness is too large for the statement's beta_prime_sq.",
+        "If the transcript was made honestly, the witness is too large for the statement's beta_prime_sq.",
     ),
     row(24, "A·z is not the sum of t_i·c_i", FORGED, NO_FIGURES, NOT_HONEST),
     row(
@@ -234,7 +212,7 @@ pub const MEANINGS: [Meaning; 32] = [
         "twice the sum of a_ij·g_ij plus the sum of h_ii is not twice the aggregated b",
         STATEMENT,
         NO_FIGURES,
-        "Honestly made, the witness breaks a ring constraint: a total is not the one stated in b.",
+        "If the transcript was made honestly, the witness breaks a ring constraint: a total is not the one stated in b.",
     ),
     row(
         28,

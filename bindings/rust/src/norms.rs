@@ -18,9 +18,7 @@ pub struct Norm {
 
 /// The elements of words, 64 at a time.
 pub fn elements(words: &[u32]) -> impl Iterator<Item = Element> + '_ {
-    words.chunks_exact(64).map(|chunk| Element {
-        coeffs: chunk.try_into().expect("64 words"),
-    })
+    words.chunks_exact(64).map(|chunk| Element { coeffs: chunk.try_into().expect("64 words") })
 }
 
 /// The norm of words, 64 at a time.
@@ -32,9 +30,7 @@ pub fn norm_of(words: &[u32]) -> Result<u128, Refusal> {
 fn digits_norm(words: &[u32], base: u32, parts: u32) -> Result<u128, Refusal> {
     let of_element = |e: Element| {
         let rows = e.digits(base, parts)?;
-        rows.iter()
-            .map(|&coeffs| Element { coeffs }.norm())
-            .sum::<Result<u128, Refusal>>()
+        rows.iter().map(|&coeffs| Element { coeffs }.norm()).sum::<Result<u128, Refusal>>()
     };
     elements(words).map(of_element).sum()
 }
@@ -65,22 +61,10 @@ pub fn norms(one: &SectionOne, transcript: &[u32]) -> Result<[Norm; 5], Refusal>
     let g = digits_norm(words("g"), p.b, p.t_2)?;
     let h = digits_norm(words("h"), p.b, p.t_1)?;
     let sum = parts_norm(words("z"), p.b)? + t + g + h;
-    let held = |number, what, norm, limit_name, limit| Norm {
-        number,
-        what,
-        norm,
-        limit_name,
-        limit,
-    };
+    let held = |number, what, norm, limit_name, limit| Norm { number, what, norm, limit_name, limit };
     let bound = |number, what, norm, name| held(number, what, norm, name, one.bound(name));
     Ok([
-        held(
-            21,
-            "the projection p",
-            norm_of(words("p"))?,
-            "128·beta_sq",
-            one.projection_limit(),
-        ),
+        held(21, "the projection p", norm_of(words("p"))?, "128·beta_sq", one.projection_limit()),
         bound(23, "z's two parts and the digits of t, g and h", sum, "beta_prime_sq"),
         bound(14, "the digits of t", t, "bound_B"),
         bound(15, "the digits of g", g, "bound_C"),

@@ -32,6 +32,8 @@ fn word(answer: ffi::WordAnswer, operands: &[u32]) -> Result<Zq, Refusal> {
     Ok(Zq(answer.value))
 }
 
+// the operators' traits cannot refuse
+#[allow(clippy::should_implement_trait)]
 impl Zq {
     pub fn add(self, b: Zq) -> Result<Zq, Refusal> {
         word(ffi::zq_add(self.0, b.0), &[self.0, b.0])

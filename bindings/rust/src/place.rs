@@ -22,10 +22,7 @@ pub enum Spot {
     /// The count of a section.
     Count { section: &'static str, expected: u64 },
     /// A word of a section, by its axes: `constraint 2`, `vector 1`, `element 0`, `coefficient 17`.
-    Word {
-        section: &'static str,
-        axes: Vec<(&'static str, String)>,
-    },
+    Word { section: &'static str, axes: Vec<(&'static str, String)> },
     /// Behind the last section.
     Surplus { last: Option<&'static str> },
     /// Nothing is known of it: the job's parameters are unfit.
@@ -47,25 +44,12 @@ impl Place {
     pub fn of(slice: Slice, words: &[u32], index: u64, sections: &[Placed]) -> Place {
         let found = usize::try_from(index).ok().and_then(|k| words.get(k)).copied();
         let spot = match sections.iter().find(|s| index < s.end()) {
-            Some(s) if index == s.count_at => Spot::Count {
-                section: s.section.name,
-                expected: s.section.count(),
-            },
-            Some(s) => Spot::Word {
-                section: s.section.name,
-                axes: s.section.told(index - s.begin()),
-            },
+            Some(s) if index == s.count_at => Spot::Count { section: s.section.name, expected: s.section.count() },
+            Some(s) => Spot::Word { section: s.section.name, axes: s.section.told(index - s.begin()) },
             None if sections.is_empty() && slice != Slice::Randomness => Spot::Unknown,
-            None => Spot::Surplus {
-                last: sections.last().map(|s| s.section.name),
-            },
+            None => Spot::Surplus { last: sections.last().map(|s| s.section.name) },
         };
-        Place {
-            slice,
-            index,
-            found,
-            spot,
-        }
+        Place { slice, index, found, spot }
     }
 
     /// The name of the parameter at a place of section one.
@@ -83,10 +67,7 @@ impl Place {
                 format!("the {slice}'s word {index} is {found}, and the count of section {section} is {expected}")
             }
             (Spot::Count { section, .. }, None) => {
-                format!(
-                    "the {slice} ends after {} words, before the count of section {section}",
-                    self.index
-                )
+                format!("the {slice} ends after {} words, before the count of section {section}", self.index)
             }
             (Spot::Word { section, .. }, _) => {
                 format!("the {slice} ends after {} words, within section {section}", self.index)
@@ -116,8 +97,7 @@ impl fmt::Display for Spot {
             Spot::Count { section, expected } => write!(f, "count of section {section}, {expected}"),
             Spot::Word { section, axes } => {
                 write!(f, "section {section}")?;
-                axes.iter()
-                    .try_for_each(|(axis, number)| write!(f, ", {axis} {number}"))
+                axes.iter().try_for_each(|(axis, number)| write!(f, ", {axis} {number}"))
             }
             Spot::Surplus { .. } => write!(f, "behind the last section"),
             Spot::Unknown => write!(f, "the sections are not known"),

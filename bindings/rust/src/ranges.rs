@@ -45,34 +45,16 @@ pub fn ranges(job: &[u32], lows: &[i64], highs: &[i64]) -> Result<Vec<RangeNorms
 }
 
 fn refusal(job: &[u32], lows: &[i64], highs: &[i64], number: u32, place: u64) -> Refusal {
-    let handed = Handed {
-        job,
-        ..Handed::default()
-    };
-    let pair = |numbers: &[i64]| {
-        usize::try_from(place)
-            .ok()
-            .and_then(|k| numbers.get(k))
-            .copied()
-            .unwrap_or(0)
-    };
+    let handed = Handed { job, ..Handed::default() };
+    let pair = |numbers: &[i64]| usize::try_from(place).ok().and_then(|k| numbers.get(k)).copied().unwrap_or(0);
     let (low, high) = (pair(lows), pair(highs));
     match number {
         11 => {
             let p = SectionOne::read(job).expect("the job is fit").parameters;
             let expected = 64 * u64::from(p.r) * u64::from(p.n);
             let wrong_lows = lows.len() as u64 != expected;
-            let (list, found) = if wrong_lows {
-                ("lows", lows.len())
-            } else {
-                ("highs", highs.len())
-            };
-            Refusal::RangesLength {
-                list,
-                place,
-                found: found as u64,
-                expected,
-            }
+            let (list, found) = if wrong_lows { ("lows", lows.len()) } else { ("highs", highs.len()) };
+            Refusal::RangesLength { list, place, found: found as u64, expected }
         }
         36 => Refusal::Crossed { pair: place, low, high },
         37 => Refusal::Beyond { pair: place, low, high },

@@ -13,11 +13,7 @@ pub enum Refusal {
     /// 1
     Scratch { needed: u64, lent: u64 },
     /// 2: of the output, or of a load's job, witness or randomness.
-    Output {
-        buffer: &'static str,
-        needed: u64,
-        lent: u64,
-    },
+    Output { buffer: &'static str, needed: u64, lent: u64 },
     /// 3
     JobLayout(Place),
     /// 4
@@ -49,12 +45,7 @@ pub enum Refusal {
     /// 4, 6, 8 or 31 of a call on numbers, an element or a challenge: the place among its operands' words.
     Operand { number: u32, place: u64, found: u32 },
     /// 11 of the call on ranges: a list of another length than 64·r·n.
-    RangesLength {
-        list: &'static str,
-        place: u64,
-        found: u64,
-        expected: u64,
-    },
+    RangesLength { list: &'static str, place: u64, found: u64, expected: u64 },
     /// 36: the first pair whose low is above its high.
     Crossed { pair: u64, low: i64, high: i64 },
     /// 37: the first pair with a number beyond ±2147483647.
@@ -141,9 +132,7 @@ impl Refusal {
                 format!("the norm of witness vector {vector} is {norm}, above A's bound {bound}")
             }
             Refusal::Operand { number, place, found } => operand_fault(*number, *place, *found),
-            Refusal::RangesLength {
-                list, found, expected, ..
-            } => {
+            Refusal::RangesLength { list, found, expected, .. } => {
                 format!("there are {found} {list}, and 64·r·n is {expected}")
             }
             Refusal::Crossed { pair, low, high } => format!("pair {pair} goes from {low} to {high}, which is below"),
@@ -165,22 +154,12 @@ fn parameter_fault(place: &Place) -> String {
         return format!("the job's word {} is {found}: {name} and K are not both 0", place.index);
     }
     let (least, greatest) = (parameter.least, parameter.greatest);
-    format!(
-        "the job's word {} is {found}: {name} is from {least} to {greatest}",
-        place.index
-    )
+    format!("the job's word {} is {found}: {name} is from {least} to {greatest}", place.index)
 }
 
 fn aggregations_fault(place: &Place, parameters: &Parameters) -> String {
-    let (found, least, log_q) = (
-        place.found.unwrap_or(0),
-        parameters.least_aggregations(),
-        parameters.log_q,
-    );
-    format!(
-        "the job's word {} is {found}: kappa is L, which for log_q {log_q} is {least}",
-        place.index
-    )
+    let (found, least, log_q) = (place.found.unwrap_or(0), parameters.least_aggregations(), parameters.log_q);
+    format!("the job's word {} is {found}: kappa is L, which for log_q {log_q} is {least}", place.index)
 }
 
 fn randomness_fault(place: &Place) -> &'static str {

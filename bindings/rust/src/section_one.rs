@@ -10,12 +10,7 @@ pub struct Parameter {
 }
 
 const fn parameter(name: &'static str, least: u32, greatest: u32, meaning: &'static str) -> Parameter {
-    Parameter {
-        name,
-        least,
-        greatest,
-        meaning,
-    }
+    Parameter { name, least, greatest, meaning }
 }
 
 /// The parameters in their order; the first is the job's word 1.
@@ -27,12 +22,7 @@ pub const PARAMETERS: [Parameter; 11] = [
     parameter("kappa_2", 1, 16, "rows of D, elements of u2"),
     parameter("K", 0, 64, "ring constraints"),
     parameter("l", 0, 64, "constant-term constraints"),
-    parameter(
-        "log_q",
-        16,
-        32,
-        "bits of the modulus, for the number of aggregated equations",
-    ),
+    parameter("log_q", 16, 32, "bits of the modulus, for the number of aggregated equations"),
     parameter("b", 2, 4294967294, "base of the digits"),
     parameter("t_1", 1, 32, "digits of a cell of t and of h"),
     parameter("t_2", 1, 32, "digits of a cell of g"),
@@ -47,30 +37,12 @@ pub struct Bound {
 
 /// The bounds in their order, after the parameters.
 pub const BOUNDS: [Bound; 6] = [
-    Bound {
-        name: "beta_sq",
-        meaning: "the norm of p is at most 128 times this",
-    },
-    Bound {
-        name: "beta_prime_sq",
-        meaning: "greatest norm of z's two parts and the digits of t, g and h together",
-    },
-    Bound {
-        name: "bound_A",
-        meaning: "greatest norm of a witness vector",
-    },
-    Bound {
-        name: "bound_B",
-        meaning: "greatest norm of the digits of t",
-    },
-    Bound {
-        name: "bound_C",
-        meaning: "greatest norm of the digits of g",
-    },
-    Bound {
-        name: "bound_D",
-        meaning: "greatest norm of the digits of h",
-    },
+    Bound { name: "beta_sq", meaning: "the norm of p is at most 128 times this" },
+    Bound { name: "beta_prime_sq", meaning: "greatest norm of z's two parts and the digits of t, g and h together" },
+    Bound { name: "bound_A", meaning: "greatest norm of a witness vector" },
+    Bound { name: "bound_B", meaning: "greatest norm of the digits of t" },
+    Bound { name: "bound_C", meaning: "greatest norm of the digits of g" },
+    Bound { name: "bound_D", meaning: "greatest norm of the digits of h" },
 ];
 
 /// The words of section one after its count.
@@ -96,54 +68,19 @@ pub struct Parameters {
 impl Parameters {
     /// In the order of section one.
     pub fn words(&self) -> [u32; PARAMETERS.len()] {
-        [
-            self.n,
-            self.r,
-            self.kappa,
-            self.kappa_1,
-            self.kappa_2,
-            self.K,
-            self.l,
-            self.log_q,
-            self.b,
-            self.t_1,
-            self.t_2,
-        ]
+        [self.n, self.r, self.kappa, self.kappa_1, self.kappa_2, self.K, self.l, self.log_q, self.b, self.t_1, self.t_2]
     }
 
     /// Of words in the order of section one.
     #[allow(non_snake_case)]
     pub fn from_words(words: [u32; PARAMETERS.len()]) -> Parameters {
         let [n, r, kappa, kappa_1, kappa_2, K, l, log_q, b, t_1, t_2] = words;
-        Parameters {
-            n,
-            r,
-            kappa,
-            kappa_1,
-            kappa_2,
-            K,
-            l,
-            log_q,
-            b,
-            t_1,
-            t_2,
-        }
+        Parameters { n, r, kappa, kappa_1, kappa_2, K, l, log_q, b, t_1, t_2 }
     }
 
     /// A small load that runs at once: four elements a vector, three vectors, two constraints of each kind.
-    pub const SMALL: Parameters = Parameters {
-        n: 4,
-        r: 3,
-        kappa: 4,
-        kappa_1: 4,
-        kappa_2: 4,
-        K: 2,
-        l: 2,
-        log_q: 32,
-        b: 256,
-        t_1: 4,
-        t_2: 4,
-    };
+    pub const SMALL: Parameters =
+        Parameters { n: 4, r: 3, kappa: 4, kappa_1: 4, kappa_2: 4, K: 2, l: 2, log_q: 32, b: 256, t_1: 4, t_2: 4 };
 
     /// 128 divided by log_q, rounded up.
     pub fn least_aggregations(&self) -> u64 {

@@ -24,11 +24,7 @@ fn split(argument: &OsStr) -> (String, Option<OsString>) {
 
 impl Args {
     pub fn parse(command: &Command, arguments: &[OsString]) -> Result<Args, End> {
-        let mut args = Args {
-            values: Vec::new(),
-            flags: Vec::new(),
-            rest: Vec::new(),
-        };
+        let mut args = Args { values: Vec::new(), flags: Vec::new(), rest: Vec::new() };
         let mut left = arguments.iter();
         while let Some(argument) = left.next() {
             if argument == "--" {
@@ -50,11 +46,7 @@ impl Args {
     ) -> Result<(), End> {
         let (name, value) = split(argument);
         let Some(option) = command.options.iter().find(|o| o.name == name) else {
-            return Err(usage(format!(
-                "{} knows no option {name}; {}",
-                command.name,
-                command.hint()
-            )));
+            return Err(usage(format!("{} knows no option {name}; {}", command.name, command.hint())));
         };
         if self.flags.contains(&option.name) || self.value(option.name).is_some() {
             return Err(usage(format!("{name} is given twice")));
@@ -76,10 +68,7 @@ impl Args {
     }
 
     pub fn value(&self, name: &str) -> Option<&OsStr> {
-        self.values
-            .iter()
-            .find(|(n, _)| *n == name)
-            .map(|(_, value)| value.as_os_str())
+        self.values.iter().find(|(n, _)| *n == name).map(|(_, value)| value.as_os_str())
     }
 
     /// The file that an option names.
@@ -100,11 +89,7 @@ impl Args {
         match self.rest.first() {
             Some(first) => {
                 let first = first.to_string_lossy();
-                Err(usage(format!(
-                    "{} does not take {first}; {}",
-                    command.name,
-                    command.hint()
-                )))
+                Err(usage(format!("{} does not take {first}; {}", command.name, command.hint())))
             }
             None => Ok(()),
         }

@@ -34,12 +34,7 @@ pub struct End {
 
 impl End {
     pub fn new(status: Status, line: impl Into<String>) -> End {
-        End {
-            status,
-            out: String::new(),
-            line: line.into(),
-            fields: Vec::new(),
-        }
+        End { status, out: String::new(), line: line.into(), fields: Vec::new() }
     }
 
     pub fn printing(mut self, out: String) -> End {
@@ -53,10 +48,7 @@ impl End {
     }
 
     fn to_json(&self) -> String {
-        let mut fields = vec![
-            ("status", Json::Number(self.status as u64)),
-            ("says", Json::text(&self.line)),
-        ];
+        let mut fields = vec![("status", Json::Number(self.status as u64)), ("says", Json::text(&self.line))];
         fields.extend(self.fields.iter().cloned());
         format!("{}\n", Json::Object(fields))
     }

@@ -32,11 +32,7 @@ pub const LOAD: Command = Command {
     usage: "labrador load [NAME=VALUE]… [--seed N] --job FILE --witness FILE --randomness FILE",
     about: "Makes a test load that anyone can repeat: a job, a witness that meets it, and randomness.",
     options: &[
-        opt(
-            "--seed",
-            "NUMBER",
-            "the seed, 0 to 4294967295 (1 where it is not given)",
-        ),
+        opt("--seed", "NUMBER", "the seed, 0 to 4294967295 (1 where it is not given)"),
         JOB,
         WITNESS,
         RANDOMNESS,
@@ -80,11 +76,7 @@ pub const PROVE: Command = Command {
         RANDOMNESS,
         WITNESS,
         TRANSCRIPT,
-        opt(
-            "--rounds",
-            "",
-            "work round after round, which gives the same transcript",
-        ),
+        opt("--rounds", "", "work round after round, which gives the same transcript"),
         FORCE,
         JSON,
         HELP,
@@ -95,7 +87,8 @@ pub const PROVE: Command = Command {
 pub const VERIFY: Command = Command {
     name: "verify",
     usage: "labrador verify --job FILE --randomness FILE --transcript FILE [--report PAGE.html]",
-    about: "Judges a transcript. Exit status 0 accepted, 1 a failed check, 2 refused.",
+    about: "Judges a transcript. Exit status 0 accepted, 1 a failed check, 2 refused. The randomness is taken as it is handed in: a \
+            verdict forces nothing where the sender could choose it.",
     options: &[
         JOB,
         RANDOMNESS,

@@ -64,10 +64,8 @@ mod tests {
 
     #[test]
     fn text_is_escaped() {
-        let value = Json::Object(vec![
-            ("a", Json::text("\"\\\n")),
-            ("b", Json::List(vec![Json::Number(1), Json::Null])),
-        ]);
+        let value =
+            Json::Object(vec![("a", Json::text("\"\\\n")), ("b", Json::List(vec![Json::Number(1), Json::Null]))]);
         assert_eq!(value.to_string(), r#"{"a":"\"\\\u000a","b":[1,null]}"#);
     }
 }

@@ -24,10 +24,7 @@ fn place(path: &Path) -> PathBuf {
     if let Ok(found) = path.canonicalize() {
         return found;
     }
-    let folder = path
-        .parent()
-        .filter(|folder| !folder.as_os_str().is_empty())
-        .unwrap_or(Path::new("."));
+    let folder = path.parent().filter(|folder| !folder.as_os_str().is_empty()).unwrap_or(Path::new("."));
     let folder = folder.canonicalize().unwrap_or_else(|_| folder.to_path_buf());
     folder.join(path.file_name().unwrap_or_default())
 }
@@ -38,9 +35,7 @@ pub fn admit(outputs: &[&Path], inputs: &[&Path], force: bool) -> Result<(), End
     for path in outputs {
         let shown = path.display();
         if taken.contains(&place(path)) {
-            return Err(usage(format!(
-                "{shown} is named twice: an output has a file of its own"
-            )));
+            return Err(usage(format!("{shown} is named twice: an output has a file of its own")));
         }
         taken.push(place(path));
         match fs::symlink_metadata(path) {
@@ -49,9 +44,7 @@ pub fn admit(outputs: &[&Path], inputs: &[&Path], force: bool) -> Result<(), End
             Ok(about) if about.is_dir() => return Err(file_system(format!("{shown} is a folder"))),
             Ok(_) if !force => return Err(file_system(format!("{shown} is there already; --force overwrites it"))),
             Ok(about) if !about.is_file() => {
-                return Err(file_system(format!(
-                    "{shown} is not a regular file, and is not overwritten"
-                )))
+                return Err(file_system(format!("{shown} is not a regular file, and is not overwritten")))
             }
             Ok(_) => {}
         }

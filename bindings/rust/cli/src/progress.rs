@@ -16,17 +16,11 @@ const PATIENCE: Duration = Duration::from_secs(1);
 impl Progress {
     pub fn start() -> Progress {
         if !io::stderr().is_terminal() {
-            return Progress {
-                steps: None,
-                teller: None,
-            };
+            return Progress { steps: None, teller: None };
         }
         let (steps, told) = channel();
         let begun = Instant::now();
-        Progress {
-            steps: Some(steps),
-            teller: Some(std::thread::spawn(move || tell(&told, begun))),
-        }
+        Progress { steps: Some(steps), teller: Some(std::thread::spawn(move || tell(&told, begun))) }
     }
 
     pub fn step(&self, what: impl Into<String>) {
@@ -56,11 +50,7 @@ fn tell(told: &Receiver<String>, begun: Instant) {
                 let _ = writeln!(io::stderr().lock(), "labrador: {what}…");
             }
         }
-        let wait = if step.is_some() {
-            left
-        } else {
-            Duration::from_secs(3600)
-        };
+        let wait = if step.is_some() { left } else { Duration::from_secs(3600) };
         match told.recv_timeout(wait) {
             Ok(what) => step = Some(what),
             Err(RecvTimeoutError::Timeout) => {}

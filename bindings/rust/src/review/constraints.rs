@@ -19,12 +19,8 @@ impl<'a> Constraints<'a> {
             Kind::ConstantTerm => ["a'", "phi'", "b0"],
             Kind::Ring => ["a", "phi", "b"],
         };
-        let [a, phi, right] = names.map(|name| {
-            sections
-                .iter()
-                .find(|s| s.section.name == name)
-                .expect("a section of the job")
-        });
+        let [a, phi, right] =
+            names.map(|name| sections.iter().find(|s| s.section.name == name).expect("a section of the job"));
         Constraints {
             kind,
             count: count as usize,
@@ -85,10 +81,7 @@ pub(super) fn review(p: &Parameters, job: &[u32]) -> Vec<Finding> {
     let sections = placed(Slice::Job, p);
     let kinds = [(Kind::ConstantTerm, p.l), (Kind::Ring, p.K)]
         .map(|(kind, count)| Constraints::of(kind, count, &sections, job));
-    let mut found: Vec<Finding> = kinds
-        .iter()
-        .flat_map(|c| (0..c.count).filter_map(|k| c.finding(k)))
-        .collect();
+    let mut found: Vec<Finding> = kinds.iter().flat_map(|c| (0..c.count).filter_map(|k| c.finding(k))).collect();
     let untouched = (0..p.r as usize).filter(|&i| kinds.iter().all(|c| !c.touches(p, i)));
     found.extend(untouched.map(|i| Finding::Untouched { vector: i as u64 }));
     found

@@ -51,37 +51,15 @@ pub(super) fn unreachable(one: &SectionOne) -> Vec<Finding> {
     let each = greatest_norms(one).into_iter().enumerate();
     let finding = |(k, (number, name, limit, greatest))| {
         let at = (1 + PARAMETERS.len() + 3 * k) as u64;
-        (limit >= greatest).then_some(Finding::Unreachable {
-            number,
-            name,
-            limit,
-            greatest,
-            at,
-        })
+        (limit >= greatest).then_some(Finding::Unreachable { number, name, limit, greatest, at })
     };
     each.filter_map(finding).collect()
 }
 
 pub(super) fn few_parts(p: &Parameters) -> Result<Vec<Finding>, Refusal> {
     let needed = parts_needed(p.b)?;
-    let place = |name: &str| {
-        PARAMETERS
-            .iter()
-            .position(|q| q.name == name)
-            .map_or(0, |k| 1 + k as u64)
-    };
-    let finding = |(name, parts, cells)| Finding::FewParts {
-        name,
-        parts,
-        needed,
-        base: p.b,
-        cells,
-        at: place(name),
-    };
+    let place = |name: &str| PARAMETERS.iter().position(|q| q.name == name).map_or(0, |k| 1 + k as u64);
+    let finding = |(name, parts, cells)| Finding::FewParts { name, parts, needed, base: p.b, cells, at: place(name) };
     let both = [("t_1", p.t_1, "t and h"), ("t_2", p.t_2, "g")];
-    Ok(both
-        .into_iter()
-        .filter(|(_, parts, _)| *parts < needed)
-        .map(finding)
-        .collect())
+    Ok(both.into_iter().filter(|(_, parts, _)| *parts < needed).map(finding).collect())
 }

@@ -2,7 +2,8 @@
 
 use std::fmt;
 
-use crate::calls::output_need;
+use crate::meaning::meaning;
+use crate::needs::output_need;
 use crate::refusal::Refusal;
 use crate::section_one::SectionOne;
 
@@ -38,31 +39,13 @@ pub enum Finding {
     /// A column of A that is zero.
     ZeroColumn { column: u64, at: u64 },
     /// A limit at or above the greatest norm there is, so that its check or refusal never speaks.
-    Unreachable {
-        number: u32,
-        name: &'static str,
-        limit: u128,
-        greatest: u128,
-        at: u64,
-    },
+    Unreachable { number: u32, name: &'static str, limit: u128, greatest: u128, at: u64 },
     /// A row of a matrix that is zero.
     ZeroRow { matrix: &'static str, row: u64, at: u64 },
     /// A row of a matrix that is the same as an earlier one.
-    RepeatedRow {
-        matrix: &'static str,
-        row: u64,
-        of: u64,
-        at: u64,
-    },
+    RepeatedRow { matrix: &'static str, row: u64, of: u64, at: u64 },
     /// Digits that can lose something: fewer parts than the base needs.
-    FewParts {
-        name: &'static str,
-        parts: u32,
-        needed: u32,
-        base: u32,
-        cells: &'static str,
-        at: u64,
-    },
+    FewParts { name: &'static str, parts: u32, needed: u32, base: u32, cells: &'static str, at: u64 },
 }
 
 /// All findings of a job, or its refusal.
@@ -77,55 +60,54 @@ pub fn review(job: &[u32]) -> Result<Vec<Finding>, Refusal> {
     Ok(found)
 }
 
+impl Finding {
+    /// The sentence without its place.
+    fn sentence(&self) -> String {
+        match self {
+            Finding::NoCoefficient { kind, index, met: true, .. } => {
+                format!("{kind} {index} has no coefficient at all: every witness meets it")
+            }
+            Finding::NoCoefficient { kind, index, .. } => {
+                format!("{kind} {index} has no coefficient at all and a right side that is not 0: no witness meets it")
+            }
+            Finding::Repeated { kind, index, of, .. } => format!("{kind} {index} repeats {kind} {of}"),
+            Finding::Untouched { vector } => format!("witness vector {vector} is in no constraint"),
+            Finding::ZeroColumn { column, .. } => {
+                format!("column {column} of A is zero: t says nothing of element {column} of a vector")
+            }
+            Finding::Unreachable { number, name, limit, greatest, .. } => {
+                let title = meaning(*number).map_or_else(String::new, |m| m.title());
+                format!("{title} never speaks: no norm is above {greatest}, and {name} is {limit}")
+            }
+            Finding::ZeroRow { matrix, row, .. } => format!("row {row} of {matrix} is zero"),
+            Finding::RepeatedRow { matrix, row, of, .. } => format!("row {row} of {matrix} repeats row {of}"),
+            Finding::FewParts { name, parts, needed, base, cells, .. } => {
+                format!("{name} is {parts}, and base {base} needs {needed}: digits of {cells} can lose something")
+            }
+        }
+    }
+
+    /// The first word that it is about; a vector's words stand in many places.
+    pub fn place(&self) -> Option<u64> {
+        match self {
+            Finding::Untouched { .. } => None,
+            Finding::NoCoefficient { at, .. }
+            | Finding::Repeated { at, .. }
+            | Finding::ZeroColumn { at, .. }
+            | Finding::Unreachable { at, .. }
+            | Finding::ZeroRow { at, .. }
+            | Finding::RepeatedRow { at, .. }
+            | Finding::FewParts { at, .. } => Some(*at),
+        }
+    }
+}
+
 impl fmt::Display for Finding {
     fn fmt(&self, f: &mut fmt::Formatter<'_>) -> fmt::Result {
-        match self {
-            Finding::NoCoefficient { kind, index, met, at } => {
-                let so = if *met {
-                    "every witness meets it"
-                } else {
-                    "and a right side that is not 0: no witness meets it"
-                };
-                write!(f, "{kind} {index} has no coefficient at all: {so} (from word {at})")
-            }
-            Finding::Repeated { kind, index, of, at } => {
-                write!(f, "{kind} {index} repeats {kind} {of} (from word {at})")
-            }
-            Finding::Untouched { vector } => write!(f, "witness vector {vector} is in no constraint"),
-            Finding::ZeroColumn { column, at } => {
-                write!(
-                    f,
-                    "column {column} of A is zero: t says nothing of element {column} of a vector (from word {at})"
-                )
-            }
-            Finding::Unreachable {
-                number,
-                name,
-                limit,
-                greatest,
-                at,
-            } => {
-                let title = crate::meaning::meaning(*number).map_or_else(String::new, |m| m.title());
-                write!(
-                    f,
-                    "{title} never speaks: no norm is above {greatest}, and {name} is {limit} (word {at})"
-                )
-            }
-            Finding::ZeroRow { matrix, row, at } => write!(f, "row {row} of {matrix} is zero (from word {at})"),
-            Finding::RepeatedRow { matrix, row, of, at } => {
-                write!(f, "row {row} of {matrix} repeats row {of} (from word {at})")
-            }
-            Finding::FewParts {
-                name,
-                parts,
-                needed,
-                base,
-                cells,
-                at,
-            } => write!(
-                f,
-                "{name} is {parts}, and base {base} needs {needed}: digits of {cells} can lose something (word {at})"
-            ),
+        f.write_str(&self.sentence())?;
+        match self.place() {
+            Some(at) => write!(f, " (from word {at})"),
+            None => Ok(()),
         }
     }
 }

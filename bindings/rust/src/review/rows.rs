@@ -8,11 +8,7 @@ use crate::sections::{placed, Placed, Slice};
 /// The matrices of a job by name, with how many rows each has.
 fn matrices(p: &Parameters) -> Vec<(Placed, usize)> {
     let rows = [("A", p.kappa), ("B", p.kappa_1), ("C", p.kappa_1), ("D", p.kappa_2)];
-    let matrix = |s: Placed| {
-        rows.iter()
-            .find(|(name, _)| *name == s.section.name)
-            .map(|&(_, rows)| (s, rows as usize))
-    };
+    let matrix = |s: Placed| rows.iter().find(|(name, _)| *name == s.section.name).map(|&(_, rows)| (s, rows as usize));
     placed(Slice::Job, p).into_iter().filter_map(matrix).collect()
 }
 
@@ -38,16 +34,11 @@ pub(super) fn review(p: &Parameters, job: &[u32]) -> Vec<Finding> {
 
 pub(super) fn zero_columns(p: &Parameters, job: &[u32]) -> Vec<Finding> {
     let all = matrices(p);
-    let (section, rows) = all
-        .iter()
-        .find(|(s, _)| s.section.name == "A")
-        .expect("A is a matrix of the job");
+    let (section, rows) = all.iter().find(|(s, _)| s.section.name == "A").expect("A is a matrix of the job");
     let (words, columns) = (section.words(job), p.n as usize);
     let element = |row: usize, column: usize| &words[64 * (row * columns + column)..][..64];
     let empty = (0..columns).filter(|&column| (0..*rows).all(|row| zero(element(row, column))));
-    let finding = |column: usize| Finding::ZeroColumn {
-        column: column as u64,
-        at: section.begin() + 64 * column as u64,
-    };
+    let finding =
+        |column: usize| Finding::ZeroColumn { column: column as u64, at: section.begin() + 64 * column as u64 };
     empty.map(finding).collect()
 }

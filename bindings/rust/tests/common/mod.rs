@@ -17,12 +17,7 @@ pub struct Case {
 pub fn made(parameters: &Parameters, seed: u32) -> Case {
     let load = load(parameters, seed).expect("fit parameters");
     let transcript = prove(&load.job, &load.randomness, &load.witness).expect("a transcript is made of every load");
-    Case {
-        job: load.job,
-        randomness: load.randomness,
-        witness: load.witness,
-        transcript,
-    }
+    Case { job: load.job, randomness: load.randomness, witness: load.witness, transcript }
 }
 
 /// The place of the first word of a section.

@@ -17,11 +17,7 @@ fn taken(case: &Case) -> [labrador::norms::Norm; 5] {
 /// Bases for which z has a rest, and parts for which digits lose something.
 fn shapes() -> Vec<Parameters> {
     let small = Parameters::SMALL;
-    vec![
-        small,
-        Parameters { b: 2, t_1: 3, ..small },
-        Parameters { b: 3, t_2: 1, ..small },
-    ]
+    vec![small, Parameters { b: 2, t_1: 3, ..small }, Parameters { b: 3, t_2: 1, ..small }]
 }
 
 #[test]
@@ -44,17 +40,11 @@ fn the_verifiers_figures_are_these() {
         let mut case = made(&p, 12);
         set_bound(&mut case.job, "beta_sq", 0);
         let [first, second, ..] = taken(&case);
-        let failed = FailedCheck::ProjectionNorm {
-            norm: first.norm,
-            limit: 0,
-        };
+        let failed = FailedCheck::ProjectionNorm { norm: first.norm, limit: 0 };
         assert_eq!(verdict(&case), Verdict::Failed(failed));
         set_bound(&mut case.job, "beta_sq", first.norm.div_ceil(128));
         set_bound(&mut case.job, "beta_prime_sq", 1);
-        let failed = FailedCheck::NormSum {
-            sum: second.norm,
-            limit: 1,
-        };
+        let failed = FailedCheck::NormSum { sum: second.norm, limit: 1 };
         assert_eq!(verdict(&case), Verdict::Failed(failed));
     }
 }

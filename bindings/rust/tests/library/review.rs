@@ -7,11 +7,7 @@ use labrador::{Parameters, Slice};
 use crate::common::{begin, made, set_bound};
 
 /// A shape whose digits lose nothing.
-const P: Parameters = Parameters {
-    n: 2,
-    r: 2,
-    ..Parameters::SMALL
-};
+const P: Parameters = Parameters { n: 2, r: 2, ..Parameters::SMALL };
 
 /// A job with nothing to find.
 fn sound() -> Vec<u32> {
@@ -46,24 +42,13 @@ fn constraints_that_say_nothing_or_repeat() {
     for (begin, length) in [(a, a_length), (phi, phi_length), (b, 64)] {
         job.copy_within(begin..begin + length, begin + length);
     }
-    assert_eq!(
-        findings(&job),
-        [format!(
-            "ring constraint 1 repeats ring constraint 0 (from word {})",
-            a + a_length
-        )]
-    );
+    assert_eq!(findings(&job), [format!("ring constraint 1 repeats ring constraint 0 (from word {})", a + a_length)]);
     job[b + 64] += 1;
     assert_eq!(findings(&job), Vec::<String>::new());
     let (a, phi, b_0) = (at("a'"), at("phi'"), at("b0"));
     job[a..a + a_length].fill(0);
     job[phi..phi + phi_length].fill(0);
-    let no_witness = Finding::NoCoefficient {
-        kind: Kind::ConstantTerm,
-        index: 0,
-        met: job[b_0] == 0,
-        at: a as u64,
-    };
+    let no_witness = Finding::NoCoefficient { kind: Kind::ConstantTerm, index: 0, met: job[b_0] == 0, at: a as u64 };
     assert_eq!(review(&job).unwrap(), [no_witness]);
     job[b_0] = 0;
     let every = format!("constant-term constraint 0 has no coefficient at all: every witness meets it (from word {a})");
@@ -141,6 +126,6 @@ fn parts_too_few_for_the_base() {
     let p = Parameters { t_1: 3, ..P };
     let mut job = made(&p, 3).job;
     BOUNDS.iter().for_each(|bound| set_bound(&mut job, bound.name, 1000));
-    let few = "t_1 is 3, and base 256 needs 4: digits of t and h can lose something (word 10)";
+    let few = "t_1 is 3, and base 256 needs 4: digits of t and h can lose something (from word 10)";
     assert_eq!(findings(&job), [few]);
 }

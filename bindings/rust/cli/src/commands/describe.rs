@@ -22,18 +22,13 @@ struct Read {
 
 /// What a file looks like: a job by its first count, the others by how many of their sections' counts are right.
 fn kind_of(words: &[u32], job: Option<&[u32]>) -> Option<Slice> {
-    if words
-        .first()
-        .is_some_and(|&count| count as usize == labrador::section_one::COUNT)
-    {
+    if words.first().is_some_and(|&count| count as usize == labrador::section_one::COUNT) {
         return Some(Slice::Job);
     }
     let job = job?;
     let right = |slice: Slice| {
         let sections = expected(slice, job, usize::MAX);
-        let counts = sections
-            .iter()
-            .take_while(|s| count_at(words, s) == Some(s.section.count()));
+        let counts = sections.iter().take_while(|s| count_at(words, s) == Some(s.section.count()));
         let whole = sections.last().is_some_and(|s| s.end() == words.len() as u64);
         (whole, counts.count())
     };
@@ -51,10 +46,7 @@ fn parameters(one: &SectionOne) -> String {
     let mut out = "parameters\n".to_string();
     for (p, word) in PARAMETERS.iter().zip(one.parameters.words()) {
         let name = p.name;
-        out += &format!(
-            "  {name:<14} {word:<30} {} ({} to {})\n",
-            p.meaning, p.least, p.greatest
-        );
+        out += &format!("  {name:<14} {word:<30} {} ({} to {})\n", p.meaning, p.least, p.greatest);
     }
     for (bound, value) in BOUNDS.iter().zip(one.bounds) {
         let value = value.to_string();
@@ -78,11 +70,7 @@ fn sections(words: &[u32], sections: &[Placed]) -> String {
             Some(_) => String::new(),
         };
         broken = broken || !mark.is_empty();
-        out += &format!(
-            "  {name:<11} from word {:<9} {count:>9} words  {}{mark}\n",
-            s.begin(),
-            s.section.meaning
-        );
+        out += &format!("  {name:<11} from word {:<9} {count:>9} words  {}{mark}\n", s.begin(), s.section.meaning);
     }
     out
 }
@@ -113,11 +101,7 @@ fn describe(file: &Read, job: Option<&[u32]>) -> (String, Option<Refusal>) {
         let unknown = format!("{shown}: {length} words, of no kind that is known without its job\n");
         return (unknown + &plain_sections(words), None);
     };
-    let job = if kind == Slice::Job {
-        words
-    } else {
-        job.unwrap_or_default()
-    };
+    let job = if kind == Slice::Job { words } else { job.unwrap_or_default() };
     let refusal = match judge::refusal(Slice::Job, job, job) {
         Some(refusal) => Some(refusal),
         None => judge::refusal(kind, job, words),
@@ -172,16 +156,10 @@ pub fn run(command: &Command, args: &Args) -> Outcome {
     for path in &args.rest {
         let path = PathBuf::from(path);
         let words = read(&path, most)?;
-        files.push(Read {
-            path,
-            words,
-            kind: forced,
-        });
+        files.push(Read { path, words, kind: forced });
     }
     let named = args.file("--job").map(named_job).transpose()?;
-    let among = files
-        .iter()
-        .find(|f| f.kind.or(kind_of(&f.words.words, None)) == Some(Slice::Job));
+    let among = files.iter().find(|f| f.kind.or(kind_of(&f.words.words, None)) == Some(Slice::Job));
     let job: Option<Vec<u32>> = named.or(among.map(|file| file.words.words.clone()));
     for file in &mut files {
         file.kind = file.kind.or(kind_of(&file.words.words, job.as_deref()));
@@ -194,7 +172,5 @@ pub fn run(command: &Command, args: &Args) -> Outcome {
         first = first.or(refusal.map(|refusal| format!("{}: {refusal}", file.path.display())));
     }
     let status = if first.is_some() { Status::Unfit } else { Status::Fine };
-    Ok(End::new(status, first.unwrap_or_default())
-        .printing(out)
-        .with(vec![("files", Json::List(list))]))
+    Ok(End::new(status, first.unwrap_or_default()).printing(out).with(vec![("files", Json::List(list))]))
 }

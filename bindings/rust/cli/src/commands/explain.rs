@@ -43,15 +43,11 @@ pub fn run(command: &Command, args: &Args) -> Outcome {
     let shown = number.to_string_lossy();
     if shown.parse() == Ok(0u32) {
         let out = "0: accepted, or made: nothing is refused and every check passed\n".to_string();
-        return Ok(End::new(Status::Fine, "")
-            .printing(out)
-            .with(vec![("number", Json::Number(0))]));
+        return Ok(End::new(Status::Fine, "").printing(out).with(vec![("number", Json::Number(0))]));
     }
     match shown.parse().ok().and_then(meaning) {
         Some(m) => Ok(End::new(Status::Fine, "").printing(told(m)).with(fields(m))),
-        None => Err(usage(format!(
-            "no answer has the number {shown}; labrador explain lists them"
-        ))),
+        None => Err(usage(format!("no answer has the number {shown}; labrador explain lists them"))),
     }
 }
 
@@ -59,7 +55,5 @@ fn all() -> Outcome {
     let line = |m: &Meaning| format!("{:<10} {}\n", m.title(), m.short);
     let rows = MEANINGS.iter().map(|m| Json::Object(fields(m))).collect();
     let out = MEANINGS.iter().map(line).collect();
-    Ok(End::new(Status::Fine, "")
-        .printing(out)
-        .with(vec![("numbers", Json::List(rows))]))
+    Ok(End::new(Status::Fine, "").printing(out).with(vec![("numbers", Json::List(rows))]))
 }

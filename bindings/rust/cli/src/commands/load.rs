@@ -17,10 +17,7 @@ use crate::output::{self, Output};
 pub fn parameters_help() -> String {
     let mut out = "\nParameters, with the value of one that is not given:\n".to_string();
     for (parameter, value) in PARAMETERS.iter().zip(Parameters::SMALL.words()) {
-        let (given, limits) = (
-            format!("{}={value}", parameter.name),
-            (parameter.least, parameter.greatest),
-        );
+        let (given, limits) = (format!("{}={value}", parameter.name), (parameter.least, parameter.greatest));
         out += &format!("  {given:<20} {} ({} to {})\n", parameter.meaning, limits.0, limits.1);
     }
     out
@@ -28,9 +25,7 @@ pub fn parameters_help() -> String {
 
 fn number(text: &OsStr, what: &str) -> Result<u32, End> {
     let shown = text.to_string_lossy();
-    shown
-        .parse()
-        .map_err(|_| usage(format!("{what} is a number from 0 to 4294967295, not {shown}")))
+    shown.parse().map_err(|_| usage(format!("{what} is a number from 0 to 4294967295, not {shown}")))
 }
 
 /// The parameters of `NAME=VALUE` arguments.
@@ -39,14 +34,10 @@ fn parameters(args: &Args) -> Result<Parameters, End> {
     for argument in &args.rest {
         let shown = argument.to_string_lossy();
         let Some((name, value)) = shown.split_once('=') else {
-            return Err(usage(format!(
-                "{shown} is not NAME=VALUE; labrador load --help has the names"
-            )));
+            return Err(usage(format!("{shown} is not NAME=VALUE; labrador load --help has the names")));
         };
         let Some(k) = PARAMETERS.iter().position(|p| p.name == name) else {
-            return Err(usage(format!(
-                "there is no parameter {name}; labrador load --help has the names"
-            )));
+            return Err(usage(format!("there is no parameter {name}; labrador load --help has the names")));
         };
         words[k] = number(OsStr::new(value), name)?;
     }
@@ -64,16 +55,9 @@ pub fn run(command: &Command, args: &Args) -> Outcome {
     output::admit(&outputs, &[], force)?;
     let load = load(&parameters, seed).map_err(|refusal| unfit(refusal.to_string()))?;
     let lengths = [&load.job, &load.witness, &load.randomness].map(|words| words.len() as u64);
-    let file = |path, words: &[u32], secret| Output {
-        path,
-        secret,
-        bytes: bytes_of(words),
-    };
-    let files = [
-        file(job, &load.job, false),
-        file(witness, &load.witness, true),
-        file(randomness, &load.randomness, false),
-    ];
+    let file = |path, words: &[u32], secret| Output { path, secret, bytes: bytes_of(words) };
+    let files =
+        [file(job, &load.job, false), file(witness, &load.witness, true), file(randomness, &load.randomness, false)];
     output::write(&files, force)?;
     let [job, witness, randomness] = lengths;
     let line = format!("made a job of {job} words, a witness of {witness} and randomness of {randomness}");

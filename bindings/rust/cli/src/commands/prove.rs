@@ -18,11 +18,7 @@ fn in_rounds(progress: &Progress, job: &[u32], randomness: &[u32], witness: &[u3
     for r in Round::ALL {
         progress.step(format!("proving, round {} of 5: {}", r.number(), r.makes()));
         // the last round takes the whole randomness, so that what is wrong behind its sections is told
-        let handed = if r == Round::Five {
-            randomness
-        } else {
-            r.randomness(randomness)
-        };
+        let handed = if r == Round::Five { randomness } else { r.randomness(randomness) };
         transcript.extend(round(r, job, handed, witness)?);
     }
     Ok(transcript)
@@ -49,17 +45,10 @@ pub fn run(command: &Command, args: &Args) -> Outcome {
     };
     let words = made.map_err(|refusal| {
         let place = Json::Number(refusal.place());
-        unfit(refusal.to_string()).with(vec![
-            ("number", Json::Number(refusal.number().into())),
-            ("place", place),
-        ])
+        unfit(refusal.to_string()).with(vec![("number", Json::Number(refusal.number().into())), ("place", place)])
     })?;
     progress.step("writing the transcript");
-    let file = Output {
-        path: transcript,
-        secret: false,
-        bytes: bytes_of(&words),
-    };
+    let file = Output { path: transcript, secret: false, bytes: bytes_of(&words) };
     output::write(&[file], force)?;
     drop(progress);
     let length = words.len() as u64;

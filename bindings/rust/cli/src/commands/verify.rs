@@ -3,7 +3,7 @@
 use std::path::Path;
 
 use labrador::review::review;
-use labrador::{verify, FailedCheck, Refusal, Slice, Verdict};
+use labrador::{verify, FailedCheck, Refusal, Verdict};
 
 use crate::args::Args;
 use crate::end::{End, Outcome, Status};
@@ -11,7 +11,7 @@ use crate::files::read_slice;
 use crate::help::Command;
 use crate::json::Json;
 use crate::output::{self, Output};
-use crate::page::{page, Report};
+use crate::page::{page, Report, SLICES};
 use crate::progress::Progress;
 
 /// The figures of a failed check.
@@ -40,11 +40,7 @@ fn place_of(refusal: &Refusal) -> Vec<(&'static str, Json)> {
 
 fn end_of(verdict: &Verdict) -> End {
     let (status, kind, more) = match verdict {
-        Verdict::Accepted { cells_left } => (
-            Status::Fine,
-            "accepted",
-            vec![("cells_left", Json::Number(*cells_left))],
-        ),
+        Verdict::Accepted { cells_left } => (Status::Fine, "accepted", vec![("cells_left", Json::Number(*cells_left))]),
         Verdict::Failed(check) => (Status::Failed, "failed", figures(check)),
         Verdict::Refused(refusal) => (Status::Unfit, "refused", place_of(refusal)),
     };
@@ -53,45 +49,39 @@ fn end_of(verdict: &Verdict) -> End {
     End::new(status, verdict.to_string()).with(told).with(more)
 }
 
+/// Writes the page; where it fails, the verdict is told with it.
+fn write_page(path: &Path, page: String, force: bool, end: &End) -> Result<(), End> {
+    let file = Output { path: path.to_path_buf(), secret: false, bytes: page.into_bytes() };
+    output::write(&[file], force).map_err(|failed| {
+        let line = format!("{}, but the page was not written: {}", end.line, failed.line);
+        End::new(Status::FileSystem, line).with(end.fields.clone())
+    })
+}
+
 pub fn run(command: &Command, args: &Args) -> Outcome {
     args.no_rest(command)?;
     let [job, randomness, transcript] =
         ["--job", "--randomness", "--transcript"].map(|name| args.needed(command, name));
     let names = [job?, randomness?, transcript?];
-    let [job, randomness, transcript] = [&names[0], &names[1], &names[2]].map(|path| path.as_path());
+    let names = [0, 1, 2].map(|k: usize| names[k].as_path());
     let (report, force) = (args.file("--report"), args.flag("--force"));
     let outputs: Vec<&Path> = report.into_iter().collect();
-    output::admit(&outputs, &[job, randomness, transcript], force)?;
+    output::admit(&outputs, &names, force)?;
     let progress = Progress::start();
     progress.step("reading the job, the randomness and the transcript");
-    let slices = [
-        read_slice(Slice::Job, job)?.words,
-        read_slice(Slice::Randomness, randomness)?.words,
-        read_slice(Slice::Transcript, transcript)?.words,
-    ];
+    let [job, randomness, transcript] = [0, 1, 2].map(|k: usize| read_slice(SLICES[k], names[k]));
+    let (job, randomness, transcript) = (job?.words, randomness?.words, transcript?.words);
     progress.step("verifying: the slices, then the checks 21 to 29");
-    let verdict = verify(&slices[0], &slices[1], &slices[2]);
+    let verdict = verify(&job, &randomness, &transcript);
     progress.step("reviewing the job");
-    let findings = review(&slices[0]).unwrap_or_default();
+    let findings = review(&job).unwrap_or_default();
     let told = findings.iter().map(Json::text).collect();
     let end = end_of(&verdict).with(vec![("findings", Json::List(told))]);
     if let Some(path) = report {
         progress.step("writing the page");
-        let page = page(&Report {
-            names: [job, randomness, transcript],
-            slices: [&slices[0], &slices[1], &slices[2]],
-            verdict: &verdict,
-            findings: &findings,
-        });
-        let file = Output {
-            path: path.to_path_buf(),
-            secret: false,
-            bytes: page.into_bytes(),
-        };
-        output::write(&[file], force).map_err(|failed| {
-            let line = format!("{}, but the page was not written: {}", end.line, failed.line);
-            End::new(Status::FileSystem, line).with(end.fields.clone())
-        })?;
+        let slices: [&[u32]; 3] = [&job, &randomness, &transcript];
+        let page = page(&Report { names, slices, verdict: &verdict, findings: &findings });
+        write_page(path, page, force, &end)?;
     }
     Ok(end)
 }

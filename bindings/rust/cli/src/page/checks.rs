@@ -19,11 +19,7 @@ fn mark(report: &Report, k: usize) -> (&'static str, &'static str) {
 
 fn row(report: &Report, k: usize, check: &Check) -> Row {
     let (class, text) = mark(report, k);
-    let condition = if check.condition {
-        " <strong>(condition)</strong>"
-    } else {
-        ""
-    };
+    let condition = if check.condition { " <strong>(condition)</strong>" } else { "" };
     Row {
         class,
         cells: vec![

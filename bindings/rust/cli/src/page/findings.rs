@@ -13,10 +13,7 @@ pub fn list(report: &Report) -> String {
         }
         [] => "<p>Nothing was found.</p>\n".to_string(),
         all => {
-            let items = all
-                .iter()
-                .take(SHOWN)
-                .map(|f| format!("<li>{}</li>\n", escape(&f.to_string())));
+            let items = all.iter().take(SHOWN).map(|f| format!("<li>{}</li>\n", escape(&f.to_string())));
             let more = match all.len().saturating_sub(SHOWN) {
                 0 => String::new(),
                 more => format!("<li>and {more} more: labrador review lists them all</li>\n"),

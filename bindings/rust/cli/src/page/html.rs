@@ -31,10 +31,7 @@ pub fn pair(left: &str, right: &str) -> String {
 /// A table with its caption and the heads of its columns; the first cell of a row is its head. Cells are HTML.
 pub fn table(class: &str, caption: &str, heads: &[&str], rows: &[Row]) -> String {
     let caption = escape(caption);
-    let heads: String = heads
-        .iter()
-        .map(|h| format!("<th scope=\"col\">{}</th>", escape(h)))
-        .collect();
+    let heads: String = heads.iter().map(|h| format!("<th scope=\"col\">{}</th>", escape(h))).collect();
     let rows: String = rows.iter().map(Row::html).collect();
     format!(
         "<table class=\"{class}\">\n<caption>{caption}</caption>\n<thead><tr>{heads}</tr></thead>\n\
@@ -52,10 +49,7 @@ pub struct Row {
 impl Row {
     fn html(&self) -> String {
         let mut cells = self.cells.iter();
-        let head = cells
-            .next()
-            .map(|c| format!("<th scope=\"row\">{c}</th>"))
-            .unwrap_or_default();
+        let head = cells.next().map(|c| format!("<th scope=\"row\">{c}</th>")).unwrap_or_default();
         let rest: String = cells.map(|c| format!("<td>{c}</td>")).collect();
         format!("<tr class=\"{}\">{head}{rest}</tr>\n", self.class)
     }

@@ -49,10 +49,7 @@ pub fn header(report: &Report) -> String {
         Verdict::Refused(_) => ("refused", "✗"),
     };
     let heading = escape(&title(report.verdict));
-    let told: String = sentences(report)
-        .iter()
-        .map(|s| format!("<p>{}</p>\n", escape(&sentence(s))))
-        .collect();
+    let told: String = sentences(report).iter().map(|s| format!("<p>{}</p>\n", escape(&sentence(s)))).collect();
     let files: Vec<String> = SLICES.iter().zip(report.names).zip(report.slices).map(file).collect();
     format!(
         "<header class=\"{class}\">\n<h1><span aria-hidden=\"true\">{mark}</span> {heading}</h1>\n{told}<p>{}</p>\n</header>\n",
@@ -75,7 +72,8 @@ fn sentence(text: &str) -> String {
 pub fn footer() -> String {
     "<footer>\n<p>The verdict is the answer of the proved call labrador_verify, and the norms are taken of the transcript's words \
      by the proved calls labrador_rq_norm and labrador_rq_digits. The layout of this page, its sentences and the review of the \
-     job are made by a program that is not proved. Rows, vectors, cells, elements, coefficients and words count from 0. \
+     job are made by a program that is not proved. The randomness is taken as it was handed in: a verdict forces nothing \
+     where the sender could choose it. Rows, vectors, cells, elements, coefficients and words count from 0. \
      Q is 4294967295.</p>\n</footer>\n"
         .to_string()
 }

@@ -13,11 +13,7 @@ fn reading(file: &str) -> Vec<String> {
         ["job", "randomness", "transcript"].map(|name| VERIFY.replace(&format!(" {name}"), &format!(" {file}")));
     let prove = ["job", "randomness", "witness"].map(|name| PROVE.replace(&format!(" {name}"), &format!(" {file}")));
     let prove = prove.map(|call| format!("{call} --transcript made"));
-    let others = [
-        format!("review {file}"),
-        format!("describe {file}"),
-        format!("describe --job {file} transcript"),
-    ];
+    let others = [format!("review {file}"), format!("describe {file}"), format!("describe --job {file} transcript")];
     [verify, prove, others].concat()
 }
 
@@ -25,10 +21,7 @@ fn reading(file: &str) -> Vec<String> {
 fn a_missing_file_and_a_folder_are_3() {
     let desk = Desk::with("no_files", &with_answer(0));
     fs::create_dir(desk.path("folder")).unwrap();
-    for (file, told) in [
-        ("nothing", "labrador: nothing: No such file"),
-        ("folder", "labrador: folder is a folder"),
-    ] {
+    for (file, told) in [("nothing", "labrador: nothing: No such file"), ("folder", "labrador: folder is a folder")] {
         for call in reading(file) {
             let ran = run(&desk, &call);
             assert_eq!(ran.status, 3, "{call}");
@@ -52,10 +45,7 @@ fn an_odd_number_of_bytes_is_2() {
 fn an_empty_file_is_refused_at_its_start() {
     let desk = Desk::with("empty", &with_answer(0));
     fs::write(desk.path("empty"), []).unwrap();
-    for call in reading("empty")
-        .iter()
-        .filter(|call| !call.starts_with("describe empty"))
-    {
+    for call in reading("empty").iter().filter(|call| !call.starts_with("describe empty")) {
         let ran = run(&desk, call);
         assert_eq!(ran.status, 2, "{call}");
         assert!(ran.line.contains("ends after 0 words"), "{call}: {}", ran.line);
@@ -74,16 +64,13 @@ fn a_file_longer_than_memory_is_refused() {
             println!("not tried: the file system has no files of a tebibyte");
             return;
         }
-        let call = if name == "witness" {
-            format!("{PROVE} --transcript made")
-        } else {
-            VERIFY.to_string()
-        };
+        let call = if name == "witness" { format!("{PROVE} --transcript made") } else { VERIFY.to_string() };
         let refused = run(&desk, &call);
         assert_eq!(refused.status, 2);
         let told = format!("the {name} goes on at word {}, behind its last section", length / 4);
         assert!(refused.line.contains(&told), "{}", refused.line);
-        let described = run(&desk, &format!("describe --job job {name}"));
+        let job = if name == "job" { "" } else { "--job job " };
+        let described = run(&desk, &format!("describe {job}{name}"));
         assert_eq!(described.status, 2);
         assert!(described.out.contains("274877906944 words"), "{}", described.out);
         file.set_len(length).unwrap();
@@ -96,9 +83,7 @@ fn an_endless_file_is_refused() {
     for name in ["job", "randomness", "transcript"] {
         let refused = run(&desk, &VERIFY.replace(&format!(" {name}"), " /dev/zero"));
         assert_eq!(refused.status, 2, "{}", refused.line);
-        assert!(refused
-            .line
-            .contains(&format!("the {name}'s word 0 is 0, and the count of section")));
+        assert!(refused.line.contains(&format!("the {name}'s word 0 is 0, and the count of section")));
     }
 }
 
@@ -126,11 +111,7 @@ fn describe_says_first_what_is_wrong() {
     let told = run(&desk, "describe job");
     assert_eq!(told.status, 2);
     let lines: Vec<&str> = told.out.lines().collect();
-    assert!(
-        lines[1].starts_with("wrong: refusal 6: the job's word "),
-        "{}",
-        lines[1]
-    );
+    assert!(lines[1].starts_with("wrong: refusal 6: the job's word "), "{}", lines[1]);
     assert!(lines[2..].contains(&"parameters") && lines[2..].contains(&"sections"));
     let desk = Desk::with("wrong_count", &with_answer(9));
     let told = run(&desk, "describe job randomness witness --as transcript transcript");
@@ -150,11 +131,7 @@ fn describe_knows_the_files_of_a_job() {
         assert!(told.out.contains(&format!("{name}: {name}, ")), "{}", told.out);
     }
     let alone = run(&desk, "describe transcript");
-    assert!(
-        alone.out.contains("of no kind that is known without its job"),
-        "{}",
-        alone.out
-    );
+    assert!(alone.out.contains("of no kind that is known without its job"), "{}", alone.out);
     assert!(alone.out.contains("section 8 "), "{}", alone.out);
     assert!(run(&desk, "describe job --json").out.contains("\"kind\":\"job\""));
 }
@@ -164,24 +141,12 @@ fn describe_knows_the_files_of_a_job() {
 fn a_closed_reader_is_no_crash() {
     let desk = Desk::with("closed", &with_answer(0));
     let full = fs::OpenOptions::new().write(true).open("/dev/full").unwrap();
-    let output = Command::new(BINARY)
-        .args(["describe", "job"])
-        .current_dir(&desk.folder)
-        .stdout(full)
-        .output()
-        .unwrap();
+    let output =
+        Command::new(BINARY).args(["describe", "job"]).current_dir(&desk.folder).stdout(full).output().unwrap();
     let told = ran(output);
     assert_eq!(told.status, 3);
-    assert!(
-        told.line.starts_with("labrador: standard output: No space left"),
-        "{}",
-        told.line
-    );
+    assert!(told.line.starts_with("labrador: standard output: No space left"), "{}", told.line);
     let script = format!("{BINARY} describe job | true; {BINARY} explain 1 >&-; exit 0");
-    let output = Command::new("sh")
-        .args(["-c", &script])
-        .current_dir(&desk.folder)
-        .output()
-        .unwrap();
+    let output = Command::new("sh").args(["-c", &script]).current_dir(&desk.folder).output().unwrap();
     assert!(!ran(output).line.contains("panicked"));
 }

@@ -39,10 +39,7 @@ impl Desk {
 
     pub fn words(&self, name: &str) -> Vec<u32> {
         let bytes = fs::read(self.path(name)).expect("a file of words");
-        bytes
-            .chunks_exact(4)
-            .map(|four| u32::from_le_bytes(four.try_into().unwrap()))
-            .collect()
+        bytes.chunks_exact(4).map(|four| u32::from_le_bytes(four.try_into().unwrap())).collect()
     }
 
     /// The files that stand in the folder, hidden ones too.

@@ -37,10 +37,7 @@ fn nothing_is_overwritten_unless_asked() {
     assert_eq!(desk.words("transcript"), before);
     desk.put("witness", &with_answer(0).witness);
     desk.put("transcript", &[1]);
-    assert_eq!(
-        run(&desk, &format!("{PROVE} --transcript transcript --force")).status,
-        0
-    );
+    assert_eq!(run(&desk, &format!("{PROVE} --transcript transcript --force")).status, 0);
     assert_eq!(desk.words("transcript"), before);
     assert_eq!(run(&desk, &format!("{VERIFY} --report job")).status, 64);
 }
@@ -76,23 +73,14 @@ fn no_room_on_the_disk_leaves_nothing() {
     let shell = |call: String| {
         // files of at most four blocks, and no signal for it
         let script = format!("trap '' XFSZ; ulimit -f 4; exec {BINARY} {call}");
-        ran(Command::new("sh")
-            .args(["-c", &script])
-            .current_dir(&desk.folder)
-            .output()
-            .unwrap())
+        ran(Command::new("sh").args(["-c", &script]).current_dir(&desk.folder).output().unwrap())
     };
     let told = shell(format!("{PROVE} --transcript made"));
     assert_eq!(told.status, 3);
     assert!(told.line.starts_with("labrador: made: File too large"), "{}", told.line);
     let told = shell(format!("{VERIFY} --report page.html"));
     assert_eq!(told.status, 3);
-    assert!(
-        told.line
-            .starts_with("labrador: accepted, but the page was not written: "),
-        "{}",
-        told.line
-    );
+    assert!(told.line.starts_with("labrador: accepted, but the page was not written: "), "{}", told.line);
     let told = shell("load --job a --witness b --randomness c".to_string());
     assert_eq!(told.status, 3);
     assert_eq!(desk.names(), ["job", "randomness", "transcript", "witness"]);

@@ -38,11 +38,7 @@ fn each_failed_check_is_marked_as_far_as_the_verifier_came() {
     for (k, number) in order.into_iter().enumerate() {
         let page = page_of(&desk_of("page", number));
         assert_eq!(marks(&page), [1 + k, 1, 11 - k], "{number}");
-        let kind = if number > 20 {
-            format!("check {number} failed")
-        } else {
-            format!("refusal {number}")
-        };
+        let kind = if number > 20 { format!("check {number} failed") } else { format!("refusal {number}") };
         assert!(page.contains(&kind), "{number}");
         assert_eq!(
             page.matches("above the limit").count(),
@@ -62,10 +58,7 @@ fn a_refusal_has_its_place_with_the_words_around_it() {
         assert!(page.contains("Not taken: the slices were refused."));
     }
     let page = page_of(&desk_of("page", 6));
-    assert!(
-        page.contains("section phi&#39;, constraint 0, vector 0, element 0, coefficient 16"),
-        "{page}"
-    );
+    assert!(page.contains("section phi&#39;, constraint 0, vector 0, element 0, coefficient 16"), "{page}");
     let page = page_of(&desk_of("page", 3));
     assert!(page.contains("(the file ends) ← here"));
 }
@@ -77,14 +70,7 @@ fn a_page_stands_alone_and_repeats() {
     for other in ["<script", "http:", "https:", "src=", "href=", "url(", "@import"] {
         assert!(!page.contains(other), "{other}");
     }
-    for part in [
-        "<html lang=\"en\">",
-        "<main>",
-        "<h1>",
-        "<caption>",
-        "<th scope=\"row\">",
-        "<th scope=\"col\">",
-    ] {
+    for part in ["<html lang=\"en\">", "<main>", "<h1>", "<caption>", "<th scope=\"row\">", "<th scope=\"col\">"] {
         assert!(page.contains(part), "{part}");
     }
     assert_eq!(page, page_of(&desk));

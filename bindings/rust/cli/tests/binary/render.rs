@@ -18,33 +18,17 @@ fn chromium() -> Option<&'static str> {
 
 fn rendered(browser: &str, desk: &Desk, arguments: &[&str], page: &Path) -> Vec<u8> {
     let mut command = Command::new(browser);
-    command.args([
-        "--headless",
-        "--no-sandbox",
-        "--disable-gpu",
-        "--no-first-run",
-        "--hide-scrollbars",
-    ]);
+    command.args(["--headless", "--no-sandbox", "--disable-gpu", "--no-first-run", "--hide-scrollbars"]);
     command.arg(format!("--user-data-dir={}", desk.path("browser").display()));
     command.args(arguments).arg(format!("file://{}", page.display()));
-    command
-        .stdin(Stdio::null())
-        .stderr(Stdio::null())
-        .output()
-        .expect("Chromium runs")
-        .stdout
+    command.stdin(Stdio::null()).stderr(Stdio::null()).output().expect("Chromium runs").stdout
 }
 
 /// The printed pages of a page.
 fn printed_pages(browser: &str, desk: &Desk) -> usize {
     let pdf = desk.path("page.pdf");
     let print = format!("--print-to-pdf={}", pdf.display());
-    rendered(
-        browser,
-        desk,
-        &["--no-pdf-header-footer", &print],
-        &desk.path("page.html"),
-    );
+    rendered(browser, desk, &["--no-pdf-header-footer", &print], &desk.path("page.html"));
     let bytes = fs::read(pdf).expect("a printed page");
     let text = String::from_utf8_lossy(&bytes);
     text.matches("/Type /Page\n").count() + text.matches("/Type /Page ").count()
@@ -59,17 +43,10 @@ fn width_in(browser: &str, desk: &Desk, width: usize) -> usize {
         "<iframe id=f width={width} height=900 style=\"border:0\" srcdoc=\"{quoted}\" onload=\"{measure}\"></iframe>"
     );
     let path = desk.path("frame.html");
-    fs::write(
-        &path,
-        format!("<!DOCTYPE html><meta charset=utf-8><title></title>{frame}"),
-    )
-    .expect("the frame");
+    fs::write(&path, format!("<!DOCTYPE html><meta charset=utf-8><title></title>{frame}")).expect("the frame");
     let dom = String::from_utf8_lossy(&rendered(browser, desk, &["--dump-dom"], &path)).into_owned();
     let (_, rest) = dom.split_once("<title>width ").expect("a measured width");
-    rest.split('<')
-        .next()
-        .and_then(|number| number.parse().ok())
-        .expect("a number")
+    rest.split('<').next().and_then(|number| number.parse().ok()).expect("a number")
 }
 
 #[test]

@@ -24,10 +24,7 @@ pub fn ran(output: Output) -> Ran {
 /// Runs the binary in a desk's folder with arguments parted by spaces.
 pub fn run(desk: &Desk, arguments: &str) -> Ran {
     let mut command = Command::new(BINARY);
-    command
-        .args(arguments.split(' ').filter(|a| !a.is_empty()))
-        .current_dir(&desk.folder)
-        .stdin(Stdio::null());
+    command.args(arguments.split(' ').filter(|a| !a.is_empty())).current_dir(&desk.folder).stdin(Stdio::null());
     ran(command.output().expect("the binary runs"))
 }
 

@@ -40,11 +40,7 @@ fn each_verdict_has_its_status_and_line() {
         assert_eq!(verdict.out, "");
         let json = run(&desk, &format!("{VERIFY} --json"));
         assert_eq!((json.status, &json.line), (status, &verdict.line));
-        assert!(
-            json.out.starts_with(&format!("{{\"status\":{status},\"says\":\"")),
-            "{}",
-            json.out
-        );
+        assert!(json.out.starts_with(&format!("{{\"status\":{status},\"says\":\"")), "{}", json.out);
         assert!(json.out.contains(&format!("\"number\":{number},")), "{}", json.out);
     }
 }
@@ -57,13 +53,7 @@ fn a_refused_proof_makes_no_file() {
     for rounds in ["", " --rounds"] {
         let proved = run(&desk, &format!("{PROVE} --transcript made{rounds}"));
         assert_eq!(proved.status, 2);
-        assert!(
-            proved
-                .line
-                .starts_with("labrador: refusal 12: the witness's word 5 is 4294967295"),
-            "{}",
-            proved.line
-        );
+        assert!(proved.line.starts_with("labrador: refusal 12: the witness's word 5 is 4294967295"), "{}", proved.line);
     }
     assert_eq!(desk.names(), ["job", "randomness", "transcript", "witness"]);
 }
@@ -82,10 +72,7 @@ fn reviews_have_their_status() {
     }
     desk.put("job", &job);
     let sound = run(&desk, "review job");
-    assert_eq!(
-        (sound.status, sound.out.as_str(), sound.line.as_str()),
-        (0, "", "labrador: nothing was found\n")
-    );
+    assert_eq!((sound.status, sound.out.as_str(), sound.line.as_str()), (0, "", "labrador: nothing was found\n"));
     desk.put("job", &job[..20]);
     assert_eq!(run(&desk, "review job").status, 2);
 }
@@ -154,11 +141,7 @@ fn every_command_has_help_with_an_example() {
         for call in [format!("{command} --help"), format!("help {command}")] {
             let help = run(&desk, &call);
             assert_eq!((help.status, help.line.as_str()), (0, ""));
-            assert!(
-                help.out.contains(&format!("Example:\n  labrador {command} ")),
-                "{}",
-                help.out
-            );
+            assert!(help.out.contains(&format!("Example:\n  labrador {command} ")), "{}", help.out);
         }
     }
     assert_eq!(run(&desk, "--help").out, run(&desk, "help").out);

@@ -11,11 +11,7 @@ use crate::run::{run, BINARY, PROVE};
 #[test]
 fn a_slow_proof_says_its_rounds_on_a_terminal() {
     let desk = Desk::with("terminal", &with_answer(0));
-    let found = Command::new("script")
-        .arg("--version")
-        .stdout(Stdio::null())
-        .stderr(Stdio::null())
-        .status();
+    let found = Command::new("script").arg("--version").stdout(Stdio::null()).stderr(Stdio::null()).status();
     if found.is_err() {
         println!("not tried: script, which makes a terminal, is not at hand");
         return;
@@ -29,14 +25,8 @@ fn a_slow_proof_says_its_rounds_on_a_terminal() {
         String::from_utf8_lossy(&[output.stdout, output.stderr].concat()).into_owned()
     };
     let on_terminal = slow(Command::new("script").args(["-qec", &shell, "/dev/null"]));
-    assert!(
-        on_terminal.contains("labrador: reading the job, the randomness and the witness…"),
-        "{on_terminal}"
-    );
-    assert!(
-        on_terminal.contains("labrador: proving, round 5 of 5: z, t, g, h…"),
-        "{on_terminal}"
-    );
+    assert!(on_terminal.contains("labrador: reading the job, the randomness and the witness…"), "{on_terminal}");
+    assert!(on_terminal.contains("labrador: proving, round 5 of 5: z, t, g, h…"), "{on_terminal}");
     assert!(on_terminal.contains("labrador: made a transcript of "), "{on_terminal}");
     let elsewhere = slow(Command::new("sh").args(["-c", &shell]));
     assert_eq!(elsewhere.lines().count(), 1, "{elsewhere}");
