@@ -20,27 +20,6 @@ struct Read {
     kind: Option<Slice>,
 }
 
-/// What a file looks like: a job by its first count, the others by how many of their sections' counts are right.
-fn kind_of(words: &[u32], job: Option<&[u32]>) -> Option<Slice> {
-    if words.first().is_some_and(|&count| count as usize == labrador::section_one::COUNT) {
-        return Some(Slice::Job);
-    }
-    let job = job?;
-    let right = |slice: Slice| {
-        let sections = expected(slice, job, usize::MAX);
-        let counts = sections.iter().take_while(|s| count_at(words, s) == Some(s.section.count()));
-        let whole = sections.last().is_some_and(|s| s.end() == words.len() as u64);
-        (whole, counts.count())
-    };
-    let others = [Slice::Randomness, Slice::Witness, Slice::Transcript];
-    let best = others.into_iter().max_by_key(|slice| right(*slice))?;
-    (right(best).1 > 0).then_some(best)
-}
-
-fn count_at(words: &[u32], section: &Placed) -> Option<u64> {
-    words.get(section.count_at as usize).map(|&count| count.into())
-}
-
 /// The parameters and bounds by name.
 fn parameters(one: &SectionOne) -> String {
     let mut out = "parameters\n".to_string();
@@ -61,7 +40,7 @@ fn sections(words: &[u32], sections: &[Placed]) -> String {
     let mut broken = false;
     for s in sections {
         let (name, count) = (s.section.name, s.section.count());
-        let found = count_at(words, s);
+        let found = judge::count_at(words, s);
         let mark = match found {
             _ if broken => " (not reached)".to_string(),
             None => " (missing)".to_string(),
@@ -159,10 +138,10 @@ pub fn run(command: &Command, args: &Args) -> Outcome {
         files.push(Read { path, words, kind: forced });
     }
     let named = args.file("--job").map(named_job).transpose()?;
-    let among = files.iter().find(|f| f.kind.or(kind_of(&f.words.words, None)) == Some(Slice::Job));
+    let among = files.iter().find(|f| f.kind.or(judge::kind_of(&f.words.words, None)) == Some(Slice::Job));
     let job: Option<Vec<u32>> = named.or(among.map(|file| file.words.words.clone()));
     for file in &mut files {
-        file.kind = file.kind.or(kind_of(&file.words.words, job.as_deref()));
+        file.kind = file.kind.or(judge::kind_of(&file.words.words, job.as_deref()));
     }
     let (mut out, mut list, mut first) = (String::new(), Vec::new(), None);
     for file in &files {

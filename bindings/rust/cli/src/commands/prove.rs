@@ -9,6 +9,7 @@ use crate::end::{unfit, End, Outcome, Status};
 use crate::files::{bytes_of, read_slice};
 use crate::help::Command;
 use crate::json::Json;
+use crate::judge;
 use crate::output::{self, Output};
 use crate::progress::Progress;
 
@@ -45,7 +46,9 @@ pub fn run(command: &Command, args: &Args) -> Outcome {
     };
     let words = made.map_err(|refusal| {
         let place = Json::Number(refusal.place());
-        unfit(refusal.to_string()).with(vec![("number", Json::Number(refusal.number().into())), ("place", place)])
+        let handed = [(Slice::Job, &job[..]), (Slice::Randomness, &randomness), (Slice::Witness, &witness)];
+        unfit(judge::told(&refusal, handed))
+            .with(vec![("number", Json::Number(refusal.number().into())), ("place", place)])
     })?;
     progress.step("writing the transcript");
     let file = Output { path: transcript, secret: false, bytes: bytes_of(&words) };

@@ -10,6 +10,7 @@ use crate::end::{End, Outcome, Status};
 use crate::files::read_slice;
 use crate::help::Command;
 use crate::json::Json;
+use crate::judge;
 use crate::output::{self, Output};
 use crate::page::{page, Report, SLICES};
 use crate::progress::Progress;
@@ -38,7 +39,7 @@ fn place_of(refusal: &Refusal) -> Vec<(&'static str, Json)> {
     fields
 }
 
-fn end_of(verdict: &Verdict) -> End {
+fn end_of(verdict: &Verdict, slices: [&[u32]; 3]) -> End {
     let (status, kind, more) = match verdict {
         Verdict::Accepted { cells_left } => (Status::Fine, "accepted", vec![("cells_left", Json::Number(*cells_left))]),
         Verdict::Failed(check) => (Status::Failed, "failed", figures(check)),
@@ -46,7 +47,11 @@ fn end_of(verdict: &Verdict) -> End {
     };
     let number = Json::Number(verdict.number().into());
     let told = vec![("verdict", Json::text(kind)), ("number", number)];
-    End::new(status, verdict.to_string()).with(told).with(more)
+    let line = match verdict {
+        Verdict::Refused(refusal) => judge::told(refusal, [0, 1, 2].map(|k| (SLICES[k], slices[k]))),
+        _ => verdict.to_string(),
+    };
+    End::new(status, line).with(told).with(more)
 }
 
 /// Writes the page; where it fails, the verdict is told with it.
@@ -76,10 +81,10 @@ pub fn run(command: &Command, args: &Args) -> Outcome {
     progress.step("reviewing the job");
     let findings = review(&job).unwrap_or_default();
     let told = findings.iter().map(Json::text).collect();
-    let end = end_of(&verdict).with(vec![("findings", Json::List(told))]);
+    let slices: [&[u32]; 3] = [&job, &randomness, &transcript];
+    let end = end_of(&verdict, slices).with(vec![("findings", Json::List(told))]);
     if let Some(path) = report {
         progress.step("writing the page");
-        let slices: [&[u32]; 3] = [&job, &randomness, &transcript];
         let page = page(&Report { names, slices, verdict: &verdict, findings: &findings });
         write_page(path, page, force, &end)?;
     }

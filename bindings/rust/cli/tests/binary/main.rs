@@ -7,6 +7,7 @@ mod bad_files;
 mod desk;
 mod outputs;
 mod pages;
+mod readme;
 mod render;
 mod run;
 mod statuses;

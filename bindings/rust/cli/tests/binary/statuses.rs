@@ -147,3 +147,13 @@ fn every_command_has_help_with_an_example() {
     assert_eq!(run(&desk, "--help").out, run(&desk, "help").out);
     assert_eq!(run(&desk, "--version").status, 0);
 }
+
+#[test]
+fn files_in_each_others_place_are_told() {
+    let desk = Desk::with("exchanged", &with_answer(0));
+    let verdict = run(&desk, "verify --job job --randomness transcript --transcript randomness");
+    assert_eq!(verdict.status, 2);
+    assert!(verdict.line.ends_with("; the file is fit as transcript\n"), "{}", verdict.line);
+    let proved = run(&desk, "prove --job job --randomness randomness --witness job --transcript made");
+    assert!(proved.line.ends_with("; the file is fit as job\n"), "{}", proved.line);
+}
