@@ -39,7 +39,7 @@ fn tests(report: &Report) -> String {
     let first = Row {
         class: slices.0,
         cells: vec![
-            "1–10".to_string(),
+            "3–10".to_string(),
             "the job, the randomness and the transcript have their layout and their words are in range".to_string(),
             format!("<span class=\"mark\">{}</span>", slices.1),
         ],
