@@ -71,7 +71,7 @@ pub fn projection_entry(projection_word: u32) -> Result<Zq, Refusal> {
     word(ffi::projection_entry(projection_word), &[projection_word])
 }
 
-/// The number of these digits, lowest first: the sum of digits[i]·base^i.
+/// The number of these digits, lowest first: the sum of `digits[i]`·base^i.
 pub fn recompose(base: u32, digits: &[u32]) -> Result<Zq, Refusal> {
     let count = u32::try_from(digits.len()).unwrap_or(u32::MAX);
     word(ffi::recompose(base, digits), &[&[base, count], digits].concat())

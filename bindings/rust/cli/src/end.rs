@@ -63,7 +63,7 @@ impl End {
         match printed {
             Ok(()) => ExitCode::from(self.status as u8),
             Err(error) => {
-                // a reader that has gone away is no fault to tell
+                // a closed reader is not reported
                 if error.kind() != io::ErrorKind::BrokenPipe {
                     complain(&format!("standard output: {error}"));
                 }

@@ -37,7 +37,7 @@ pub fn read(path: &Path, most: u64) -> Result<Words, End> {
     }
     file.take(4 * most).read_to_end(&mut bytes).map_err(failed)?;
     let length = whole.unwrap_or(0).max(bytes.len() as u64);
-    if length % 4 != 0 {
+    if length % 4 != 0 || bytes.len() % 4 != 0 {
         return Err(unfit(format!("{shown} has {length} bytes, which is no whole number of words (4 bytes each)")));
     }
     let word = |four: &[u8]| u32::from_le_bytes(four.try_into().expect("four bytes"));

@@ -10,7 +10,7 @@ use crate::end::{file_system, usage, End};
 /// A file to be made.
 pub struct Output {
     pub path: PathBuf,
-    /// For its owner's eyes alone.
+    /// Readable by its owner alone.
     pub secret: bool,
     pub bytes: Vec<u8>,
 }

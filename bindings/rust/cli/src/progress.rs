@@ -8,24 +8,24 @@ use std::time::{Duration, Instant};
 /// Says nothing where standard error is no terminal.
 pub struct Progress {
     steps: Option<Sender<String>>,
-    teller: Option<JoinHandle<()>>,
+    printer: Option<JoinHandle<()>>,
 }
 
-const PATIENCE: Duration = Duration::from_secs(1);
+const QUIET: Duration = Duration::from_secs(1);
 
 impl Progress {
     pub fn start() -> Progress {
         if !io::stderr().is_terminal() {
-            return Progress { steps: None, teller: None };
+            return Progress { steps: None, printer: None };
         }
-        let (steps, told) = channel();
+        let (steps, received) = channel();
         let begun = Instant::now();
-        Progress { steps: Some(steps), teller: Some(std::thread::spawn(move || tell(&told, begun))) }
+        Progress { steps: Some(steps), printer: Some(std::thread::spawn(move || print(&received, begun))) }
     }
 
     pub fn step(&self, what: impl Into<String>) {
         if let Some(steps) = &self.steps {
-            // the teller ends only after this sender
+            // the printer ends after this sender
             let _ = steps.send(what.into());
         }
     }
@@ -34,24 +34,24 @@ impl Progress {
 impl Drop for Progress {
     fn drop(&mut self) {
         self.steps = None;
-        if let Some(teller) = self.teller.take() {
-            let _ = teller.join();
+        if let Some(printer) = self.printer.take() {
+            let _ = printer.join();
         }
     }
 }
 
-/// Says the step that is being done when the patience ends, and each one after that.
-fn tell(told: &Receiver<String>, begun: Instant) {
+/// Prints the step that is being done after the quiet second, and each one that follows.
+fn print(steps: &Receiver<String>, begun: Instant) {
     let mut step: Option<String> = None;
     loop {
-        let left = PATIENCE.saturating_sub(begun.elapsed());
+        let left = QUIET.saturating_sub(begun.elapsed());
         if left.is_zero() {
             if let Some(what) = step.take() {
                 let _ = writeln!(io::stderr().lock(), "labrador: {what}…");
             }
         }
         let wait = if step.is_some() { left } else { Duration::from_secs(3600) };
-        match told.recv_timeout(wait) {
+        match steps.recv_timeout(wait) {
             Ok(what) => step = Some(what),
             Err(RecvTimeoutError::Timeout) => {}
             Err(RecvTimeoutError::Disconnected) => return,

@@ -38,7 +38,7 @@ pub enum Finding {
     Untouched { vector: u64 },
     /// A column of A that is zero.
     ZeroColumn { column: u64, at: u64 },
-    /// A limit at or above the greatest norm there is, so that its check or refusal never speaks.
+    /// A limit at or above the greatest norm there is, so that its check or refusal is never answered.
     Unreachable { number: u32, name: &'static str, limit: u128, greatest: u128, at: u64 },
     /// A row of a matrix that is zero.
     ZeroRow { matrix: &'static str, row: u64, at: u64 },
@@ -77,7 +77,7 @@ impl Finding {
             }
             Finding::Unreachable { number, name, limit, greatest, .. } => {
                 let title = meaning(*number).map_or_else(String::new, |m| m.title());
-                format!("{title} never speaks: no norm is above {greatest}, and {name} is {limit}")
+                format!("{title} is never answered: no norm is above {greatest}, and {name} is {limit}")
             }
             Finding::ZeroRow { matrix, row, .. } => format!("row {row} of {matrix} is zero"),
             Finding::RepeatedRow { matrix, row, of, .. } => format!("row {row} of {matrix} repeats row {of}"),

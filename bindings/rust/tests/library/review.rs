@@ -99,26 +99,26 @@ fn limits_that_no_norm_passes() {
     set_bound(&mut job, "beta_sq", projection.div_ceil(128) - 1);
     assert_eq!(findings(&job), Vec::<String>::new());
     set_bound(&mut job, "beta_sq", projection.div_ceil(128));
-    let never = format!("check 21 never speaks: no norm is above {projection}, and 128·beta_sq is ");
+    let never = format!("check 21 is never answered: no norm is above {projection}, and 128·beta_sq is ");
     assert!(findings(&job)[0].starts_with(&never));
     let mut job = sound();
     set_bound(&mut job, "bound_A", 2 * 64 * half_q * half_q);
     assert_eq!(review(&job).unwrap().len(), 1);
-    assert!(findings(&job)[0].starts_with("refusal 13 never speaks"));
+    assert!(findings(&job)[0].starts_with("refusal 13 is never answered"));
     // base 256, sizes up to 2^31 - 1: digits up to 128, 128, 128 and the last up to 128
     let cells = 4 * 128 * 128;
     let mut job = sound();
     set_bound(&mut job, "bound_C", 64 * 3 * cells - 1);
     assert_eq!(findings(&job), Vec::<String>::new());
     set_bound(&mut job, "bound_C", 64 * 3 * cells);
-    assert!(findings(&job)[0].starts_with("refusal 15 never speaks"));
+    assert!(findings(&job)[0].starts_with("refusal 15 is never answered"));
     let mut job = sound();
     let rest = 8388608;
     let all = 64 * (2 * (128 * 128 + rest * rest) + (2 * 4 + 3 + 3) * cells);
     set_bound(&mut job, "beta_prime_sq", all - 1);
     assert_eq!(findings(&job), Vec::<String>::new());
     set_bound(&mut job, "beta_prime_sq", all);
-    assert!(findings(&job)[0].starts_with("check 23 never speaks"));
+    assert!(findings(&job)[0].starts_with("check 23 is never answered"));
 }
 
 #[test]

@@ -133,7 +133,10 @@ fn describe_knows_the_files_of_a_job() {
     let alone = run(&desk, "describe transcript");
     assert!(alone.out.contains("of no kind that is known without its job"), "{}", alone.out);
     assert!(alone.out.contains("section 8 "), "{}", alone.out);
-    assert!(run(&desk, "describe job --json").out.contains("\"kind\":\"job\""));
+    let json = run(&desk, "describe job --json").out;
+    for part in ["\"kind\":\"job\"", "\"parameters\":{\"n\":4,", "{\"name\":\"a'\",\"from_word\":", "\"wrong\":null"] {
+        assert!(json.contains(part), "{json}");
+    }
 }
 
 #[cfg(unix)]

@@ -28,7 +28,7 @@ fn an_accepted_transcript() {
     assert_eq!(marks(&page), [13, 0, 0]);
     assert_eq!(page.matches("(condition)").count(), 4);
     assert_eq!(page.matches("<div class=\"bar\">").count(), 5);
-    assert!(page.contains("check 21 never speaks"));
+    assert!(page.contains("check 21 is never answered"));
     assert!(page.contains("Cells of t, g and h whose digits lost something: 0 of 24."));
 }
 

@@ -64,7 +64,7 @@ fn reviews_have_their_status() {
     let found = run(&desk, "review job");
     assert_eq!(found.status, 1);
     assert_eq!(found.out.lines().count(), 6);
-    assert!(found.out.starts_with("check 21 never speaks: "), "{}", found.out);
+    assert!(found.out.starts_with("check 21 is never answered: "), "{}", found.out);
     assert_eq!(found.line, "labrador: 6 things that the job does not force\n");
     let mut job = desk.words("job");
     for k in 0..6 {
