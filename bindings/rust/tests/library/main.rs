@@ -1,0 +1,11 @@
+//! The crate's calls and words over the proved archive.
+
+#[path = "../common/mod.rs"]
+mod common;
+
+mod answers;
+mod layout;
+mod leaves;
+mod lent;
+mod norms;
+mod review;
