@@ -33,7 +33,11 @@ static answer with_words(uint32_t number, uint64_t place, const uint32_t *words,
 
 static answer of_word(labrador_word_answer r) { return with_words(r.number, r.place, &r.value, 1); }
 static answer of_centre(labrador_centre_answer r) { return (answer){r.number, r.place, 1, {(uint64_t)r.value}}; }
-static answer of_digits(labrador_digits_answer r) { return with_words(r.number, r.place, r.digits, 32); }
+static answer of_digits(labrador_digits_answer r) {
+    answer a = with_words(r.number, r.place, r.digits, 32);
+    a.values[a.count++] = r.left;
+    return a;
+}
 static answer of_element(labrador_element_answer r) { return with_words(r.number, r.place, r.coeffs, 64); }
 static answer of_norm(labrador_norm_answer r) { return (answer){r.number, r.place, 2, {r.hi, r.lo}}; }
 static answer of_status(labrador_status r) { return (answer){r.number, r.place, 0, {0}}; }
@@ -42,7 +46,7 @@ static answer of_need(labrador_need r) { return (answer){r.number, r.place, 1, {
 static answer of_load_need(labrador_load_need r) { return (answer){r.number, r.place, 3, {r.job, r.witness, r.randomness}}; }
 
 static answer of_verdict(labrador_verdict v) {
-    return (answer){v.number, v.place, 5, {v.index, v.first_hi, v.first_lo, v.second_hi, v.second_lo}};
+    return (answer){v.number, v.place, 6, {v.index, v.first_hi, v.first_lo, v.second_hi, v.second_lo, v.cells_left}};
 }
 
 static answer of_ranges(labrador_ranges_answer r) {

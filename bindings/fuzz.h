@@ -94,7 +94,6 @@ size_t sections(const uint32_t *words, size_t length, size_t *starts);
 
 /* fuzz_slices.c */
 labrador_parameters parameters_in_hand(void);
-size_t equations(const labrador_parameters *p);
 const char *judge_refusal_of(const labrador_parameters *p, const answer *a);
 const char *judge_refusal(const answer *a);
 size_t about(size_t need);

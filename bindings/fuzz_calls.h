@@ -18,6 +18,7 @@ CALL(rq_scale, 20, draw_element_and_word, of_element(labrador_rq_scale(element(0
 CALL(rq_conj, 20, draw_element, of_element(labrador_rq_conj(element(0))), judge_words, 6)
 CALL(rq_norm, 20, draw_element, of_norm(labrador_rq_norm(element(0))), judge_norm, 6)
 CALL(rq_digits, 20, draw_element_and_rows, of_status(labrador_rq_digits(operands[0], operands[1], element(2), WORDS(OUTPUT))), judge_rows, 2, 4, 6)
+CALL(rq_left, 20, draw_element_for_digits, of_element(labrador_rq_left(operands[0], operands[1], element(2))), judge_digits, 4, 6)
 CALL(challenge, 20, draw_challenge_words, of_element(labrador_challenge(challenge_words())), judge_challenge, 8)
 
 CALL(scratch_need, 40, draw_job, of_need(labrador_scratch_need(WORDS(JOB))), judge_scratch_need, 3, 4, 5, 6)

@@ -13,7 +13,7 @@ typedef struct {
 
 static lengths lengths_needed(void) {
     const labrador_parameters *p = &load_parameters;
-    size_t n = p->n, r = p->r, T = r * (r + 1) / 2, L = equations(p), constraints = (size_t)p->K + p->l;
+    size_t n = p->n, r = p->r, T = r * (r + 1) / 2, L = p->L, constraints = (size_t)p->K + p->l;
     size_t matrices = p->kappa * n + p->kappa_1 * (r * p->kappa * p->t_1 + T * p->t_2) + p->kappa_2 * T * p->t_1;
     lengths need;
     need.words[0] = 11 + PARAMETERS + 18 + 64 * (constraints * (T + r * n) + p->K + matrices) + p->l;

@@ -15,12 +15,12 @@ labrador_parameters parameters_in_hand(void) {
     return p;
 }
 
-/* L */
-size_t equations(const labrador_parameters *p) { return p->log_q ? (127 + (size_t)p->log_q) / p->log_q : 0; }
+/* The least L: 128 divided by log_q, rounded up. */
+static size_t least_equations(const labrador_parameters *p) { return p->log_q ? (127 + (size_t)p->log_q) / p->log_q : 0; }
 
 static size_t scratch_need(const labrador_parameters *p) {
     size_t n = p->n, r = p->r, T = r * (r + 1) / 2;
-    return 64 * ((equations(p) + 2) * (r * n + T) + r * p->kappa + n + 64);
+    return 64 * (((size_t)p->L + 2) * (r * n + T) + r * p->kappa + n + 64);
 }
 
 /* The words that the whole call or a round makes, counts included. */
@@ -29,7 +29,7 @@ static size_t output_need(const labrador_parameters *p, int round) {
     const size_t made[6] = {0,
                             1 + 64 * (size_t)p->kappa_1,
                             257,
-                            1 + 64 * equations(p),
+                            1 + 64 * (size_t)p->L,
                             1 + 64 * (size_t)p->kappa_2,
                             4 + 64 * (p->n + r * p->kappa + 2 * T)};
     return round ? made[round] : made[1] + made[2] + made[3] + made[4] + made[5];
@@ -124,7 +124,7 @@ static int place_is_right(const labrador_parameters *p, const answer *a) {
     case 4:
         return a->place >= 1 && a->place <= PARAMETERS;
     case 5:
-        return a->place == 3 && p->kappa != equations(p);
+        return a->place == PARAMETERS && p->L < least_equations(p);
     case 6:
         return a->place > PARAMETERS + 18 && above(JOB, a->place, Q - 1);
     case 7:
@@ -193,13 +193,18 @@ const char *judge_made(const answer *a) {
     return judge_refusal(a);
 }
 
-/* index, first_hi, first_lo, second_hi, second_lo */
+/* index, first_hi, first_lo, second_hi, second_lo, cells_left */
 const char *judge_verdict(const answer *a) {
     const uint64_t *v = a->values;
     labrador_parameters p = parameters_in_hand();
     scratch_is_cleared(a);
+    if (a->number == 0) {
+        uint64_t cells = (uint64_t)p.r * p.kappa + (uint64_t)p.r * (p.r + 1);
+        return a->place == 0 && all_zero(v, 5) && v[5] <= cells ? NULL : "an acceptance with more than its number";
+    }
+    if (v[5] != 0) return "a number of cells beside another verdict";
     if (a->number == 22) {
-        int fit = v[0] < equations(&p) && v[1] == 0 && v[2] < Q && v[3] == 0 && v[4] < Q && v[2] != v[4];
+        int fit = v[0] < p.L && v[1] == 0 && v[2] < Q && v[3] == 0 && v[4] < Q && v[2] != v[4];
         return a->place == 0 && fit ? NULL : "22 without its row and two numbers";
     }
     if (a->number == 21 || a->number == 23) {

@@ -43,5 +43,6 @@ labrador_verdict __wrap_labrador_verify(const uint32_t *job, size_t job_length, 
     if (wrong() == 13 && v.number == 28 && before % 2 == 0) v.number = 0;
     if (wrong() == 14 && v.number == 23) v.second_lo = v.first_lo, v.second_hi = v.first_hi;
     if (wrong() == 15 && v.number == 9) v.place = transcript_length + 1;
+    if (wrong() == 16 && v.number == 28) v.cells_left = 1;
     return v;
 }

@@ -10,7 +10,7 @@ fn main() -> Result<(), Box<dyn std::error::Error>> {
 
     transcript[1] ^= 1;
     match verify(&load.job, &load.randomness, &transcript) {
-        Verdict::Accepted { cells_left } => println!("accepted, {cells_left} cells lost something"),
+        Verdict::Accepted { cells_left } => println!("accepted, {cells_left} cells with something left"),
         Verdict::Failed(check) => println!("a word of u1 changed: {check}\n  {}", check.meaning().follows),
         Verdict::Refused(refusal) => println!("refused at {}: {refusal}", refusal.place()),
     }

@@ -95,6 +95,12 @@ impl Element {
         }
         Ok(rows)
     }
+
+    /// The size left over of each coefficient when the parts are used up, without sign.
+    pub fn left(&self, base: u32, parts: u32) -> Result<[u32; 64], Refusal> {
+        let answer = ffi::rq_left(base, parts, self.raw());
+        Ok(Element::answered(answer, &[&[base, parts], &self.coeffs])?.coeffs)
+    }
 }
 
 /// The words of a challenge: 41 sign words, each 0 or 1, then 63 shuffle words.

@@ -47,6 +47,7 @@ pub struct DigitsAnswer {
     pub number: u32,
     pub place: u32,
     pub digits: [u32; 32],
+    pub left: u32,
 }
 
 #[repr(C)]
@@ -95,6 +96,7 @@ pub struct Verdict {
     pub second_hi: u64,
     pub second_lo: u64,
     pub place: u64,
+    pub cells_left: u64,
 }
 
 #[repr(C)]
@@ -145,6 +147,7 @@ by_value! {
     rq_scale = labrador_rq_scale(a: Element, c: u32) -> ElementAnswer;
     rq_conj = labrador_rq_conj(a: Element) -> ElementAnswer;
     rq_norm = labrador_rq_norm(a: Element) -> NormAnswer;
+    rq_left = labrador_rq_left(base: u32, parts: u32, a: Element) -> ElementAnswer;
     challenge = labrador_challenge(words: ChallengeWords) -> ElementAnswer;
     load_needs = labrador_load_needs(parameters: Parameters) -> LoadNeed;
 }

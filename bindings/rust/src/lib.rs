@@ -9,7 +9,7 @@
 //! // a test load: a job, a witness that meets it, and randomness
 //! let load = load(&Parameters { n: 8, ..Parameters::SMALL }, 2026)?;
 //! let mut transcript = prove(&load.job, &load.randomness, &load.witness)?;
-//! assert_eq!(verify(&load.job, &load.randomness, &transcript).to_string(), "accepted");
+//! assert_eq!(verify(&load.job, &load.randomness, &transcript).to_string(), "accepted, 0 cells with something left");
 //!
 //! // a word that is no number modulo Q is refused, with its place
 //! transcript[2] = u32::MAX;

@@ -125,9 +125,9 @@ pub const MEANINGS: [Meaning; 32] = [
     ),
     row(
         5,
-        "kappa is not L, which is 128 divided by log_q, rounded up",
+        "L is below 128 divided by log_q, rounded up",
         JOB,
-        "kappa's index, 3",
+        "L's index, 12",
         "The statement is unfit: no witness is judged under it.",
     ),
     row(6, "a word is not below Q", JOB, WORD, MEND_WORD),

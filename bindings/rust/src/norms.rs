@@ -42,14 +42,8 @@ fn parts_norm(words: &[u32], base: u32) -> Result<u128, Refusal> {
 
 /// The norm of what is left after digit 0.
 fn rest_norm(words: &[u32], base: u32) -> Result<u128, Refusal> {
-    let mut norm = 0;
-    for &word in words {
-        let number = crate::Zq(word);
-        let low = crate::Zq(number.digits(base, 1)?.digits[0]).centre()?;
-        let rest = u128::from(((number.centre()? - low) / i64::from(base)).unsigned_abs());
-        norm += rest * rest;
-    }
-    Ok(norm)
+    let squares = |sizes: [u32; 64]| sizes.iter().map(|&size| u128::from(size).pow(2)).sum::<u128>();
+    elements(words).map(|e| e.left(base, 1).map(squares)).sum()
 }
 
 /// The five norms of a transcript, both it and the job of the right layout with words below Q: in the verifier's order

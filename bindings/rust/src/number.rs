@@ -16,15 +16,19 @@ pub const Q: u32 = 4294967295;
 /// assert_eq!(Zq(2147483648).centre()?, -2147483647);
 /// let digits = Zq(7).digits(4, 2)?;
 /// assert_eq!(recompose(4, &digits.digits[..2])?, Zq(7));
+/// assert_eq!(digits.left, 0);
+/// assert_eq!(Zq(7).digits(4, 1)?.left, 2);
 /// # Ok::<(), labrador::Refusal>(())
 /// ```
 #[derive(Clone, Copy, Debug, PartialEq, Eq)]
 pub struct Zq(pub u32);
 
-/// The digits of a number, lowest first; those past the parts are zero.
+/// The digits of a number, lowest first; those past the parts are zero. `left` is the size left over when the parts are
+/// used up, without sign.
 #[derive(Clone, Copy, Debug, PartialEq, Eq)]
 pub struct Digits {
     pub digits: [u32; 32],
+    pub left: u32,
 }
 
 fn word(answer: ffi::WordAnswer, operands: &[u32]) -> Result<Zq, Refusal> {
@@ -58,11 +62,11 @@ impl Zq {
         Ok(answer.value)
     }
 
-    /// The digits to a base from 2 to 4294967294, in 1 to 32 parts; what is left after them is dropped.
+    /// The digits to a base from 2 to 4294967294, in 1 to 32 parts, and what is left after them.
     pub fn digits(self, base: u32, parts: u32) -> Result<Digits, Refusal> {
         let answer = ffi::zq_digits(base, parts, self.0);
         operand(answer.number, answer.place.into(), &[base, parts, self.0])?;
-        Ok(Digits { digits: answer.digits })
+        Ok(Digits { digits: answer.digits, left: answer.left })
     }
 }
 

@@ -159,7 +159,7 @@ fn parameter_fault(place: &Place) -> String {
 
 fn aggregations_fault(place: &Place, parameters: &Parameters) -> String {
     let (found, least, log_q) = (place.found.unwrap_or(0), parameters.least_aggregations(), parameters.log_q);
-    format!("the job's word {} is {found}: kappa is L, which for log_q {log_q} is {least}", place.index)
+    format!("the job's word {} is {found}: L is at least {least} where log_q is {log_q}", place.index)
 }
 
 fn randomness_fault(place: &Place) -> &'static str {

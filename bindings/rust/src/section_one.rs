@@ -14,7 +14,7 @@ const fn parameter(name: &'static str, least: u32, greatest: u32, meaning: &'sta
 }
 
 /// The parameters in their order; the first is the job's word 1.
-pub const PARAMETERS: [Parameter; 11] = [
+pub const PARAMETERS: [Parameter; 12] = [
     parameter("n", 1, 64, "elements of a witness vector"),
     parameter("r", 1, 16, "witness vectors"),
     parameter("kappa", 1, 16, "rows of A"),
@@ -22,10 +22,11 @@ pub const PARAMETERS: [Parameter; 11] = [
     parameter("kappa_2", 1, 16, "rows of D, elements of u2"),
     parameter("K", 0, 64, "ring constraints"),
     parameter("l", 0, 64, "constant-term constraints"),
-    parameter("log_q", 16, 32, "bits of the modulus, for the number of aggregated equations"),
+    parameter("log_q", 16, 32, "bits of the modulus: L is at least 128 divided by this, rounded up"),
     parameter("b", 2, 4294967294, "base of the digits"),
     parameter("t_1", 1, 32, "digits of a cell of t and of h"),
     parameter("t_2", 1, 32, "digits of a cell of g"),
+    parameter("L", 1, 32, "aggregated equations, elements of b''"),
 ];
 
 /// A bound: a number of three words, the least first.
@@ -63,33 +64,43 @@ pub struct Parameters {
     pub b: u32,
     pub t_1: u32,
     pub t_2: u32,
+    pub L: u32,
 }
 
 impl Parameters {
     /// In the order of section one.
+    #[allow(non_snake_case)]
     pub fn words(&self) -> [u32; PARAMETERS.len()] {
-        [self.n, self.r, self.kappa, self.kappa_1, self.kappa_2, self.K, self.l, self.log_q, self.b, self.t_1, self.t_2]
+        let Parameters { n, r, kappa, kappa_1, kappa_2, K, l, log_q, b, t_1, t_2, L } = *self;
+        [n, r, kappa, kappa_1, kappa_2, K, l, log_q, b, t_1, t_2, L]
     }
 
     /// Of words in the order of section one.
     #[allow(non_snake_case)]
     pub fn from_words(words: [u32; PARAMETERS.len()]) -> Parameters {
-        let [n, r, kappa, kappa_1, kappa_2, K, l, log_q, b, t_1, t_2] = words;
-        Parameters { n, r, kappa, kappa_1, kappa_2, K, l, log_q, b, t_1, t_2 }
+        let [n, r, kappa, kappa_1, kappa_2, K, l, log_q, b, t_1, t_2, L] = words;
+        Parameters { n, r, kappa, kappa_1, kappa_2, K, l, log_q, b, t_1, t_2, L }
     }
 
     /// A small load that runs at once: four elements a vector, three vectors, two constraints of each kind.
-    pub const SMALL: Parameters =
-        Parameters { n: 4, r: 3, kappa: 4, kappa_1: 4, kappa_2: 4, K: 2, l: 2, log_q: 32, b: 256, t_1: 4, t_2: 4 };
+    pub const SMALL: Parameters = Parameters {
+        n: 4,
+        r: 3,
+        kappa: 4,
+        kappa_1: 4,
+        kappa_2: 4,
+        K: 2,
+        l: 2,
+        log_q: 32,
+        b: 256,
+        t_1: 4,
+        t_2: 4,
+        L: 4,
+    };
 
-    /// 128 divided by log_q, rounded up.
-    pub fn least_aggregations(&self) -> u64 {
-        128u64.div_ceil(u64::from(self.log_q.max(1)))
-    }
-
-    /// L, the number of aggregated equations.
-    pub fn aggregations(&self) -> u64 {
-        self.least_aggregations()
+    /// The least L: 128 divided by log_q, rounded up.
+    pub fn least_aggregations(&self) -> u32 {
+        128u32.div_ceil(self.log_q.max(1))
     }
 
     /// T, the cells of a triangle of r rows.
@@ -140,7 +151,7 @@ impl SectionOne {
     }
 }
 
-/// What word `place` of a job is, for 1 to 29: a parameter, or word 0, 1 or 2 of a bound.
+/// What word `place` of a job is, for 1 to [`COUNT`]: a parameter, or word 0, 1 or 2 of a bound.
 pub fn name_of(place: usize) -> Option<String> {
     let k = place.checked_sub(1)?;
     if let Some(p) = PARAMETERS.get(k) {

@@ -9,7 +9,8 @@ use crate::refusal::Refusal;
 /// What the verifier says of a transcript.
 #[derive(Clone, Debug, PartialEq, Eq)]
 pub enum Verdict {
-    /// Every check passed. `cells_left` cells of t, g and h together have a coefficient whose digits lost something.
+    /// Every check passed. `cells_left` cells of t, g and h together have a coefficient with something left after its
+    /// digits.
     Accepted { cells_left: u64 },
     /// The input is unfit.
     Refused(Refusal),
@@ -95,11 +96,8 @@ impl Verdict {
 impl fmt::Display for Verdict {
     fn fmt(&self, f: &mut fmt::Formatter<'_>) -> fmt::Result {
         match self {
-            Verdict::Accepted { cells_left: 0 } => write!(f, "accepted"),
-            Verdict::Accepted { cells_left: 1 } => write!(f, "accepted (the digits of 1 cell lost something)"),
-            Verdict::Accepted { cells_left } => {
-                write!(f, "accepted (the digits of {cells_left} cells lost something)")
-            }
+            Verdict::Accepted { cells_left: 1 } => write!(f, "accepted, 1 cell with something left"),
+            Verdict::Accepted { cells_left } => write!(f, "accepted, {cells_left} cells with something left"),
             Verdict::Refused(refusal) => refusal.fmt(f),
             Verdict::Failed(check) => check.fmt(f),
         }

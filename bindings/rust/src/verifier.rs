@@ -11,7 +11,7 @@ pub fn verify_with(job: &[u32], randomness: &[u32], transcript: &[u32], scratch:
     let handed =
         Handed { job, randomness, randomness_sections: 7, transcript, scratch: scratch.len(), ..Handed::default() };
     match answer.number {
-        0 => Verdict::Accepted { cells_left: 0 },
+        0 => Verdict::Accepted { cells_left: answer.cells_left },
         number @ 1..=16 => Verdict::Refused(handed.refusal(number, answer.place)),
         _ => Verdict::Failed(failed(&answer)),
     }

@@ -42,12 +42,7 @@ impl Slice {
 
     /// The most words that it has in any job.
     pub fn greatest_length(self) -> u64 {
-        let words = section_one::PARAMETERS.map(|p| p.greatest);
-        let most = Parameters::from_words(words);
-        // log_q lowers L as it grows
-        let least_log_q = section_one::PARAMETERS.iter().find(|p| p.name == "log_q").map_or(1, |p| p.least);
-        let many = Parameters { log_q: least_log_q, ..most };
-        self.length(&many)
+        self.length(&Parameters::from_words(section_one::PARAMETERS.map(|p| p.greatest)))
     }
 }
 

@@ -45,7 +45,7 @@ pub(super) fn job(p: &Parameters) -> Vec<Section> {
 }
 
 pub(super) fn randomness(p: &Parameters) -> Vec<Section> {
-    let aggregations = ("row", p.aggregations());
+    let aggregations = ("row", u64::from(p.L));
     let challenges = ("challenge", u64::from(p.r));
     let projection = [("vector", p.r.into()), ("row", 256), ("element", p.n.into()), COEFFICIENT];
     vec![
@@ -70,7 +70,7 @@ pub(super) fn transcript(p: &Parameters) -> Vec<Section> {
     vec![
         section("u1", "commitment to the digits of t and g", &elements(p.kappa_1)),
         section("p", "projection of the witness", &[("entry", 256)]),
-        section("b''", "right sides of the aggregated constraints", &[("row", p.aggregations()), COEFFICIENT]),
+        section("b''", "right sides of the aggregated constraints", &[("row", p.L.into()), COEFFICIENT]),
         section("u2", "commitment to the digits of h", &elements(p.kappa_2)),
         section("z", "witness vectors summed with the challenges", &elements(p.n)),
         section("t", "A times each witness vector", &rows),

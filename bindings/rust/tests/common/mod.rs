@@ -62,7 +62,7 @@ pub fn with_answer(number: u32) -> Case {
         16 => set_bound(&mut case.job, "bound_D", 0),
         3 => case.job.truncate(job("phi'") + 100),
         4 => case.job[1] = 65,
-        5 => case.job[3] = 3,
+        5 => case.job[12] = 3,
         6 => case.job[job("phi'") + 17] = Q,
         7 => case.randomness.push(0),
         8 => case.randomness[begin(Slice::Randomness, &p, "signs") + 42] = 2,

@@ -44,7 +44,7 @@ fn refusals_are_told_with_their_place() {
     let z = begin(Slice::Transcript, &p, "z") + 65;
     told(3, format!("refusal 3: the job ends after {} words, within section phi'", job("phi'", 100)));
     told(4, "refusal 4: the job's word 1 is 65: n is from 1 to 64".into());
-    told(5, "refusal 5: the job's word 3 is 3: kappa is L, which for log_q 32 is 4".into());
+    told(5, "refusal 5: the job's word 12 is 3: L is at least 4 where log_q is 32".into());
     let phi = "section phi', constraint 0, vector 0, element 0, coefficient 17";
     told(6, format!("refusal 6: the job's word {} is 4294967295, not below Q ({phi})", job("phi'", 17)));
     told(7, format!("refusal 7: the randomness goes on at word {drawn}, behind its last section, shuffle"));

@@ -12,7 +12,9 @@ fn shapes() -> Vec<Parameters> {
         small,
         Parameters { n: 1, r: 1, K: 1, l: 0, ..small },
         Parameters { r: 2, K: 0, l: 3, kappa_1: 2, kappa_2: 5, t_1: 3, t_2: 5, ..small },
-        Parameters { n: 3, kappa: 8, log_q: 16, ..small },
+        Parameters { n: 3, kappa: 8, log_q: 16, L: 8, ..small },
+        Parameters { kappa: 1, L: 32, ..small },
+        Parameters { n: 2, kappa: 16, log_q: 31, L: 5, ..small },
     ]
 }
 

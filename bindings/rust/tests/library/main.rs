@@ -4,8 +4,10 @@
 mod common;
 
 mod answers;
+mod apart;
 mod layout;
 mod leaves;
+mod left;
 mod lent;
 mod norms;
 mod review;

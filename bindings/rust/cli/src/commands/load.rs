@@ -20,7 +20,7 @@ pub fn parameters_help() -> String {
         let (given, limits) = (format!("{}={value}", parameter.name), (parameter.least, parameter.greatest));
         out += &format!("  {given:<20} {} ({} to {})\n", parameter.meaning, limits.0, limits.1);
     }
-    out
+    out + "  Where L is not given, it is 128 divided by log_q, rounded up.\n"
 }
 
 fn number(text: &OsStr, what: &str) -> Result<u32, End> {
@@ -28,9 +28,10 @@ fn number(text: &OsStr, what: &str) -> Result<u32, End> {
     shown.parse().map_err(|_| usage(format!("{what} is a number from 0 to 4294967295, not {shown}")))
 }
 
-/// The parameters of `NAME=VALUE` arguments.
+/// The parameters of `NAME=VALUE` arguments; an L that is not given is the least for log_q.
 fn parameters(args: &Args) -> Result<Parameters, End> {
     let mut words = Parameters::SMALL.words();
+    let mut l_is_given = false;
     for argument in &args.rest {
         let shown = argument.to_string_lossy();
         let Some((name, value)) = shown.split_once('=') else {
@@ -40,8 +41,11 @@ fn parameters(args: &Args) -> Result<Parameters, End> {
             return Err(usage(format!("there is no parameter {name}; labrador load --help has the names")));
         };
         words[k] = number(OsStr::new(value), name)?;
+        l_is_given |= name == "L";
     }
-    Ok(Parameters::from_words(words))
+    let given = Parameters::from_words(words);
+    let least = given.least_aggregations();
+    Ok(if l_is_given { given } else { Parameters { L: least, ..given } })
 }
 
 pub fn run(command: &Command, args: &Args) -> Outcome {

@@ -30,7 +30,7 @@ fn sentences(report: &Report) -> [String; 2] {
     }
 }
 
-/// How many cells of t, g and h lost something.
+/// How many cells of t, g and h have something left.
 fn cells(report: &Report) -> String {
     let Verdict::Accepted { cells_left } = report.verdict else {
         return String::new();
@@ -39,7 +39,11 @@ fn cells(report: &Report) -> String {
         let p = one.parameters;
         u64::from(p.r) * u64::from(p.kappa) + 2 * p.triangle()
     });
-    format!("Cells of t, g and h whose digits lost something: {cells_left} of {all}.")
+    let told = format!("Cells of t, g and h with something left after their digits: {cells_left} of {all}");
+    match cells_left {
+        0 => told,
+        _ => format!("{told}. The commitments and the norms do not see what is left"),
+    }
 }
 
 pub fn header(report: &Report) -> String {
@@ -71,7 +75,7 @@ fn sentence(text: &str) -> String {
 
 pub fn footer() -> String {
     "<footer>\n<p>The verdict is the answer of the proved call labrador_verify, and the norms are taken of the transcript's words \
-     by the proved calls labrador_rq_norm and labrador_rq_digits. The layout of this page, its sentences and the review of the \
+     by the proved calls labrador_rq_norm, labrador_rq_digits and labrador_rq_left. The layout of this page, its sentences and the review of the \
      job are made by a program that is not proved. The randomness is taken as it was handed in: a verdict forces nothing \
      where the sender could choose it. Rows, vectors, cells, elements, coefficients and words count from 0. \
      Q is 4294967295.</p>\n</footer>\n"

@@ -91,7 +91,7 @@ fn an_endless_file_is_refused() {
 fn random_bytes_are_answered() {
     let desk = Desk::with("random", &with_answer(0));
     let mut state = 1u32;
-    for length in [1, 2, 29, 30, 31, 200] {
+    for length in [1, 2, 29, 30, 31, 32, 200] {
         let mut words: Vec<u32> = Vec::new();
         for _ in 0..length {
             state = state.wrapping_mul(1664525).wrapping_add(1013904223);

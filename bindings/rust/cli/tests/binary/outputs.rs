@@ -80,7 +80,11 @@ fn no_room_on_the_disk_leaves_nothing() {
     assert!(told.line.starts_with("labrador: made: File too large"), "{}", told.line);
     let told = shell(format!("{VERIFY} --report page.html"));
     assert_eq!(told.status, 3);
-    assert!(told.line.starts_with("labrador: accepted, but the page was not written: "), "{}", told.line);
+    assert!(
+        told.line.starts_with("labrador: accepted, 0 cells with something left, but the page was not written: "),
+        "{}",
+        told.line
+    );
     let told = shell("load --job a --witness b --randomness c".to_string());
     assert_eq!(told.status, 3);
     assert_eq!(desk.names(), ["job", "randomness", "transcript", "witness"]);

@@ -29,7 +29,7 @@ fn an_accepted_transcript() {
     assert_eq!(page.matches("(condition)").count(), 4);
     assert_eq!(page.matches("<div class=\"bar\">").count(), 5);
     assert!(page.contains("check 21 is never answered"));
-    assert!(page.contains("Cells of t, g and h whose digits lost something: 0 of 24."));
+    assert!(page.contains("Cells of t, g and h with something left after their digits: 0 of 24."));
 }
 
 #[test]

@@ -30,5 +30,5 @@ fn the_commands_of_the_readme_say_what_it_says() {
     assert_eq!(told.status, 2);
     let answers: Vec<&str> = told.line.lines().collect();
     assert_eq!(answers.len(), 4, "{}", told.line);
-    assert_eq!((answers[2], answers[3]), ("labrador: accepted", said[0].as_str()));
+    assert_eq!((answers[2], answers[3]), ("labrador: accepted, 0 cells with something left", said[0].as_str()));
 }

@@ -16,7 +16,38 @@ fn a_load_of_own_parameters_is_proved_and_accepted() {
     assert_eq!(rounds.status, 0, "{}", rounds.line);
     assert_eq!(desk.words("rounds"), desk.words("transcript"));
     let verdict = run(&desk, VERIFY);
-    assert_eq!((verdict.status, verdict.line.as_str()), (0, "labrador: accepted\n"));
+    assert_eq!((verdict.status, verdict.line.as_str()), (0, "labrador: accepted, 0 cells with something left\n"));
+}
+
+#[test]
+fn a_load_takes_l_apart_from_kappa() {
+    let desk = Desk::new("l_apart");
+    for (given, kappa, rows) in [("kappa=2 L=9", 2, 9), ("log_q=16", 4, 8), ("log_q=16 L=11 kappa=1", 1, 11)] {
+        let made = run(&desk, &format!("{LOAD} n=2 r=2 --force {given}"));
+        assert_eq!(made.status, 0, "{}", made.line);
+        let job = desk.words("job");
+        assert_eq!((job[0], job[3], job[12]), (30, kappa, rows), "{given}");
+        assert_eq!(run(&desk, &format!("{PROVE} --transcript transcript --force")).status, 0);
+        let verdict = run(&desk, VERIFY);
+        assert_eq!((verdict.status, verdict.line.as_str()), (0, "labrador: accepted, 0 cells with something left\n"));
+    }
+    let described = run(&desk, "describe job --json").out;
+    assert!(described.contains("\"t_2\":4,\"L\":11,\"beta_sq\":"), "{described}");
+    let help = run(&desk, "load --help").out;
+    assert!(help.contains("Where L is not given, it is 128 divided by log_q, rounded up.\n"), "{help}");
+}
+
+#[test]
+fn an_acceptance_says_its_cells() {
+    let desk = Desk::new("cells");
+    assert_eq!(run(&desk, &format!("{LOAD} n=2 r=2 b=2 t_1=1 t_2=31")).status, 0);
+    assert_eq!(run(&desk, &format!("{PROVE} --transcript transcript")).status, 0);
+    let verdict = run(&desk, &format!("{VERIFY} --json --report page.html"));
+    // 8 cells of t and 3 of h
+    assert_eq!((verdict.status, verdict.line.as_str()), (0, "labrador: accepted, 11 cells with something left\n"));
+    assert!(verdict.out.contains("\"verdict\":\"accepted\",\"number\":0,\"cells_left\":11,"), "{}", verdict.out);
+    let page = std::fs::read_to_string(desk.path("page.html")).unwrap();
+    assert!(page.contains("Cells of t, g and h with something left after their digits: 11 of 14. The commitments"));
 }
 
 #[test]
@@ -32,7 +63,7 @@ fn each_verdict_has_its_status_and_line() {
         assert_eq!(verdict.status, status, "{}", verdict.line);
         assert_eq!(verdict.line.lines().count(), 1);
         let told = match number {
-            0 => "labrador: accepted".to_string(),
+            0 => "labrador: accepted, 0 cells with something left".to_string(),
             1..=16 => format!("labrador: refusal {number}: "),
             _ => format!("labrador: check {number} failed: "),
         };
@@ -130,6 +161,12 @@ fn unfit_parameters_are_2() {
     let desk = Desk::new("unfit_parameters");
     let refused = run(&desk, &format!("{LOAD} n=65"));
     let line = "labrador: refusal 4: the job's word 1 is 65: n is from 1 to 64\n";
+    assert_eq!((refused.status, refused.line.as_str()), (2, line));
+    let refused = run(&desk, &format!("{LOAD} log_q=16 L=7"));
+    let line = "labrador: refusal 5: the job's word 12 is 7: L is at least 8 where log_q is 16\n";
+    assert_eq!((refused.status, refused.line.as_str()), (2, line));
+    let refused = run(&desk, &format!("{LOAD} log_q=0"));
+    let line = "labrador: refusal 4: the job's word 8 is 0: log_q is from 16 to 32\n";
     assert_eq!((refused.status, refused.line.as_str()), (2, line));
     assert!(desk.names().is_empty());
 }
