@@ -1,0 +1,48 @@
+/* Wrong libraries, one for each number in WRONG, that the calls under guard pages must find out. Linked before labrador_prove and
+   labrador_verify by `-Wl,--wrap`. */
+#include <stdint.h>
+#include <stdlib.h>
+
+#include "fuzz.h"
+
+LABRADOR_PROVER(__real_labrador_prove);
+LABRADOR_PROVER(__wrap_labrador_prove);
+
+typedef labrador_verdict verifier(const uint32_t *, size_t, const uint32_t *, size_t, const uint32_t *, size_t, uint32_t *, size_t);
+verifier __real_labrador_verify, __wrap_labrador_verify;
+
+/* which one, once the first call is in hand */
+static int wrong(void) { return in_hand ? atoi(getenv("WRONG")) : 0; }
+
+static volatile uint32_t seen;
+
+LABRADOR_PROVER(__wrap_labrador_prove) {
+    if (wrong() == 1) seen = job[job_length];
+    if (wrong() == 2) seen = *(randomness - 1);
+    if (wrong() == 3 && witness_length > 0) *(volatile uint32_t *)(uintptr_t)witness = *witness;
+    labrador_answer a =
+        __real_labrador_prove(job, job_length, randomness, randomness_length, witness, witness_length, scratch, scratch_length, output, output_length);
+    size_t need = labrador_scratch_need(job, job_length).words;
+    if (wrong() == 4 && a.number == 0 && need < scratch_length) scratch[need] ^= 1;
+    if (wrong() == 5 && a.number == 0) scratch[need - 1] = 1;
+    if (wrong() == 6 && a.number == 1 && output_length > 0) output[output_length - 1] ^= 1;
+    if (wrong() == 7 && a.number == 0) output[0] = (uint32_t)(uintptr_t)job;
+    if (wrong() == 8 && a.number == 13) output[output_length - 1] = 1;
+    if (wrong() == 9 && a.number == 0) *(output - 1) ^= 1;
+    return a;
+}
+
+labrador_verdict __wrap_labrador_verify(const uint32_t *job, size_t job_length, const uint32_t *randomness, size_t randomness_length,
+                                        const uint32_t *transcript, size_t transcript_length, uint32_t *scratch, size_t scratch_length) {
+    uint32_t before = scratch_length > 0 ? *scratch : 0;
+    labrador_verdict v =
+        __real_labrador_verify(job, job_length, randomness, randomness_length, transcript, transcript_length, scratch, scratch_length);
+    if (wrong() == 10 && v.number == 21) v.number = 13;
+    if (wrong() == 11 && v.number == 10) v.place++;
+    if (wrong() == 12 && v.number == 0) v.first_lo = 1;
+    if (wrong() == 13 && v.number == 28 && before % 2 == 0) v.number = 0;
+    if (wrong() == 14 && v.number == 23) v.second_lo = v.first_lo, v.second_hi = v.first_hi;
+    if (wrong() == 15 && v.number == 9) v.place = transcript_length + 1;
+    if (wrong() == 16 && v.number == 28) v.cells_left = 1;
+    return v;
+}

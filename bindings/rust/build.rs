@@ -1,0 +1,38 @@
+//! Links the archive of proved calls: the one that LABRADOR_ARCHIVE names, or the one that `rt staticlib labrador` builds.
+
+use std::env;
+use std::path::{Path, PathBuf};
+use std::process::{Command, Stdio};
+
+/// The archive that the kit builds from this repository.
+fn built(root: &Path) -> PathBuf {
+    println!("cargo:rerun-if-changed={}", root.join("crates").display());
+    let made = Command::new("rt").args(["staticlib", "labrador"]).current_dir(root).stdin(Stdio::null()).output();
+    match made {
+        Ok(said) if said.status.success() => root.join("target/staticlib/liblabrador.a"),
+        Ok(said) => panic!(
+            "rt staticlib labrador failed:\n{}{}",
+            String::from_utf8_lossy(&said.stdout),
+            String::from_utf8_lossy(&said.stderr)
+        ),
+        Err(error) => {
+            panic!("LABRADOR_ARCHIVE names no archive, and the Rattle kit cannot be run to build one (rt: {error})")
+        }
+    }
+}
+
+fn main() {
+    println!("cargo:rerun-if-changed=build.rs");
+    println!("cargo:rerun-if-env-changed=LABRADOR_ARCHIVE");
+    let package = PathBuf::from(env::var_os("CARGO_MANIFEST_DIR").expect("cargo names the package's folder"));
+    let archive = match env::var_os("LABRADOR_ARCHIVE") {
+        Some(named) if !named.is_empty() => package.join(named),
+        _ => built(&package.join("../..")),
+    };
+    let archive = archive.canonicalize().unwrap_or_else(|error| panic!("no archive at {}: {error}", archive.display()));
+    println!("cargo:rerun-if-changed={}", archive.display());
+    let folder = archive.parent().expect("an archive stands in a folder");
+    let name = archive.file_name().and_then(|name| name.to_str()).expect("an archive's name in UTF-8");
+    println!("cargo:rustc-link-search=native={}", folder.display());
+    println!("cargo:rustc-link-lib=static:+verbatim={name}");
+}

@@ -1,0 +1,75 @@
+//! `labrador describe`
+
+use std::path::{Path, PathBuf};
+
+use labrador::Slice;
+
+use crate::args::Args;
+use crate::end::{unfit, usage, End, Outcome, Status};
+use crate::files::{read, read_slice, Words};
+use crate::help::Command;
+use crate::json::Json;
+use crate::judge;
+
+use self::json::json_of;
+use self::text::describe;
+
+mod json;
+mod text;
+
+/// A file with the slice that it is read as.
+struct Read {
+    path: PathBuf,
+    words: Words,
+    kind: Option<Slice>,
+}
+
+/// The kind that `--as` names.
+fn forced(args: &Args) -> Result<Option<Slice>, End> {
+    let Some(name) = args.value("--as") else {
+        return Ok(None);
+    };
+    let kind = Slice::ALL.into_iter().find(|slice| name == slice.name());
+    match kind {
+        Some(kind) => Ok(Some(kind)),
+        None => Err(usage("--as takes job, randomness, witness or transcript")),
+    }
+}
+
+/// The job that `--job` names, which is fit.
+fn named_job(path: &Path) -> Result<Vec<u32>, End> {
+    let words = read_slice(Slice::Job, path)?.words;
+    match judge::refusal(Slice::Job, &words, &words) {
+        Some(refusal) => Err(unfit(format!("{}: {refusal}", path.display()))),
+        None => Ok(words),
+    }
+}
+
+pub fn run(command: &Command, args: &Args) -> Outcome {
+    if args.rest.is_empty() {
+        return Err(usage(format!("describe takes a file or more; {}", command.hint())));
+    }
+    let most = Slice::ALL.into_iter().map(Slice::greatest_length).max().unwrap_or(0) + 1;
+    let forced = forced(args)?;
+    let mut files = Vec::new();
+    for path in &args.rest {
+        let path = PathBuf::from(path);
+        let words = read(&path, most)?;
+        files.push(Read { path, words, kind: forced });
+    }
+    let named = args.file("--job").map(named_job).transpose()?;
+    let among = files.iter().find(|f| f.kind.or(judge::kind_of(&f.words.words, None)) == Some(Slice::Job));
+    let job: Option<Vec<u32>> = named.or(among.map(|file| file.words.words.clone()));
+    for file in &mut files {
+        file.kind = file.kind.or(judge::kind_of(&file.words.words, job.as_deref()));
+    }
+    let (mut out, mut list, mut first) = (String::new(), Vec::new(), None);
+    for file in &files {
+        let (told, refusal) = describe(file, job.as_deref());
+        out += &format!("{}{told}", if out.is_empty() { "" } else { "\n" });
+        list.push(json_of(file, job.as_deref(), refusal.as_ref()));
+        first = first.or(refusal.map(|refusal| format!("{}: {refusal}", file.path.display())));
+    }
+    let status = if first.is_some() { Status::Unfit } else { Status::Fine };
+    Ok(End::new(status, first.unwrap_or_default()).printing(out).with(vec![("files", Json::List(list))]))
+}

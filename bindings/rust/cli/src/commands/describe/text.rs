@@ -1,0 +1,82 @@
+//! A file in words.
+
+use labrador::section_one::{SectionOne, BOUNDS, PARAMETERS};
+use labrador::sections::Placed;
+use labrador::{expected, Refusal, Slice};
+
+use super::Read;
+use crate::judge;
+
+/// The parameters and bounds by name.
+fn parameters(one: &SectionOne) -> String {
+    let mut out = "parameters\n".to_string();
+    for (p, word) in PARAMETERS.iter().zip(one.parameters.words()) {
+        let name = p.name;
+        out += &format!("  {name:<14} {word:<30} {} ({} to {})\n", p.meaning, p.least, p.greatest);
+    }
+    for (bound, value) in BOUNDS.iter().zip(one.bounds) {
+        let value = value.to_string();
+        out += &format!("  {:<14} {value:<30} {}\n", bound.name, bound.meaning);
+    }
+    out
+}
+
+/// The sections of a slice, as far as it goes.
+fn sections(words: &[u32], sections: &[Placed]) -> String {
+    let mut out = "sections\n".to_string();
+    let mut broken = false;
+    for s in sections {
+        let (name, count) = (s.section.name, s.section.count());
+        let found = judge::count_at(words, s);
+        let mark = match found {
+            _ if broken => " (not reached)".to_string(),
+            None => " (missing)".to_string(),
+            Some(found) if found != count => format!(" (the count there is {found})"),
+            Some(_) if s.end() > words.len() as u64 => " (cut short)".to_string(),
+            Some(_) => String::new(),
+        };
+        broken = broken || !mark.is_empty();
+        out += &format!("  {name:<11} from word {:<9} {count:>9} words  {}{mark}\n", s.begin(), s.section.meaning);
+    }
+    out
+}
+
+/// The sections of a file of which nothing is known, by their counts alone.
+fn plain_sections(words: &[u32]) -> String {
+    let mut out = "sections\n".to_string();
+    let mut at = 0;
+    let mut number = 1;
+    while let Some(&count) = words.get(at) {
+        let end = (at as u64) + 1 + u64::from(count);
+        let short = end > words.len() as u64;
+        out += &format!("  section {number:<3} from word {:<9} {count:>9} words", at + 1);
+        out += if short { " (passes the end)\n" } else { "\n" };
+        if short || number == 64 {
+            break;
+        }
+        (at, number) = (end as usize, number + 1);
+    }
+    out
+}
+
+/// A file in words, with its refusal.
+pub fn describe(file: &Read, job: Option<&[u32]>) -> (String, Option<Refusal>) {
+    let (words, shown) = (&file.words.words[..], file.path.display());
+    let length = file.words.length;
+    let Some(kind) = file.kind else {
+        let unknown = format!("{shown}: {length} words, of no kind that is known without its job\n");
+        return (unknown + &plain_sections(words), None);
+    };
+    let job = if kind == Slice::Job { words } else { job.unwrap_or_default() };
+    let refusal = match judge::refusal(Slice::Job, job, job) {
+        Some(refusal) => Some(refusal),
+        None => judge::refusal(kind, job, words),
+    };
+    let mut out = format!("{shown}: {}, {length} words\n", kind.name());
+    if let Some(refusal) = &refusal {
+        out += &format!("wrong: {refusal}\n");
+    }
+    let one = SectionOne::read(words).filter(|_| kind == Slice::Job);
+    out += &one.as_ref().map(parameters).unwrap_or_default();
+    (out + &sections(words, &expected(kind, job, usize::MAX)), refusal)
+}

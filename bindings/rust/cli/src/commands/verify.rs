@@ -1,0 +1,92 @@
+//! `labrador verify`
+
+use std::path::Path;
+
+use labrador::review::review;
+use labrador::{verify, FailedCheck, Refusal, Verdict};
+
+use crate::args::Args;
+use crate::end::{End, Outcome, Status};
+use crate::files::read_slice;
+use crate::help::Command;
+use crate::json::Json;
+use crate::judge;
+use crate::output::{self, Output};
+use crate::page::{page, Report, SLICES};
+use crate::progress::Progress;
+
+/// The figures of a failed check.
+fn figures(check: &FailedCheck) -> Vec<(&'static str, Json)> {
+    match check {
+        FailedCheck::ProjectionNorm { norm, limit } => vec![("norm", Json::text(norm)), ("limit", Json::text(limit))],
+        FailedCheck::ConstantTerm { row, sent, worked_out } => vec![
+            ("row", Json::Number((*row).into())),
+            ("sent", Json::text(sent)),
+            ("worked_out", Json::text(worked_out)),
+        ],
+        FailedCheck::NormSum { sum, limit } => vec![("sum", Json::text(sum)), ("limit", Json::text(limit))],
+        _ => Vec::new(),
+    }
+}
+
+fn place_of(refusal: &Refusal) -> Vec<(&'static str, Json)> {
+    let mut fields = vec![("place", Json::Number(refusal.place()))];
+    if let Some(place) = refusal.word() {
+        fields.push(("slice", Json::text(place.slice.name())));
+        fields.push(("at", Json::text(&place.spot)));
+        fields.push(("word", place.found.map_or(Json::Null, |word| Json::Number(word.into()))));
+    }
+    fields
+}
+
+fn end_of(verdict: &Verdict, slices: [&[u32]; 3]) -> End {
+    let (status, kind, more) = match verdict {
+        Verdict::Accepted { cells_left } => (Status::Fine, "accepted", vec![("cells_left", Json::Number(*cells_left))]),
+        Verdict::Failed(check) => (Status::Failed, "failed", figures(check)),
+        Verdict::Refused(refusal) => (Status::Unfit, "refused", place_of(refusal)),
+    };
+    let number = Json::Number(verdict.number().into());
+    let told = vec![("verdict", Json::text(kind)), ("number", number)];
+    let line = match verdict {
+        Verdict::Refused(refusal) => judge::told(refusal, [0, 1, 2].map(|k| (SLICES[k], slices[k]))),
+        _ => verdict.to_string(),
+    };
+    End::new(status, line).with(told).with(more)
+}
+
+/// Writes the page; where it fails, the verdict is told with it.
+fn write_page(path: &Path, page: String, force: bool, end: &End) -> Result<(), End> {
+    let file = Output { path: path.to_path_buf(), secret: false, bytes: page.into_bytes() };
+    output::write(&[file], force).map_err(|failed| {
+        let line = format!("{}, but the page was not written: {}", end.line, failed.line);
+        End::new(Status::FileSystem, line).with(end.fields.clone())
+    })
+}
+
+pub fn run(command: &Command, args: &Args) -> Outcome {
+    args.no_rest(command)?;
+    let [job, randomness, transcript] =
+        ["--job", "--randomness", "--transcript"].map(|name| args.needed(command, name));
+    let names = [job?, randomness?, transcript?];
+    let names = [0, 1, 2].map(|k: usize| names[k].as_path());
+    let (report, force) = (args.file("--report"), args.flag("--force"));
+    let outputs: Vec<&Path> = report.into_iter().collect();
+    output::admit(&outputs, &names, force)?;
+    let progress = Progress::start();
+    progress.step("reading the job, the randomness and the transcript");
+    let [job, randomness, transcript] = [0, 1, 2].map(|k: usize| read_slice(SLICES[k], names[k]));
+    let (job, randomness, transcript) = (job?.words, randomness?.words, transcript?.words);
+    progress.step("verifying: the slices, then the checks 21 to 29");
+    let verdict = verify(&job, &randomness, &transcript);
+    progress.step("reviewing the job");
+    let findings = review(&job).unwrap_or_default();
+    let told = findings.iter().map(Json::text).collect();
+    let slices: [&[u32]; 3] = [&job, &randomness, &transcript];
+    let end = end_of(&verdict, slices).with(vec![("findings", Json::List(told))]);
+    if let Some(path) = report {
+        progress.step("writing the page");
+        let page = page(&Report { names, slices, verdict: &verdict, findings: &findings });
+        write_page(path, page, force, &end)?;
+    }
+    Ok(end)
+}

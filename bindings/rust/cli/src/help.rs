@@ -1,0 +1,140 @@
+//! The commands with their options and examples.
+
+/// An option; `value` names what it takes, and is empty where it takes nothing.
+pub struct Opt {
+    pub name: &'static str,
+    pub value: &'static str,
+    pub about: &'static str,
+}
+
+pub struct Command {
+    pub name: &'static str,
+    pub usage: &'static str,
+    pub about: &'static str,
+    pub options: &'static [Opt],
+    pub example: &'static str,
+}
+
+const fn opt(name: &'static str, value: &'static str, about: &'static str) -> Opt {
+    Opt { name, value, about }
+}
+
+const HELP: Opt = opt("--help", "", "print this");
+const JSON: Opt = opt("--json", "", "print the answer as one JSON object on standard output");
+const FORCE: Opt = opt("--force", "", "overwrite files that are there");
+const JOB: Opt = opt("--job", "FILE", "the job: the statement");
+const RANDOMNESS: Opt = opt("--randomness", "FILE", "the randomness of the transcript");
+const WITNESS: Opt = opt("--witness", "FILE", "the witness; it is secret");
+const TRANSCRIPT: Opt = opt("--transcript", "FILE", "the transcript");
+
+pub const LOAD: Command = Command {
+    name: "load",
+    usage: "labrador load [NAME=VALUE]… [--seed N] --job FILE --witness FILE --randomness FILE",
+    about: "Makes a test load that anyone can repeat: a job, a witness that meets it, and randomness.",
+    options: &[
+        opt("--seed", "NUMBER", "the seed, 0 to 4294967295 (1 where it is not given)"),
+        JOB,
+        WITNESS,
+        RANDOMNESS,
+        FORCE,
+        JSON,
+        HELP,
+    ],
+    example: "labrador load n=8 r=2 --seed 2026 --job a.job --witness a.witness --randomness a.randomness",
+};
+
+pub const DESCRIBE: Command = Command {
+    name: "describe",
+    usage: "labrador describe [--job FILE] [--as KIND] FILE…",
+    about: "Prints what is wrong with each file, if anything is; a job's parameters by name; each section with its place, count \
+            and meaning. The others are described by a job: the one that --job names, or the first among the files.",
+    options: &[
+        JOB,
+        opt("--as", "KIND", "read the files as job, randomness, witness or transcript, whatever they look like"),
+        JSON,
+        HELP,
+    ],
+    example: "labrador describe a.job a.randomness a.transcript",
+};
+
+pub const REVIEW: Command = Command {
+    name: "review",
+    usage: "labrador review JOB",
+    about: "Says what a statement does not force: constraints that say nothing or repeat another, vectors that none touches, limits \
+            that no transcript can pass, rows and columns that are zero or equal, parts too few for the base. Exit status 0 with none, \
+            1 with some.",
+    options: &[JSON, HELP],
+    example: "labrador review a.job",
+};
+
+pub const PROVE: Command = Command {
+    name: "prove",
+    usage: "labrador prove --job FILE --randomness FILE --witness FILE --transcript FILE",
+    about: "Makes the transcript of a job, randomness and a witness.",
+    options: &[
+        JOB,
+        RANDOMNESS,
+        WITNESS,
+        TRANSCRIPT,
+        opt("--rounds", "", "work round after round, which gives the same transcript"),
+        FORCE,
+        JSON,
+        HELP,
+    ],
+    example: "labrador prove --job a.job --randomness a.randomness --witness a.witness --transcript a.transcript",
+};
+
+pub const VERIFY: Command = Command {
+    name: "verify",
+    usage: "labrador verify --job FILE --randomness FILE --transcript FILE [--report PAGE.html]",
+    about: "Judges a transcript. Exit status 0 accepted, 1 a failed check, 2 refused. The randomness is taken as it is handed in: a \
+            verdict forces nothing where the sender could choose it.",
+    options: &[
+        JOB,
+        RANDOMNESS,
+        TRANSCRIPT,
+        opt("--report", "FILE", "write the verdict as a page to read or print"),
+        FORCE,
+        JSON,
+        HELP,
+    ],
+    example: "labrador verify --job a.job --randomness a.randomness --transcript a.transcript --report a.html",
+};
+
+pub const EXPLAIN: Command = Command {
+    name: "explain",
+    usage: "labrador explain [NUMBER]",
+    about:
+        "Says what the number of a refusal or of a failed check means; without a number, all of them in a line each.",
+    options: &[JSON, HELP],
+    example: "labrador explain 22",
+};
+
+pub const COMMANDS: [&Command; 6] = [&LOAD, &DESCRIBE, &REVIEW, &PROVE, &VERIFY, &EXPLAIN];
+
+impl Command {
+    pub fn hint(&self) -> String {
+        format!("labrador {} --help says more", self.name)
+    }
+
+    pub fn help(&self) -> String {
+        let mut out = format!("{}\n\n  {}\n\n", self.about, self.usage);
+        for option in self.options {
+            let name = format!("{} {}", option.name, option.value);
+            out += &format!("  {name:<20} {}\n", option.about);
+        }
+        if self.name == LOAD.name {
+            out += &crate::commands::load::parameters_help();
+        }
+        out + &format!("\nExample:\n  {}\n", self.example)
+    }
+}
+
+pub fn general() -> String {
+    let mut out = "LaBRADOR from the command line, over proved calls.\n\n".to_string();
+    for command in COMMANDS {
+        out += &format!("  {}\n", command.usage);
+    }
+    out + "\nFiles are words of four bytes, the least byte first. Exit status: 0 accepted or made, 1 a failed check or something \
+           found,\n2 refused or unfit input, 3 the file system failed, 64 a wrong call. labrador COMMAND --help says more.\n"
+}

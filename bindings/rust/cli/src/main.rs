@@ -1,0 +1,24 @@
+//! labrador: proves, verifies, describes and reviews from the command line. `labrador help` says how.
+#![forbid(unsafe_code)]
+
+use std::ffi::OsString;
+use std::process::ExitCode;
+
+mod args;
+mod commands;
+mod end;
+mod files;
+mod help;
+mod json;
+mod judge;
+mod output;
+mod page;
+mod progress;
+
+fn main() -> ExitCode {
+    let arguments: Vec<OsString> = std::env::args_os().skip(1).collect();
+    let json = arguments.iter().any(|argument| argument == "--json");
+    match commands::run(&arguments) {
+        Ok(end) | Err(end) => end.say(json),
+    }
+}

@@ -1,0 +1,66 @@
+//! The verdict as a page: one file, no scripts, nothing from elsewhere. It reads printed on A4, without colour, on a small
+//! screen and aloud.
+
+use std::path::Path;
+
+use labrador::review::Finding;
+use labrador::section_one::SectionOne;
+use labrador::{Slice, Verdict};
+
+mod checks;
+mod findings;
+mod html;
+mod norms;
+mod place;
+mod style;
+mod tables;
+mod verdict;
+
+/// What the page tells of.
+pub struct Report<'a> {
+    /// The files of the job, the randomness and the transcript.
+    pub names: [&'a Path; 3],
+    pub slices: [&'a [u32]; 3],
+    pub verdict: &'a Verdict,
+    pub findings: &'a [Finding],
+}
+
+/// The slices in the order of a report.
+pub const SLICES: [Slice; 3] = [Slice::Job, Slice::Randomness, Slice::Transcript];
+
+impl Report<'_> {
+    /// The refusal's number where nothing was worked out: the slices were unfit.
+    fn before_work(&self) -> bool {
+        matches!(self.verdict.number(), 1..=12)
+    }
+
+    /// Section one, where its words are within their limits.
+    fn section_one(&self) -> Option<SectionOne> {
+        SectionOne::read(self.slices[0]).filter(|one| one.parameters.within_limits())
+    }
+
+    fn words(&self, slice: Slice) -> &[u32] {
+        let at = SLICES.iter().position(|s| *s == slice);
+        at.map_or(&[], |k| self.slices[k])
+    }
+}
+
+pub fn page(report: &Report) -> String {
+    let title = verdict::title(report.verdict);
+    let beside = [place::around(report), norms::bars(report), findings::list(report)].concat();
+    let parts = [
+        verdict::header(report),
+        html::pair(&checks::list(report), &beside),
+        tables::parameters(report),
+        tables::sections(report),
+        verdict::footer(),
+    ];
+    format!(
+        "<!DOCTYPE html>\n<html lang=\"en\">\n<head>\n<meta charset=\"utf-8\">\n\
+         <meta name=\"viewport\" content=\"width=device-width, initial-scale=1\">\n\
+         <title>{}</title>\n<style>\n{}</style>\n</head>\n<body>\n<main>\n{}</main>\n</body>\n</html>\n",
+        html::escape(&title),
+        style::STYLE,
+        parts.concat()
+    )
+}

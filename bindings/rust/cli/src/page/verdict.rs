@@ -1,0 +1,83 @@
+//! The verdict on top of the page, and what the page rests on at its end.
+
+use labrador::section_one::SectionOne;
+use labrador::Verdict;
+
+use super::html::escape;
+use super::{Report, SLICES};
+
+pub fn title(verdict: &Verdict) -> String {
+    match verdict {
+        Verdict::Accepted { .. } => "Accepted".to_string(),
+        Verdict::Failed(check) => format!("Not accepted: check {} failed", check.number()),
+        Verdict::Refused(refusal) => format!("Refused: refusal {}", refusal.number()),
+    }
+}
+
+/// What the verdict says, and what follows from it.
+fn sentences(report: &Report) -> [String; 2] {
+    match report.verdict {
+        Verdict::Accepted { .. } => [
+            "The transcript passes every check of the verifier, for this job and this randomness.".to_string(),
+            cells(report),
+        ],
+        Verdict::Failed(check) => [check.to_string(), check.meaning().follows.to_string()],
+        Verdict::Refused(refusal) => {
+            let meaning = refusal.meaning();
+            let cause = format!("It is caused by {}. {}", meaning.cause, meaning.follows);
+            [refusal.to_string(), cause]
+        }
+    }
+}
+
+/// How many cells of t, g and h have something left.
+fn cells(report: &Report) -> String {
+    let Verdict::Accepted { cells_left } = report.verdict else {
+        return String::new();
+    };
+    let all = SectionOne::read(report.slices[0]).map_or(0, |one| {
+        let p = one.parameters;
+        u64::from(p.r) * u64::from(p.kappa) + 2 * p.triangle()
+    });
+    let told = format!("Cells of t, g and h with something left after their digits: {cells_left} of {all}");
+    match cells_left {
+        0 => told,
+        _ => format!("{told}. The commitments and the norms do not see what is left"),
+    }
+}
+
+pub fn header(report: &Report) -> String {
+    let (class, mark) = match report.verdict {
+        Verdict::Accepted { .. } => ("accepted", "✓"),
+        Verdict::Failed(_) => ("failed", "✗"),
+        Verdict::Refused(_) => ("refused", "✗"),
+    };
+    let heading = escape(&title(report.verdict));
+    let told: String = sentences(report).iter().map(|s| format!("<p>{}</p>\n", escape(&sentence(s)))).collect();
+    let files: Vec<String> = SLICES.iter().zip(report.names).zip(report.slices).map(file).collect();
+    format!(
+        "<header class=\"{class}\">\n<h1><span aria-hidden=\"true\">{mark}</span> {heading}</h1>\n{told}<p>{}</p>\n</header>\n",
+        escape(&format!("Judged: {}.", files.join("; ")))
+    )
+}
+
+fn file(((slice, name), words): ((&labrador::Slice, &std::path::Path), &[u32])) -> String {
+    format!("{} {} ({} words)", slice.name(), name.display(), words.len())
+}
+
+/// With an upper-case first letter and a full stop.
+fn sentence(text: &str) -> String {
+    let mut letters = text.chars();
+    let first: String = letters.next().map(|c| c.to_uppercase().to_string()).unwrap_or_default();
+    let stop = if text.ends_with('.') { "" } else { "." };
+    format!("{first}{}{stop}", letters.as_str())
+}
+
+pub fn footer() -> String {
+    "<footer>\n<p>The verdict is the answer of the proved call labrador_verify, and the norms are taken of the transcript's words \
+     by the proved calls labrador_rq_norm, labrador_rq_digits and labrador_rq_left. The layout of this page, its sentences and the review of the \
+     job are made by a program that is not proved. The randomness is taken as it was handed in: a verdict forces nothing \
+     where the sender could choose it. Rows, vectors, cells, elements, coefficients and words count from 0. \
+     Q is 4294967295.</p>\n</footer>\n"
+        .to_string()
+}

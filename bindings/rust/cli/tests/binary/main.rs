@@ -1,0 +1,14 @@
+//! The binary over files: each exit status, each kind of bad input, and what is written.
+
+#[path = "../../../tests/common/mod.rs"]
+mod common;
+
+mod bad_files;
+mod desk;
+mod outputs;
+mod pages;
+mod readme;
+mod render;
+mod run;
+mod statuses;
+mod terminal;

@@ -1,0 +1,56 @@
+//! LaBRADOR from Rust: the proved calls of `liblabrador.a`, safe, with their answers as enums and in words.
+//!
+//! A store's prover turns a job (the statement), randomness and a witness into a transcript; a lender's verifier judges it.
+//! All four are slices of words (`u32`), each made of sections after their counts.
+//!
+//! ```
+//! use labrador::{load, prove, verify, Parameters};
+//!
+//! // a test load: a job, a witness that meets it, and randomness
+//! let load = load(&Parameters { n: 8, ..Parameters::SMALL }, 2026)?;
+//! let mut transcript = prove(&load.job, &load.randomness, &load.witness)?;
+//! assert_eq!(verify(&load.job, &load.randomness, &transcript).to_string(), "accepted, 0 cells with something left");
+//!
+//! // a word that is no number modulo Q is refused, with its place
+//! transcript[2] = u32::MAX;
+//! assert_eq!(
+//!     verify(&load.job, &load.randomness, &transcript).to_string(),
+//!     "refusal 10: the transcript's word 2 is 4294967295, not below Q (section u1, element 0, coefficient 1)"
+//! );
+//! # Ok::<(), labrador::Refusal>(())
+//! ```
+#![deny(unsafe_code)]
+
+mod element;
+#[allow(unsafe_code)]
+mod ffi;
+mod handed;
+mod load;
+pub mod meaning;
+mod needs;
+pub mod norms;
+mod number;
+mod place;
+mod prover;
+mod ranges;
+mod refusal;
+pub mod review;
+mod rounds;
+pub mod section_one;
+pub mod sections;
+mod verdict;
+mod verifier;
+
+pub use element::{ChallengeWords, DigitRows, Element};
+pub use load::{load, load_into, load_needs, Load, LoadNeeds};
+pub use needs::{output_need, scratch_need};
+pub use number::{parts_needed, projection_entry, recompose, Digits, Zq, Q};
+pub use place::{expected, Place, Spot};
+pub use prover::{prove, prove_into};
+pub use ranges::{ranges, Meets, RangeNorms};
+pub use refusal::Refusal;
+pub use rounds::{round, round_into, Round};
+pub use section_one::Parameters;
+pub use sections::Slice;
+pub use verdict::{FailedCheck, Verdict};
+pub use verifier::{verify, verify_with};

@@ -1,0 +1,13 @@
+//! The crate's calls and words over the proved archive.
+
+#[path = "../common/mod.rs"]
+mod common;
+
+mod answers;
+mod apart;
+mod layout;
+mod leaves;
+mod left;
+mod lent;
+mod norms;
+mod review;
