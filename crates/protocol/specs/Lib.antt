@@ -10,3 +10,4 @@ pub mod Conditions
 pub mod Kept
 pub mod Ranges
 pub mod Load
+pub mod Mistyped
