@@ -1,11 +1,10 @@
 -- Which constant was mistyped (document 02, Item 8): "A failed check 22 is mostly one wrong entry of b0."
 use mathlib.Core.Path.{_≡_}
-use mathlib.Core.Bool.{cond}
-use mathlib.Core.Logic.{_⊎_}
+use mathlib.Core.Bool.{Bool, true, cond}
 use mathlib.Core.List.{List, [], _∷_, _++_, flatMap, List·Memᴰ}
 use Prim.Native.Nat.{ℕ, _-_, _*_, _<_, _≤_}
 use native.Mathlib.Decide.{decLe}
-use lib.Dec.{eqb}
+use lib.Dec.{ltb, eqb}
 use lib.ListN.{length, drop, replicate}
 use Rattle.definitions.specs.Zq.{Canonical, zadd, size}
 use Rattle.definitions.specs.Answer.{Answer, fine, refused, failed, result, _then_}
@@ -53,18 +52,18 @@ pub record Entry : Type 0 where
   pub index : ℕ
   pub number : ℕ
 
--- the first of two numbers decides; where they are equal, what is said next
-abbrev pub Lexicographic : (a b : ℕ) → Type 0 → Type 0
-Lexicographic a b next = (a < b) ⊎ ((a ≡ b) × next)
+-- the lower of two numbers comes first; where they are equal, what is said next decides
+abbrev pub by-number : (a b : ℕ) → (next : Bool) → Bool
+by-number a b next = cond (eqb a b) next (ltb a b)
 
--- "Smallest size comes first; equal sizes by lower l."
-unfoldable pub Before : Entry → Entry → Type 0
-Before e f = Lexicographic (size (e .number)) (size (f .number)) (e .index < f .index)
+-- whether an entry comes before another: "Smallest size comes first; equal sizes by lower l."
+unfoldable pub comes-before : Entry → Entry → Bool
+comes-before e f = by-number (size (e .number)) (size (f .number)) (ltb (e .index) (f .index))
 
 -- entries of which each comes before all that follow it
 unfoldable pub Ordered : List Entry → Type 0
-Ordered [] = Unit
-Ordered (e ∷ es) = ((f : Entry) → List·Memᴰ f es → Before e f) × Ordered es
+Ordered [] = Unit {0}
+Ordered (e ∷ es) = ((f : Entry) → List·Memᴰ f es → comes-before e f ≡ true) × Ordered es
 
 -- the list: "each index l for which adding one number to b0[l] alone would let check 22 pass […] the number of smallest centred size, for each such l once"
 pub record Listed (X : Public) (M : Message) (below : ℕ) (es : List Entry) : Type 0 where
