@@ -1,24 +1,24 @@
 -- What mends check 22 (document 02, Item 8), row by row; the number of smallest size is unique.
-use mathlib.Core.Path.{_≡_, refl, sym, ap, ap₂, subst, _∙_}
+use mathlib.Core.Path.{_≡_, sym, ap, ap₂, _∙_}
 use mathlib.Core.Bool.{cond}
 use mathlib.Core.Logic.{_⊎_, inl, inr, _↔_}
-use mathlib.Core.List.{List, [], _∷_}
+use mathlib.Core.List.{[], _∷_}
 use Prim.Native.Nat.{ℕ, zero, suc, _+_, _-_, _*_, _/_, _%_, _≤_, _<_}
-use native.Mathlib.Nat.{not-suc-le-zero, eq-or-lt-of-le, le-antisymm, mod-add-mod, mod-add-div', add-mod-mod, mod-mod, mod-eq-of-lt, mod-lt, add-right-comm, add-comm, mul-zero, mul-comm, mul-mod-left}
+use native.Mathlib.Nat.{le-antisymm, mod-add-mod, mod-add-div', add-mod-mod, mod-lt, mul-zero, mul-mod-left}
 use native.Mathlib.Decide.{ℕ-discrete}
 use native.Mathlib.Omega.{arith}
-use borrow.Author.Tests.{eq-eqb, ne-eqb}
 use lib.Dec.{eqb}
 use Rattle.lists.specs.Sum.{Σ}
-use Rattle.lists.proofs.Sum.{Σ-ext}
+use Rattle.lists.proofs.Sum.{Σ-changed}
 use Rattle.definitions.specs.Zq.{Q, Canonical, zadd, zsub, size}
 use Rattle.definitions.specs.Rq.{coeff}
 use Rattle.definitions.specs.Ring.{words}
 use Rattle.definitions.specs.Answer.{Answer, fine, failed}
-use Rattle.definitions.proofs.Modulo.{mul-mod-second, add-cancel-mod, add-sub-mod, sub-add-mod}
+use Rattle.definitions.proofs.Modulo.{mul-mod-second, add-cancel-mod}
+use Rattle.definitions.proofs.ZqRing.{zsub-iff}
 use Rattle.definitions.proofs.Cases.{ltb-cases}
 use Rattle.definitions.proofs.Bridge.{coeff-canonical}
-use Rattle.protocol.specs.Checks.{require, first}
+use Rattle.protocol.specs.Checks.{require}
 use Rattle.protocol.specs.Parameters.{Parameters}
 use Rattle.protocol.specs.Views.{Public, Message}
 use Rattle.protocol.specs.Verifier.{check-22}
@@ -26,34 +26,6 @@ use Rattle.protocol.specs.Mistyped.{added, Mends, Smallest}
 use Rattle.protocol.proofs.Fine.{require-holds, required, failed-not-fine}
 use Rattle.protocol.proofs.First.{first-each}
 use Rattle.protocol.proofs.Checks.{first-fine}
-
--- a sum with one value changed
-pub Σ-changed : (n i : ℕ) (w b : ℕ → ℕ) (v : ℕ) → i < n → Σ n (λ m. w m * cond (eqb m i) v (b m)) + w i * b i ≡ Σ n (λ m. w m * b m) + w i * v
-unfolding Σ
-Σ-changed zero i w b v h = absurd (not-suc-le-zero h)
-Σ-changed (suc n) i w b v h = go (eq-or-lt-of-le h) (Σ-changed n i w b v)
-  where
-    -- a value at another index
-    other : (m : ℕ) → (m ≡ i → ⊥) → w m * cond (eqb m i) v (b m) ≡ w m * b m
-    other m d = ap (λ t. w m * cond t v (b m)) (ne-eqb m i d)
-
-    swap : (s x y : ℕ) → s + x + y ≡ s + y + x
-    swap s x y = omega arith
-
-    next : (s s′ x y z : ℕ) → s + x ≡ s′ + y → s + z + x ≡ s′ + z + y
-    next s s′ x y z e = omega arith
-
-    go : (suc i ≡ suc n) ⊎ (suc i < suc n) → (i < n → Σ n (λ m. w m * cond (eqb m i) v (b m)) + w i * b i ≡ Σ n (λ m. w m * b m) + w i * v)
-        → Σ n (λ m. w m * cond (eqb m i) v (b m)) + w n * cond (eqb n i) v (b n) + w i * b i ≡ Σ n (λ m. w m * b m) + w n * b n + w i * v
-    go (inl p) ih =
-        let e : n ≡ i = omega arith in
-        ap₂ (λ s t. s + w n * cond t v (b n) + w i * b i) (Σ-ext n (λ m. w m * cond (eqb m i) v (b m)) (λ m. w m * b m) (λ m k. other m (λ q. omega arith))) (eq-eqb n i e)
-        ∙ swap (Σ n (λ m. w m * b m)) (w n * v) (w i * b i)
-        ∙ ap₂ (λ x y. Σ n (λ m. w m * b m) + w x * b x + w y * v) (sym e) e
-    go (inr k) ih =
-        let d : n ≡ i → ⊥ = λ q. omega arith in
-        ap (λ z. Σ n (λ m. w m * cond (eqb m i) v (b m)) + z + w i * b i) (other n d)
-        ∙ next (Σ n (λ m. w m * cond (eqb m i) v (b m))) (Σ n (λ m. w m * b m)) (w i * b i) (w i * v) (w n * b n) (ih (omega arith))
 
 -- a number added to one value, modulo Q: w·x is added to the sum
 pub Σ-added : (n i : ℕ) (w b : ℕ → ℕ) (x o : ℕ) → i < n → (Σ n (λ m. w m * cond (eqb m i) (zadd (b i) x) (b m)) + o) % Q ≡ (Σ n (λ m. w m * b m) + o + w i * x) % Q
@@ -76,13 +48,6 @@ pub Σ-added : (n i : ℕ) (w b : ℕ → ℕ) (x o : ℕ) → i < n → (Σ n (
 
     out : (s w b x o : ℕ) → s + o + w * (b + x) ≡ s + o + w * x + w * b
     out s w b x o = omega arith
-
--- a value is sent as it is computed with w·x added, just where w·x is what was missing
-pub missing-iff : (sent c v : ℕ) → Canonical sent → (sent ≡ (c + v) % Q) ↔ (v % Q ≡ zsub sent (c % Q))
-missing-iff sent c v h = (
-  λ e. sym (ap (λ k. (sent + (Q - k)) % Q) (mod-mod c Q) ∙ ap (λ k. (k + (Q - c % Q)) % Q) e ∙ mod-add-mod (c + v) Q (Q - c % Q) ∙ ap (λ k. (k + (Q - c % Q)) % Q) (add-comm c v) ∙ add-sub-mod Q (omega arith) v c),
-  λ e. sym (ap (λ k. k % Q) (add-comm c v) ∙ sym (mod-add-mod v Q c) ∙ ap (λ k. (k + c) % Q) (e ∙ ap (λ k. (sent + (Q - k)) % Q) (mod-mod c Q)) ∙ sub-add-mod Q (omega arith) sent c ∙ mod-eq-of-lt h),
-)
 
 -- twice a word below Q is 0 modulo Q for 0 alone, since Q is odd
 double-zero : (d : ℕ) → d < Q → (d + d) % Q ≡ 0 → d ≡ 0
@@ -148,7 +113,7 @@ module _ (X : Public) (M : Message) where
     row-iff : (x k : ℕ) → (sent k ≡ (Σ l (λ m. psi k m * cond (eqb m i) (zadd (b₀ i) x) (b₀ m)) + Σ 256 (λ j. X .omega k j * p j)) % Q) ↔ ((psi k i * x) % Q ≡ lacking k)
     row-iff x k =
         let e = Σ-added l i (psi k) b₀ x (Σ 256 (λ j. X .omega k j * p j)) h in
-        let m = missing-iff (sent k) (whole k) (psi k i * x) (coeff-canonical (b″ k) 0) in
+        let m = zsub-iff (sent k) (whole k) (psi k i * x) (coeff-canonical (b″ k) 0) in
         (λ f. m .0 (f ∙ e), λ f. m .1 f ∙ sym e)
 
     -- what passes check 22 supplies every row
