@@ -1,18 +1,19 @@
 -- Entries in the words of a list.
-use mathlib.Core.Path.{_≡_, refl, sym, ap, ap₂, subst, _∙_}
+use mathlib.Core.Path.{_≡_, refl, sym, ap, ap₂, _∙_}
 use mathlib.Core.List.{List, [], _∷_, _++_, flatMap, append-assoc}
-use Prim.Native.Nat.{ℕ, _+_, _*_, _-_, _≤_, _<_}
-use native.Mathlib.Nat.{zero-add}
+use Prim.Native.Nat.{ℕ, _+_, _*_, _≤_, _<_}
+use native.Mathlib.Nat.{zero-add, add-zero}
 use native.Mathlib.Numerals.{add-one}
 use native.Mathlib.Omega.{arith}
-use lib.ListN.{length, getD, set, drop, length-append, drop-of-length-le}
+use lib.ListN.{length, getD, set, take, drop, length-append, length-take, take-append-drop, drop-of-length-le}
 use lib.Seq.{drop-cons}
 use Rattle.lists.specs.Part.{splice}
-use Rattle.lists.proofs.Table.{length-table, getD-table}
-use Rattle.lists.proofs.Part.{length-flatMap}
+use Rattle.lists.proofs.Table.{length-table, getD-table, is-table}
+use Rattle.lists.proofs.Part.{length-flatMap, part-flatMap}
 use Rattle.lists.proofs.Additive.{flatMap-append}
-use Rattle.lists.proofs.Splice.{length-splice, splice-next, splice-nil, getD-splice-after}
+use Rattle.lists.proofs.Splice.{length-splice, splice-append, splice-again, splice-next, splice-nil, getD-splice-after, getD-splice-within, getD-part}
 use Rattle.protocol.specs.Mistyped.{Entry, entry-words}
+use Rattle.mistyped_list.proofs.Inserted.{length-insert}
 use Rattle.mistyped_list.specs.Insert.{entry, entry-at, entries, first-of, later-of, insert}
 
 -- two words for each entry
@@ -98,3 +99,48 @@ module _ {ws₀ : List ℕ} {count : ℕ} {e : Entry} where
       where
         none : drop j (entries count ws₀) ≡ []
         none = drop-of-length-le (entries count ws₀) {i = j} (omega (arith, length-table count (entry-at ws₀)))
+
+-- words written over words of which there are no more
+splice-over : (l : List ℕ) (new more : List ℕ) → length new ≤ length more → length more ≤ length l → splice (splice l 0 new) 0 more ≡ splice l 0 more
+splice-over l new more h k =
+    ap (splice (splice l 0 new) 0) (sym halves)
+    ∙ sym (splice-append (splice l 0 new) 0 front back)
+    ∙ ap (λ m. splice m (0 + length front) back) (splice-again 0 l 0 new front (sym size) (omega arith))
+    ∙ splice-append l 0 front back
+    ∙ ap (splice l 0) halves
+  where
+    front : List ℕ
+    front = take (length new) more
+
+    back : List ℕ
+    back = drop (length new) more
+
+    halves : front ++ back ≡ more
+    halves = take-append-drop (length new) more
+
+    size : length front ≡ length new
+    size = length-take (length new) more ∙ omega arith
+
+module _ (ws : List ℕ) (es : List Entry) (fits : 2 * length es ≤ length ws) where
+  -- a word of an entry
+  word-of : (i k : ℕ) → i < length es → k < 2 → getD (splice ws 0 (entry-words es)) (2 * i + k) 0 ≡ getD ((getD es i (entry 0 0) .index) ∷ (getD es i (entry 0 0) .number) ∷ []) k 0
+  word-of i k h g =
+      ap (λ j. getD (splice ws 0 (entry-words es)) j 0) (sym (zero-add (2 * i + k)))
+      ∙ getD-splice-within ws 0 (entry-words es) (2 * i + k) 0 (omega (arith, length-words es)) (omega (arith, length-words es))
+      ∙ sym (getD-part 0 (entry-words es) (2 * i) 2 k g)
+      ∙ ap (λ l. getD l k 0) (part-flatMap (λ e. e .index ∷ e .number ∷ []) 2 (λ e. refl) es i (entry 0 0) h)
+
+  -- entries that are stored are read back
+  pub read-back : entries (length es) (splice ws 0 (entry-words es)) ≡ es
+  read-back =
+      sym (is-table (length es) es (entry-at (splice ws 0 (entry-words es))) (entry 0 0) refl
+      (λ i h. sym (ap₂ entry (ap (λ j. getD (splice ws 0 (entry-words es)) j 0) (sym (add-zero (2 * i))) ∙ word-of i 0 h (omega arith)) (word-of i 1 h (omega arith)))))
+
+  -- an entry put among entries that are stored
+  pub insert-stored : (e : Entry) (count : ℕ) → length es ≡ count → 2 * count + 2 ≤ length ws
+      → splice (splice ws 0 (entry-words es)) 0 (entry-words (insert e (entries count (splice ws 0 (entry-words es))))) ≡ splice ws 0 (entry-words (insert e es))
+  insert-stored e count h room =
+      ap (λ l. splice (splice ws 0 (entry-words es)) 0 (entry-words (insert e l))) (ap (λ n. entries n (splice ws 0 (entry-words es))) (sym h) ∙ read-back)
+      ∙ splice-over ws (entry-words es) (entry-words (insert e es))
+      (omega (arith, length-words es, length-words (insert e es), length-insert e es))
+      (omega (arith, length-words (insert e es), length-insert e es))
