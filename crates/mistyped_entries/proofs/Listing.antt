@@ -1,21 +1,20 @@
 -- The list index after index: each adds its entry, or none where nothing mends.
 use mathlib.Core.Path.{_≡_, refl, sym, ap, ap₂, subst, _∙_}
-use mathlib.Core.Bool.{true, false}
 use mathlib.Core.Logic.{_⊎_, inl, inr}
-use mathlib.Core.List.{List, [], List·Memᴰ, List·Memᴰ·not-nil}
+use mathlib.Core.List.{List, [], flatMap, List·Memᴰ, List·Memᴰ·not-nil}
 use Prim.Native.Nat.{ℕ, suc, _+_, _*_, _%_, _≤_, _<_}
 use native.Mathlib.Nat.{eq-or-lt-of-le, le-of-suc-le-suc}
 use native.Mathlib.Numerals.{add-one}
 use native.Mathlib.Omega.{arith}
 use lib.ListN.{length, getD}
 use Rattle.lists.specs.Part.{splice}
-use Rattle.lists.proofs.Splice.{splice-nil}
+use Rattle.lists.proofs.Splice.{length-splice, splice-nil}
 use Rattle.lists.proofs.Padded.{padded-below}
-use Rattle.definitions.specs.Zq.{Q, Canonical}
+use Rattle.definitions.specs.Zq.{Q}
 use Rattle.protocol.specs.Parameters.{parameters}
 use Rattle.protocol.specs.Layout.{start, randomness-sections}
 use Rattle.protocol.specs.Views.{Public, Message, public, message}
-use Rattle.protocol.specs.Mistyped.{Entry, comes-before, Ordered, Listed, Mends, Smallest, entry-words}
+use Rattle.protocol.specs.Mistyped.{Entry, Ordered, Listed, Mends, Smallest, entry-words}
 use Rattle.protocol.proofs.Mistyped as Mistyped
 use Rattle.protocol.proofs.Mistyped.{passes-supplies, supplies-passes}
 use Rattle.protocol.proofs.MistypedList.{before-other}
@@ -148,6 +147,7 @@ module _ {J R T : List ℕ} {p : EnvironmentParameters} (w : Sent J R T p) (psi 
           found = insert (entry i x) (e .found);
           listed = listed-next X M i (e .found) (e .listed) x small;
           size = length-insert (entry i x) (e .found) ∙ ap suc (e .size);
+          few = let f = e .few in omega arith;
           words = again list (e .words) ∙ insert-stored list₀ (e .found) (omega (arith, e .size)) (entry i x) count (e .size) room;
         }
       where
@@ -158,5 +158,15 @@ module _ {J R T : List ℕ} {p : EnvironmentParameters} (w : Sent J R T p) (psi 
       found = e .found;
       listed = listed-skip X M i (e .found) (e .listed) (λ y m. f y (supplies-give y (passes-supplies X M i inside y (m .1))));
       size = e .size;
+      few = let f = e .few in omega arith;
       words = e .words;
     }
+
+-- no index yet
+pub entered-none : (J R T list : List ℕ) → Entered J R T 0 list 0 list
+unfolding flatMap
+entered-none J R T list = record { found = []; listed = listed-none (public J R) (message (parameters J) T); size = refl; few = omega arith; words = sym (splice-nil list 0) }
+
+-- the list keeps its length
+pub entered-length : {J R T : List ℕ} {i : ℕ} {list₀ : List ℕ} {count : ℕ} {list : List ℕ} → Entered J R T i list₀ count list → length list ≡ length list₀
+entered-length {list₀ = list₀} e = ap length (e .words) ∙ length-splice list₀ 0 (entry-words (e .found))

@@ -2,12 +2,15 @@
 use mathlib.Core.Path.{_≡_, refl, sym, ap, ap₂, subst, _∙_}
 use mathlib.Core.Bool.{cond}
 use mathlib.Core.List.{List}
-use Prim.Native.Nat.{ℕ, _+_, _*_, _<_}
+use Prim.Native.Nat.{ℕ, _+_, _*_, _≤_, _<_}
+use native.Mathlib.Nat.{mod-lt}
+use native.Mathlib.Omega.{arith}
 use lib.Dec.{ltb}
-use lib.ListN.{getD, replicate, getD-replicate}
+use lib.ListN.{length, getD, replicate, getD-replicate}
 use Rattle.lists.specs.Table.{padded}
 use Rattle.lists.proofs.Table.{is-table}
-use Rattle.definitions.specs.Zq.{zsub}
+use Rattle.lists.proofs.Padded.{padded-below}
+use Rattle.definitions.specs.Zq.{Canonical, zsub}
 use Rattle.definitions.proofs.Cases.{ltb-cases}
 use Rattle.protocol.specs.Parameters.{parameters}
 use Rattle.protocol.specs.Layout.{start, job-sections, randomness-sections, transcript-sections}
@@ -16,6 +19,7 @@ use Rattle.protocol.proofs.Mistyped.{rows}
 use Rattle.relation.specs.declared.env_params.EnvironmentParameters.{EnvironmentParameters}
 use Rattle.relation.specs.Parameters.{parametersOf}
 use Rattle.verifier_common.specs.Work.{Sent}
+use Rattle.verifier_common.proofs.Sent.{reckoned}
 use Rattle.verifier_norms.specs.Terms.{constant-term}
 use Rattle.verifier_norms.proofs.Terms.{Terms, terms}
 use Rattle.mistyped_entries.specs.Lacking.{lacking, all-lacking, NoneBefore}
@@ -43,3 +47,35 @@ unfolding padded
 none-before J R T from h =
     is-table 32 (replicate 32 0) (λ i. cond (ltb i from) (lacking J R T i) 0) 0 refl
     (λ i l. getD-replicate 32 i 0 0 l ∙ ltb-cases (λ t. 0 ≡ cond t (lacking J R T i) 0) i from (λ k. sym (h i k)) (λ k. refl))
+
+module _ {J R T : List ℕ} {p : EnvironmentParameters} (w : Sent J R T p) where
+  -- at most 32 rows, and at most 64 indexes
+  pub few-rows : p .«const_agg_length» ≤ 32
+  few-rows = omega (arith, reckoned (w .posed) .aggregated)
+
+  pub few-indexes : p .«constraint_l» ≤ 64
+  few-indexes = reckoned (w .posed) .within .l .1
+
+  module _ (psi : ℕ) (at : psi ≡ start (randomness-sections (parametersOf p)) 1) where
+    -- the weights of row k
+    weights-room : (k : ℕ) → k < p .«const_agg_length» → psi + k * p .«constraint_l» + p .«constraint_l» ≤ length R
+    weights-room k h = row-terms w _ psi _ _ _ refl at refl refl refl .psi-room k h
+
+    -- a weight of row k lies within the randomness
+    pub weight-within : (i : ℕ) → i < p .«constraint_l» → (k : ℕ) → k < p .«const_agg_length» → psi + i + k * p .«constraint_l» < length R
+    weight-within i h k g = omega (arith, weights-room k g)
+
+    -- and so does the place of an index
+    pub index-within : (i : ℕ) → i < p .«constraint_l» → psi + i < length R
+    index-within i h = first psi i (p .«constraint_l») (length R) (weight-within i h 0 (subst (λ n. 0 < n) (sym (ap (λ P. P .L) (w .posed .same))) (positive (w .posed .sound .aggregated .0))))
+      where
+        first : (a i l n : ℕ) → a + i + 0 * l < n → a + i < n
+        first a i l n h = omega arith
+
+        positive : {n : ℕ} → 4 ≤ n → 0 < n
+        positive h = omega arith
+
+-- what a row lacks is canonical
+pub canonical-lacking : (J R T : List ℕ) (n : ℕ) → n ≤ 32 → (rows : List ℕ) → rows ≡ all-lacking J R T n → (k : ℕ) → k < n → Canonical (getD rows k 0)
+canonical-lacking J R T n few rows e k h =
+    subst Canonical (sym (ap (λ l. getD l k 0) e ∙ padded-below 32 0 (lacking J R T) n k (omega arith) h)) (mod-lt _ (omega arith))

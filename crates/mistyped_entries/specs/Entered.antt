@@ -1,7 +1,7 @@
 -- The entries found, in the words of the list.
 use mathlib.Core.Path.{_≡_}
 use mathlib.Core.List.{List}
-use Prim.Native.Nat.{ℕ, suc}
+use Prim.Native.Nat.{ℕ, suc, _≤_}
 use lib.ListN.{length}
 use Rattle.lists.specs.Part.{splice}
 use Rattle.protocol.specs.Parameters.{parameters}
@@ -26,4 +26,5 @@ pub record Entered (J R T : List ℕ) (below : ℕ) (list : List ℕ) (count : �
   pub found : List Entry
   pub listed : Listed (public J R) (message (parameters J) T) below found
   pub size : length found ≡ count
+  pub few : count ≤ below
   pub words : list′ ≡ splice list 0 (entry-words found)

@@ -1,65 +1,72 @@
+-- `enter_all` meets its contract. The loop's invariant: the entries of the first i indexes stand in the list.
+use mathlib.Core.Path.{_≡_, sym, subst}
+use Prim.Native.Nat.{_+_, _*_, _-_, _≤_, _<_}
+use native.Mathlib.Omega.{arith}
+use lib.ListN.{length}
+use Rattle.protocol.specs.Layout.{start, randomness-sections}
+use Rattle.relation.specs.Parameters.{parametersOf}
+use Rattle.congruence.specs.Congruence.{Found}
+use Rattle.mistyped_rows.specs.Rows.{Supplies}
+use Rattle.verifier_common.proofs.Sent.{reckoned}
+use Rattle.mistyped_entries.specs.Lacking.{all-lacking}
+use Rattle.mistyped_entries.specs.Entered.{entered-count, Entered}
+use Rattle.mistyped_entries.proofs.Row.{few-rows, few-indexes, weight-within, index-within, canonical-lacking}
+use Rattle.mistyped_entries.proofs.Listing.{entered-none, entered-next, entered-length}
 use Rattle.mistyped_entries.proofs.enter_all.Statement.{statement}
 use Rattle.mistyped_entries.proofs.enter_all.Tie as tie
-use Rattle.mistyped_entries.proofs.enter_all.Reads as reads
-use Rattle.mistyped_entries.proofs.enter_all.Lts as lts
-use Rattle.mistyped_entries.proofs.enter.Reads as enter-reads
-use Rattle.mistyped_entries.proofs.rows_lacking.Reads as rows-lacking-reads
-use Rattle.mistyped_rows.proofs.smallest_for.Reads as smallest-for-reads
-use Rattle.sizes.proofs.offsets.of_randomness.Reads as of-randomness-reads
 
 abbrev Inv-loop : tie.InvT-loop
-Inv-loop job randomness transcript p from list₀ rows psi l count₀ i₀ list count i = ?
+Inv-loop job randomness transcript p from list₀ rows psi l count₀ i₀ list count i =
+    (i ≤ l) × (psi ≡ start (randomness-sections (parametersOf p)) 1) × (rows ≡ all-lacking job randomness transcript (p .«const_agg_length»)) × Entered job randomness transcript i list₀ count list
 
 abbrev μ-loop : tie.MeasureT-loop
-μ-loop job randomness transcript p from list₀ rows psi l count₀ i₀ list count i = ?
+μ-loop job randomness transcript p from list₀ rows psi l count₀ i₀ list count i = l - i
 
--- src/lib.rt:94:9
-rows-lacking-requires : tie.Need-rows-lacking-requires Inv-loop μ-loop
-rows-lacking-requires c κs = ?
-
--- src/lib.rt:95:9
-of-randomness-requires : tie.Need-of-randomness-requires Inv-loop μ-loop
-of-randomness-requires c κs = ?
-
--- src/lib.rt:99:5
 loop-holds : tie.Need-loop-holds Inv-loop μ-loop
-loop-holds c = ?
+loop-holds c = (omega arith, c .of-randomness .ensures, c .before .rows-lacking .ensures, entered-none _ _ _ _)
 
--- src/lib.rt:100:61
-add-smallest-for : tie.Need-add-smallest-for Inv-loop μ-loop
-add-smallest-for c = ?
-
--- src/lib.rt:100:13
 smallest-for-requires : tie.Need-smallest-for-requires Inv-loop μ-loop
-smallest-for-requires c κs = ?
+smallest-for-requires c κs =
+    let s = c .before .before .before .before .before .before .before .before in
+    let w = s .pre .0 .0 in
+    let l = c .before .loop in (
+      (few-rows w, weight-within w _ (l .inv .1) (l .i) (omega arith)),
+      canonical-lacking (s .args .job .now) (s .args .randomness .now) (s .args .transcript .now) (s .args .p .«const_agg_length») (few-rows w) (c .before .before .before .rows-lacking .result) (l .inv .2),
+    )
 
--- src/lib.rt:101:36
-cast-enter : tie.Need-cast-enter Inv-loop μ-loop
-cast-enter c = ?
+-- a turn's index
+below : (c : tie.In-loop Inv-loop μ-loop) → c .before .loop .i < c .before .before .before .before .before .before .before .before .args .p .«constraint_l»
+below c = omega arith
 
--- src/lib.rt:101:9
-enter-requires : tie.Need-enter-requires Inv-loop μ-loop
-enter-requires c κs = ?
+-- two more words lie within the list
+room : (c : tie.After-enter-arg Inv-loop μ-loop) → 2 * c .before .before .before .loop .count + 2 ≤ length (c .before .before .before .loop .list)
+room c =
+    let l = c .before .before .before .loop in
+    omega (arith, l .inv .3 .few, entered-length (l .inv .3), c .before .before .before .before .before .before .before .before .before .before .pre .0 .1)
 
--- src/lib.rt:102:9
-add-i : tie.Need-add-i Inv-loop μ-loop
-add-i c = ?
-
--- src/lib.rt:99:5
-loop-less : tie.Need-loop-less Inv-loop μ-loop
-loop-less c = ?
-
--- src/lib.rt:99:5
 loop-again : tie.Need-loop-again Inv-loop μ-loop
-loop-again c = ?
+loop-again c =
+    let l = c .before .before .before .before .before .before .loop in
+    let s = c .before .before .before .before .before .before .before .before .before .before .before .before .before in
+    let a = s .args in
+    let w = s .pre .0 .0 in
+    let psi = c .before .before .before .before .before .before .before .of-randomness .result in
+    let f = c .before .before .before .before .smallest-for in
+    let e = c .before .before .enter in
+    let found = subst (λ r. Found (Supplies (a .randomness .now) (psi + l .i) (a .p .«constraint_l») r (a .p .«const_agg_length»)) (f .result)) (l .inv .2) (f .ensures) in
+    let next = entered-next w psi (l .inv .1) (l .i) (below (c .before .before .before .before .before)) (few-rows w) (a .list .now) (l .count) (l .list) (f .result) (omega (arith, room (c .before .before .before), entered-length (l .inv .3))) found (l .inv .3) in (
+      omega (arith, below (c .before .before .before .before .before)),
+      l .inv .1,
+      l .inv .2,
+      subst (λ n. Entered (a .job .now) (a .randomness .now) (a .transcript .now) (l .i + 1) (a .list .now) n (e .last .0)) (sym (e .ensures .0))
+          (subst (λ x. Entered (a .job .now) (a .randomness .now) (a .transcript .now) (l .i + 1) (a .list .now) (entered-count (f .result) (l .count)) x) (sym (e .ensures .1)) next),
+    )
 
--- src/lib.rt:82:1
-same-length : tie.Need-same-length Inv-loop μ-loop
-same-length c = ?
-
--- src/lib.rt:82:1
 returns : tie.Need-returns Inv-loop μ-loop
-returns c = ?
+returns c =
+    let l = c .before .loop in
+    let s = c .before .before .before .before .before .before .before .before .args in
+    subst (λ n. Entered (s .job .now) (s .randomness .now) (s .transcript .now) n (s .list .now) (l .count) (l .list)) (omega arith) (l .inv .3)
 
 pub enter-all-spec : {M : Type 1} → statement M
 enter-all-spec =
@@ -67,15 +74,15 @@ enter-all-spec =
     (tie.spec
     Inv-loop
     μ-loop
-    rows-lacking-requires
-    of-randomness-requires
+    (λ c κs. (c .before .before .before .before .pre .0 .0, c .before .before .before .before .pre .1))
+    (λ c κs. (reckoned (c .before .before .before .before .before .pre .0 .0 .posed), omega arith))
     loop-holds
-    add-smallest-for
+    (λ c. let s = c .before .before .before .before .before .before .before .before in omega (arith, index-within (s .pre .0 .0) _ (c .before .loop .inv .1) (c .before .loop .i) (omega arith)))
     smallest-for-requires
-    cast-enter
-    enter-requires
-    add-i
-    loop-less
+    (λ c. let s = c .before .before .before .before .before .before .before .before .before .before in omega (arith, few-indexes (s .pre .0 .0)))
+    (λ c κs. room c)
+    (λ c. omega arith)
+    (λ c. omega arith)
     loop-again
-    same-length
+    (λ c. entered-length (c .before .loop .inv .3))
     returns)
