@@ -4,7 +4,7 @@ use mistyped::call;
 ghost use mathlib.Core.Path.{_≡_};
 ghost use lib.ListN.{length};
 ghost use Rattle.protocol.specs.Mistyped.{mistyped-scratch};
-ghost use Rattle.mistyped.specs.Answers.{Mistyped};
+ghost use Rattle.mistyped.specs.Told.{Mistyped};
 
 // After a failed check 22, each index of b0 at which adding one number mends it, with the number of smallest centred size.
 #[no_mangle]

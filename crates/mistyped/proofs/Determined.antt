@@ -13,7 +13,7 @@ use Rattle.protocol.specs.Views.{public, message}
 use Rattle.protocol.specs.Mistyped.{Entry, judged, some-entry, mistyped, mistyped-list, mistyped-refusal, verdict-of, written, list-need}
 use Rattle.protocol.proofs.MistypedList.{listed-unique}
 use Rattle.mistyped.specs.declared.answers.MistypedAnswer.{MistypedAnswer}
-use Rattle.mistyped.specs.Answers.{mistypedAnswer, Mistyped}
+use Rattle.mistyped.specs.Told.{mistypedAnswer, Mistyped}
 
 -- what is answered of entries, and which stand in the list
 record Outcome : Type 0 where

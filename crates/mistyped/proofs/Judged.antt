@@ -17,7 +17,7 @@ use Rattle.verifier_common.specs.Work.{Sent}
 use Rattle.mistyped_list.proofs.Words.{length-words}
 use Rattle.mistyped_entries.specs.Entered.{Entered}
 use Rattle.mistyped.specs.declared.answers.MistypedAnswer.{MistypedAnswer}
-use Rattle.mistyped.specs.Answers.{mistypedAnswer, countedAnswer, kept, Judged, Worked}
+use Rattle.mistyped.specs.Told.{mistypedAnswer, countedAnswer, kept, Judged, Worked}
 use Rattle.mistyped.proofs.Verdicts.{Without}
 
 -- a value that does not depend on the answer
@@ -66,10 +66,10 @@ module _ (J R T : List ℕ) (list : List ℕ) where
       }
 
 -- zeros from one place on
-drop-zeros : (k n : ℕ) → k ≤ n → drop k (replicate n 0) ≡ replicate (n - k) 0
+drop-zeros : (k n : ℕ) → k ≤ n → drop {A = ℕ} k (replicate n 0) ≡ replicate (n - k) 0
 drop-zeros k n h =
-    ap (drop k) (ap (λ m. replicate m 0) whole ∙ sym (replicate-append-replicate k (n - k) 0))
-    ∙ drop-at (replicate k 0) (replicate (n - k) 0) k (length-replicate k 0)
+    ap (drop {A = ℕ} k) (ap (λ m. replicate {A = ℕ} m 0) whole ∙ sym (replicate-append-replicate {A = ℕ} k (n - k) 0))
+    ∙ drop-at {A = ℕ} (replicate k 0) (replicate (n - k) 0) k (length-replicate {A = ℕ} k 0)
   where
     whole : n ≡ k + (n - k)
     whole = omega arith

@@ -1,5 +1,4 @@
 pub mod Verdicts
-pub mod FailedRow
 pub mod Judged
-pub mod Call
+pub mod Whole
 pub mod Determined

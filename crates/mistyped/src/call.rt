@@ -2,7 +2,6 @@
 use crate::answers;
 use crate::answers::MistypedAnswer;
 use admission::answers::Admitted;
-use admission_order::verifier;
 use definitions::answers::FailedCheck;
 use definitions::answers::Verdict;
 use relation::env_params::EnvironmentParameters;
@@ -17,7 +16,7 @@ ghost use Rattle.protocol.specs.Prover.{zeroed};
 ghost use Rattle.protocol.specs.Mistyped.{verdict-of, list-need, mistyped-scratch};
 ghost use Rattle.admission.specs.Admission.{Verifiable};
 ghost use Rattle.verifier_common.specs.Work.{Sent};
-ghost use Rattle.mistyped.specs.Answers.{Judged, Worked, Mistyped};
+ghost use Rattle.mistyped.specs.Told.{Judged, Worked, Mistyped};
 
 // The list where check 22 is the failed one, and 32 where it is another.
 fn judge_failed(
@@ -32,10 +31,10 @@ fn judge_failed(
     requires { ⌜ ofFailed check ≡ verdict-of (now job) (now randomness) (now transcript) ⌝ }
     ensures { λ r. ⌜ Judged (now (job .entry)) (now (randomness .entry)) (now (transcript .entry)) (now (list .entry)) (now (list .exit)) r ⌝ }
 {
-    let FailedCheck::B0Mismatch { index, .. } = check else {
+    let FailedCheck::B0Mismatch { .. } = check else {
         return answers::refused(32, 0);
     };
-    let entries = mistyped_entries::enter_all(job, randomness, transcript, p, index, list);
+    let entries = mistyped_entries::enter_all(job, randomness, transcript, p, list);
     answers::counted(entries)
 }
 
@@ -88,7 +87,7 @@ pub fn mistyped(
     ensures { λ r. ⌜ Mistyped (now (job .entry)) (now (randomness .entry)) (now (transcript .entry)) (length (now (scratch .entry))) (now (list .entry)) (now (list .exit)) r ⌝ }
     ensures { λ r. ⌜ now (scratch .exit) ≡ mistyped-scratch (now (job .entry)) (now (randomness .entry)) (now (transcript .entry)) (now (scratch .entry)) (length (now (list .entry))) ⌝ }
 {
-    match verifier::admit(job, randomness, transcript, scratch.len()) {
+    match admission_order::verifier::admit(job, randomness, transcript, scratch.len()) {
         Admitted::Refused(refusal) => answers::refusal_of(refusal),
         Admitted::Fit(p) => {
             let need = 2 * p.constraint_l;

@@ -1,17 +1,12 @@
 -- The rows of check 22 at the places where the code finds their words.
 use mathlib.Core.Path.{_≡_, refl, sym, ap, ap₂, subst, _∙_}
-use mathlib.Core.Bool.{cond}
 use mathlib.Core.List.{List}
 use Prim.Native.Nat.{ℕ, _+_, _*_, _≤_, _<_}
 use native.Mathlib.Nat.{mod-lt}
 use native.Mathlib.Omega.{arith}
-use lib.Dec.{ltb}
-use lib.ListN.{length, getD, replicate, getD-replicate}
-use Rattle.lists.specs.Table.{padded}
-use Rattle.lists.proofs.Table.{is-table}
+use lib.ListN.{length, getD}
 use Rattle.lists.proofs.Padded.{padded-below}
 use Rattle.definitions.specs.Zq.{Canonical, zsub}
-use Rattle.definitions.proofs.Cases.{ltb-cases}
 use Rattle.protocol.specs.Parameters.{parameters}
 use Rattle.protocol.specs.Layout.{start, job-sections, randomness-sections, transcript-sections}
 use Rattle.protocol.specs.Views.{public, message}
@@ -22,7 +17,7 @@ use Rattle.verifier_common.specs.Work.{Sent}
 use Rattle.verifier_common.proofs.Sent.{reckoned}
 use Rattle.verifier_norms.specs.Terms.{constant-term}
 use Rattle.verifier_norms.proofs.Terms.{Terms, terms}
-use Rattle.mistyped_entries.specs.Lacking.{lacking, all-lacking, NoneBefore}
+use Rattle.mistyped_entries.specs.Lacking.{lacking, all-lacking}
 
 module _ {J R T : List ℕ} {p : EnvironmentParameters} (w : Sent J R T p) where
   -- check 22 has L rows
@@ -40,13 +35,6 @@ module _ {J R T : List ℕ} {p : EnvironmentParameters} (w : Sent J R T p) where
 pub lacking-is : {J R T : List ℕ} {n l b0 psi om projection at : ℕ} → Terms J R T n l b0 psi om projection at → (k computed : ℕ) → k < n
     → computed ≡ constant-term J b0 l R (psi + k * l) (om + k * 256) T projection → zsub (getD T (at + 64 * k) 0) computed ≡ lacking J R T k
 lacking-is m k computed h e = ap₂ zsub (sym (m .sent-is k h)) (e ∙ sym (m .computed-is k))
-
--- where the rows before one lack nothing, what they lack are zeros
-pub none-before : (J R T : List ℕ) (from : ℕ) → NoneBefore J R T from → replicate 32 0 ≡ all-lacking J R T from
-unfolding padded
-none-before J R T from h =
-    is-table 32 (replicate 32 0) (λ i. cond (ltb i from) (lacking J R T i) 0) 0 refl
-    (λ i l. getD-replicate 32 i 0 0 l ∙ ltb-cases (λ t. 0 ≡ cond t (lacking J R T i) 0) i from (λ k. sym (h i k)) (λ k. refl))
 
 module _ {J R T : List ℕ} {p : EnvironmentParameters} (w : Sent J R T p) where
   -- at most 32 rows, and at most 64 indexes

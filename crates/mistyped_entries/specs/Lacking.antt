@@ -1,7 +1,6 @@
 -- What the rows of check 22 lack.
-use mathlib.Core.Path.{_≡_}
 use mathlib.Core.List.{List}
-use Prim.Native.Nat.{ℕ, _<_}
+use Prim.Native.Nat.{ℕ}
 use Rattle.lists.specs.Table.{padded}
 use Rattle.protocol.specs.Parameters.{parameters}
 use Rattle.protocol.specs.Views.{public, message}
@@ -15,7 +14,3 @@ module _ (J R T : List ℕ) where
   -- what each row lacks, in 32 places
   abbrev pub all-lacking : (rows : ℕ) → List ℕ
   all-lacking rows = padded 32 rows 0 lacking
-
-  -- the rows before one lack nothing
-  abbrev pub NoneBefore : ℕ → Type 0
-  NoneBefore from = (k : ℕ) → k < from → lacking k ≡ 0

@@ -8,7 +8,7 @@ ghost use mathlib.Core.Path.{_≡_};
 ghost use Prim.Native.Nat.{_+_, _*_, _≤_, _<_};
 ghost use lib.ListN.{length};
 ghost use Rattle.verifier_common.specs.Work.{Sent};
-ghost use Rattle.mistyped_entries.specs.Lacking.{lacking, all-lacking, NoneBefore};
+ghost use Rattle.mistyped_entries.specs.Lacking.{lacking, all-lacking};
 ghost use Rattle.mistyped_entries.specs.Entered.{entered-count, entered-list, Entered};
 
 // What row k lacks: the constant coefficient of b''_k less Σ psi[k][l]·b0[l] + Σ omega[k][j]·p[j].
@@ -42,20 +42,18 @@ fn row_lacking(
     Zq(sent).sub(Zq(computed)).0
 }
 
-// What each row lacks. Those before `from` lack nothing.
+// What each row lacks.
 fn rows_lacking(
     job: &[u32],
     randomness: &[u32],
     transcript: &[u32],
     p: EnvironmentParameters,
-    from: usize,
 ) -> [u32; 32]
     requires { ⌜ Sent (now job) (now randomness) (now transcript) p ⌝ }
-    requires { ⌜ (from ≤ p .«const_agg_length») × NoneBefore (now job) (now randomness) (now transcript) from ⌝ }
     ensures { λ r. ⌜ r ≡ all-lacking (now (job .entry)) (now (randomness .entry)) (now (transcript .entry)) (p .«const_agg_length») ⌝ }
 {
     let mut rows = [0u32; 32];
-    let mut k = from;
+    let mut k = 0;
     while k < p.const_agg_length {
         rows[k] = row_lacking(job, randomness, transcript, p, k);
         k += 1;
@@ -84,14 +82,12 @@ pub fn enter_all(
     randomness: &[u32],
     transcript: &[u32],
     p: EnvironmentParameters,
-    from: usize,
     list: &mut [u32],
 ) -> usize
     requires { ⌜ Sent (now job) (now randomness) (now transcript) p × (2 * p .«constraint_l» ≤ length (now list)) ⌝ }
-    requires { ⌜ (from ≤ p .«const_agg_length») × NoneBefore (now job) (now randomness) (now transcript) from ⌝ }
     ensures { λ r. ⌜ Entered (now (job .entry)) (now (randomness .entry)) (now (transcript .entry)) (p .«constraint_l») (now (list .entry)) r (now (list .exit)) ⌝ }
 {
-    let rows = rows_lacking(job, randomness, transcript, p, from);
+    let rows = rows_lacking(job, randomness, transcript, p);
     let psi = offsets::of_randomness(p, 1);
     let l = p.constraint_l;
     let mut count = 0;

@@ -16,11 +16,11 @@ use Rattle.mistyped_entries.proofs.enter_all.Statement.{statement}
 use Rattle.mistyped_entries.proofs.enter_all.Tie as tie
 
 abbrev Inv-loop : tie.InvT-loop
-Inv-loop job randomness transcript p from list₀ rows psi l count₀ i₀ list count i =
+Inv-loop job randomness transcript p list₀ rows psi l count₀ i₀ list count i =
     (i ≤ l) × (psi ≡ start (randomness-sections (parametersOf p)) 1) × (rows ≡ all-lacking job randomness transcript (p .«const_agg_length»)) × Entered job randomness transcript i list₀ count list
 
 abbrev μ-loop : tie.MeasureT-loop
-μ-loop job randomness transcript p from list₀ rows psi l count₀ i₀ list count i = l - i
+μ-loop job randomness transcript p list₀ rows psi l count₀ i₀ list count i = l - i
 
 loop-holds : tie.Need-loop-holds Inv-loop μ-loop
 loop-holds c = (omega arith, c .of-randomness .ensures, c .before .rows-lacking .ensures, entered-none _ _ _ _)
@@ -28,7 +28,7 @@ loop-holds c = (omega arith, c .of-randomness .ensures, c .before .rows-lacking 
 smallest-for-requires : tie.Need-smallest-for-requires Inv-loop μ-loop
 smallest-for-requires c κs =
     let s = c .before .before .before .before .before .before .before .before in
-    let w = s .pre .0 .0 in
+    let w = s .pre .0 in
     let l = c .before .loop in (
       (few-rows w, weight-within w _ (l .inv .1) (l .i) (omega arith)),
       canonical-lacking (s .args .job .now) (s .args .randomness .now) (s .args .transcript .now) (s .args .p .«const_agg_length») (few-rows w) (c .before .before .before .rows-lacking .result) (l .inv .2),
@@ -42,14 +42,14 @@ below c = omega arith
 room : (c : tie.After-enter-arg Inv-loop μ-loop) → 2 * c .before .before .before .loop .count + 2 ≤ length (c .before .before .before .loop .list)
 room c =
     let l = c .before .before .before .loop in
-    omega (arith, l .inv .3 .few, entered-length (l .inv .3), c .before .before .before .before .before .before .before .before .before .before .pre .0 .1)
+    omega (arith, l .inv .3 .few, entered-length (l .inv .3), c .before .before .before .before .before .before .before .before .before .before .pre .1)
 
 loop-again : tie.Need-loop-again Inv-loop μ-loop
 loop-again c =
     let l = c .before .before .before .before .before .before .loop in
     let s = c .before .before .before .before .before .before .before .before .before .before .before .before .before in
     let a = s .args in
-    let w = s .pre .0 .0 in
+    let w = s .pre .0 in
     let psi = c .before .before .before .before .before .before .before .of-randomness .result in
     let f = c .before .before .before .before .smallest-for in
     let e = c .before .before .enter in
@@ -74,12 +74,12 @@ enter-all-spec =
     (tie.spec
     Inv-loop
     μ-loop
-    (λ c κs. (c .before .before .before .before .pre .0 .0, c .before .before .before .before .pre .1))
-    (λ c κs. (reckoned (c .before .before .before .before .before .pre .0 .0 .posed), omega arith))
+    (λ c κs. c .before .before .before .before .pre .0)
+    (λ c κs. (reckoned (c .before .before .before .before .before .pre .0 .posed), omega arith))
     loop-holds
-    (λ c. let s = c .before .before .before .before .before .before .before .before in omega (arith, index-within (s .pre .0 .0) _ (c .before .loop .inv .1) (c .before .loop .i) (omega arith)))
+    (λ c. let s = c .before .before .before .before .before .before .before .before in omega (arith, index-within (s .pre .0) _ (c .before .loop .inv .1) (c .before .loop .i) (omega arith)))
     smallest-for-requires
-    (λ c. let s = c .before .before .before .before .before .before .before .before .before .before in omega (arith, few-indexes (s .pre .0 .0)))
+    (λ c. let s = c .before .before .before .before .before .before .before .before .before .before in omega (arith, few-indexes (s .pre .0)))
     (λ c κs. room c)
     (λ c. omega arith)
     (λ c. omega arith)

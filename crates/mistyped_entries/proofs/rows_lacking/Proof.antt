@@ -2,23 +2,22 @@
 use mathlib.Core.Path.{_≡_, ap, _∙_}
 use Prim.Native.Nat.{_-_, _≤_}
 use native.Mathlib.Omega.{arith}
-use Rattle.lists.proofs.Padded.{padded-next}
+use Rattle.lists.proofs.Padded.{padded-none, padded-next}
 use Rattle.verifier_common.proofs.Sent.{reckoned}
 use Rattle.mistyped_entries.specs.Lacking.{lacking, all-lacking}
-use Rattle.mistyped_entries.proofs.Row.{none-before}
 use Rattle.mistyped_entries.proofs.rows_lacking.Statement.{statement}
 use Rattle.mistyped_entries.proofs.rows_lacking.Tie as tie
 
 abbrev Inv-loop : tie.InvT-loop
-Inv-loop job randomness transcript p from rows₀ k₀ rows k = (k ≤ p .«const_agg_length») × (p .«const_agg_length» ≤ 32) × (rows ≡ all-lacking job randomness transcript k)
+Inv-loop job randomness transcript p rows₀ k₀ rows k = (k ≤ p .«const_agg_length») × (p .«const_agg_length» ≤ 32) × (rows ≡ all-lacking job randomness transcript k)
 
 abbrev μ-loop : tie.MeasureT-loop
-μ-loop job randomness transcript p from rows₀ k₀ rows k = p .«const_agg_length» - k
+μ-loop job randomness transcript p rows₀ k₀ rows k = p .«const_agg_length» - k
 
 loop-holds : tie.Need-loop-holds Inv-loop μ-loop
 loop-holds c =
     let s = c .before .before .before in
-    (s .pre .1 .0, omega (arith, reckoned (s .pre .0 .posed) .aggregated), none-before (s .args .job .now) (s .args .randomness .now) (s .args .transcript .now) (s .args .from) (s .pre .1 .1))
+    (omega arith, omega (arith, reckoned (s .pre .posed) .aggregated), padded-none 32 0 (lacking (s .args .job .now) (s .args .randomness .now) (s .args .transcript .now)))
 
 loop-again : tie.Need-loop-again Inv-loop μ-loop
 loop-again c =
@@ -42,7 +41,7 @@ rows-lacking-spec =
     Inv-loop
     μ-loop
     loop-holds
-    (λ c κs. (c .before .before .before .before .before .before .pre .0, c .if1 .taken))
+    (λ c κs. (c .before .before .before .before .before .before .pre, c .if1 .taken))
     (λ c. omega arith)
     (λ c. omega (arith, c .before .if1 .taken))
     (λ c. omega arith)

@@ -1,7 +1,7 @@
 -- The struct of the call as an answer, and what the call does to the list (document 02, Item 8).
 use mathlib.Core.Path.{_≡_}
 use mathlib.Core.List.{List, []}
-use Prim.Native.Nat.{ℕ, suc, _≤_}
+use Prim.Native.Nat.{ℕ, zero, suc, _≤_}
 use lib.ListN.{length}
 use Rattle.lists.specs.Part.{splice}
 use Rattle.definitions.specs.Answer.{Answer, fine, refused, number, place, result}
@@ -17,7 +17,7 @@ mistypedAnswer a entries = record { number = number a; place = place a; entries 
 
 -- what is answered by how many entries there are where check 22 is the failed one
 abbrev pub countedAnswer : ℕ → MistypedAnswer
-countedAnswer 0 = mistypedAnswer (refused 33 0) 0
+countedAnswer zero = mistypedAnswer (refused 33 0) 0
 countedAnswer (suc n) = mistypedAnswer fine (suc n)
 
 module _ (J R T : List ℕ) where

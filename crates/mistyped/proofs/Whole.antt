@@ -15,7 +15,7 @@ use Rattle.protocol.specs.Verifier.{verify-refusal}
 use Rattle.protocol.specs.Mistyped.{list-need, mistyped-refusal, mistyped, mistyped-list, mistyped-scratch, judged, verdict-of, written}
 use Rattle.protocol.proofs.Fine.{require-holds, require-fails, refused-not-fine}
 use Rattle.mistyped.specs.declared.answers.MistypedAnswer.{MistypedAnswer}
-use Rattle.mistyped.specs.Answers.{mistypedAnswer, kept, Worked, Mistyped}
+use Rattle.mistyped.specs.Told.{mistypedAnswer, kept, Worked, Mistyped}
 use Rattle.mistyped.proofs.Verdicts.{numbered}
 
 module _ (J R T S list : List ℕ) where
