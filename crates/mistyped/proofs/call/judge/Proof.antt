@@ -1,63 +1,39 @@
+-- `judge` meets its contract.
+use mathlib.Core.Path.{sym, ap, _∙_}
 use borrow.Author.Needs.{needs}
+use Rattle.definitions.specs.Answer.{ofVerdict}
+use Rattle.mistyped.proofs.Verdicts.{accepted-without, refused-without}
+use Rattle.mistyped.proofs.Judged.{judged-without}
 use Rattle.mistyped.proofs.call.judge.Statement.{statement}
 use Rattle.mistyped.proofs.call.judge.Tie as tie
-use Rattle.mistyped.proofs.call.judge.Reads as reads
-use Rattle.mistyped.proofs.call.judge.Lts as lts
-use Rattle.mistyped.proofs.answers.refusal_of.Reads as refusal-of-reads
-use Rattle.mistyped.proofs.answers.refused.Reads as refused-reads
-use Rattle.mistyped.proofs.call.judge_failed.Reads as judge-failed-reads
 
--- src/call.rt:55:30
-enum-told : tie.Need-enum-told
-enum-told c = search needs
-
--- src/call.rt:55:30
-refused-requires : tie.Need-refused-requires
-refused-requires c κs = search needs
-
--- src/call.rt:56:26
-enum-known-verdict : tie.Need-enum-known-verdict
-enum-known-verdict c = search needs
-
--- src/call.rt:56:38
-refusal-of-requires : tie.Need-refusal-of-requires
-refusal-of-requires c κs = search needs
-
--- src/call.rt:57:25
-enum-known-verdict-2 : tie.Need-enum-known-verdict-2
-enum-known-verdict-2 c = search needs
-
--- src/call.rt:57:35
 judge-failed-requires : tie.Need-judge-failed-requires
-judge-failed-requires c κs = ?
+judge-failed-requires c κs =
+    let s = c .before .before .before .before .before .before .before .before in
+    (s .pre .0, sym (ap ofVerdict (c .before .before .verdict2 .given .1)) ∙ s .pre .1)
 
--- src/call.rt:42:1
 returns : tie.Need-returns
-returns c = ?
+returns c =
+    let s = c .before .before .before .before .before .before .before in
+    judged-without (s .args .job .now) (s .args .randomness .now) (s .args .transcript .now) (s .args .list .now) (sym (ap ofVerdict (c .before .enum-told .given .1)) ∙ s .pre .1) accepted-without (c .refused .result) (c .refused .ensures)
 
--- src/call.rt:42:1
 returns-2 : tie.Need-returns-2
-returns-2 c = ?
-
--- src/call.rt:42:1
-same-length : tie.Need-same-length
-same-length c = search needs
-
--- src/call.rt:42:1
-returns-3 : tie.Need-returns-3
-returns-3 c = search needs
+returns-2 c =
+    let s = c .before .before .before .before .before .before .before .before in
+    let r = c .before .before .verdict .given in
+    judged-without (s .args .job .now) (s .args .randomness .now) (s .args .transcript .now) (s .args .list .now) (sym (ap ofVerdict (r .1)) ∙ s .pre .1) (refused-without (r .0 .0)) (c .refusal-of .result) (c .refusal-of .ensures)
 
 pub judge-spec : {M : Type 1} → statement M
 judge-spec =
     tie.close
     (tie.spec
-    enum-told
-    refused-requires
-    enum-known-verdict
-    refusal-of-requires
-    enum-known-verdict-2
+    (λ c. search needs)
+    (λ c κs. search needs)
+    (λ c. search needs)
+    (λ c κs. search needs)
+    (λ c. search needs)
     judge-failed-requires
     returns
     returns-2
-    same-length
-    returns-3)
+    (λ c. search needs)
+    (λ c. search needs))

@@ -1,48 +1,32 @@
+-- `judge_failed` meets its contract.
+use mathlib.Core.Path.{sym, ap, _∙_}
 use borrow.Author.Needs.{needs}
+use Rattle.definitions.specs.Answer.{ofFailed}
+use Rattle.mistyped.proofs.Verdicts.{failed-without}
+use Rattle.mistyped.proofs.Judged.{judged-without, judged-with}
 use Rattle.mistyped.proofs.call.judge_failed.Statement.{statement}
 use Rattle.mistyped.proofs.call.judge_failed.Tie as tie
-use Rattle.mistyped.proofs.call.judge_failed.Reads as reads
-use Rattle.mistyped.proofs.call.judge_failed.Lts as lts
-use Rattle.mistyped.proofs.answers.counted.Reads as counted-reads
-use Rattle.mistyped.proofs.answers.refused.Reads as refused-reads
-use Rattle.mistyped_entries.proofs.enter_all.Reads as enter-all-reads
 
--- src/call.rt:34:35
-enum-known-check : tie.Need-enum-known-check
-enum-known-check c = search needs
-
--- src/call.rt:35:9
-refused-requires : tie.Need-refused-requires
-refused-requires c κs = search needs
-
--- src/call.rt:35:9
 returns : tie.Need-returns
-returns c = ?
+returns c =
+    let s = c .before .before .before .before .before .before in
+    judged-without (s .args .job .now) (s .args .randomness .now) (s .args .transcript .now) (s .args .list .now) (s .pre .1) (failed-without (s .args .check) (c .before .match .keys2)) (c .refused .result) (c .refused .ensures)
 
--- src/call.rt:37:9
-enter-all-requires : tie.Need-enter-all-requires
-enter-all-requires c κs = ?
-
--- src/call.rt:38:5
-counted-requires : tie.Need-counted-requires
-counted-requires c κs = search needs
-
--- src/call.rt:22:1
-same-length : tie.Need-same-length
-same-length c = search needs
-
--- src/call.rt:22:1
 returns-2 : tie.Need-returns-2
-returns-2 c = ?
+returns-2 c =
+    let t = c .before .before .before .before .before in
+    let s = t .before .before .before .before .before .before in
+    judged-with (s .args .job .now) (s .args .randomness .now) (s .args .transcript .now) (s .args .list .now) (s .pre .0 .0) (sym (ap ofFailed (t .enum-told .given .1)) ∙ s .pre .1)
+    (c .before .before .before .enter-all .ensures) (c .counted .result) (c .counted .ensures)
 
 pub judge-failed-spec : {M : Type 1} → statement M
 judge-failed-spec =
     tie.close
     (tie.spec
-    enum-known-check
-    refused-requires
+    (λ c. search needs)
+    (λ c κs. search needs)
     returns
-    enter-all-requires
-    counted-requires
-    same-length
+    (λ c κs. search needs)
+    (λ c κs. search needs)
+    (λ c. search needs)
     returns-2)
