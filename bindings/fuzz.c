@@ -49,6 +49,8 @@ static answer of_verdict(labrador_verdict v) {
     return (answer){v.number, v.place, 6, {v.index, v.first_hi, v.first_lo, v.second_hi, v.second_lo, v.cells_left}};
 }
 
+static answer of_mistyped(labrador_mistyped_answer r) { return (answer){r.number, r.place, 1, {r.entries}}; }
+
 static answer of_ranges(labrador_ranges_answer r) {
     answer a = {r.number, r.place, 80, {0}};
     for (int k = 0; k < 16; k++) {

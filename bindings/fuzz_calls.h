@@ -36,5 +36,8 @@ CALL(round_4, 40, draw_round_4, PROVER(labrador_round_4), judge_made, 1, 2, 3, 4
 CALL(round_5, 40, draw_round_5, PROVER(labrador_round_5), judge_made, 1, 2, 3, 4, 5, 6, 7, 8, 11, 12, 13, 14, 15, 16)
 CALL(verify, 120, draw_verify, of_verdict(labrador_verify(WORDS(JOB), WORDS(RANDOMNESS), WORDS(TRANSCRIPT), WORDS(SCRATCH))), judge_verdict,
      1, 3, 4, 5, 6, 7, 8, 9, 10, 14, 15, 16, 21, 22, 23, 24, 25, 26, 27, 28, 29)
+CALL(mistyped, 60, draw_mistyped,
+     of_mistyped(labrador_mistyped(WORDS(JOB), WORDS(RANDOMNESS), WORDS(TRANSCRIPT), WORDS(SCRATCH), WORDS(OUTPUT))), judge_mistyped, 1, 2, 3, 4,
+     5, 6, 7, 8, 9, 10, 14, 15, 16, 32, 33)
 CALL(ranges, 40, draw_ranges, of_ranges(labrador_ranges(WORDS(JOB), NUMBERS(LOWS), NUMBERS(HIGHS))), judge_ranges, 3, 4, 5, 6, 11, 36, 37)
 #undef PROVER

@@ -110,6 +110,13 @@ void draw_verify(void) {
     lend_buffer(SCRATCH, about(slices[JOB].length < 64 ? 100 : scratch_need(&p)));
 }
 
+/* The list is lent as the output. */
+void draw_mistyped(void) {
+    draw_verify();
+    labrador_parameters p = parameters_in_hand();
+    lend_buffer(OUTPUT, about(slices[JOB].length < 64 ? 100 : 2 * (size_t)p.l));
+}
+
 /* The word at a place of a slice is above `most`. */
 static int above(int s, uint64_t place, uint32_t most) { return place < slices[s].length && slices[s].words[place] > most; }
 
@@ -211,5 +218,17 @@ const char *judge_verdict(const answer *a) {
         int more = v[1] > v[3] || (v[1] == v[3] && v[2] > v[4]);
         return a->place == 0 && v[0] == 0 && more ? NULL : "a norm that is not above its limit";
     }
+    return judge_refusal(a);
+}
+
+/* entries; the list is zero where the work ends without one */
+const char *judge_mistyped(const answer *a) {
+    labrador_parameters p = parameters_in_hand();
+    size_t need = 2 * (size_t)p.l;
+    scratch_is_cleared(a);
+    slices[OUTPUT].touched = a->number >= 1 && a->number <= 12 ? 0 : need;
+    slices[OUTPUT].zeroed = a->number != 0;
+    if (a->number == 0) return a->place == 0 && a->values[0] >= 1 && a->values[0] <= p.l ? NULL : "not a number of entries";
+    if (a->number == 2) return a->place == need && slices[OUTPUT].length < need && a->values[0] == 0 ? NULL : "not the list's length";
     return judge_refusal(a);
 }

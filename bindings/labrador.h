@@ -220,6 +220,23 @@ labrador_verdict labrador_verify(const uint32_t *job, size_t job_length, const u
                                  const uint32_t *transcript, size_t transcript_length, uint32_t *scratch,
                                  size_t scratch_length);
 
+/* number 0: entries of the list. Else a refusal, and entries is 0. */
+typedef struct {
+    uint32_t number;
+    uint64_t place;
+    uint64_t entries;
+} labrador_mistyped_answer;
+
+/* Which constant was mistyped. Where labrador_verify gives 22, the list's first 2 * l words hold, for each index of b0 at which adding one number
+   alone would let check 22 pass, the index from 0 and the number of smallest centred size that does, as a word below Q; then zeros. Smallest size
+   comes first, equal sizes by lower index. Other checks are not judged. Refused: as labrador_verify is, 14 to 16 too, with 2 right after 1 for a list
+   shorter than 2 * l (place: 2 * l); 32 where the verdict is no refusal and no 22; 33 where the list would be empty (place 0 of both). Where the work is
+   reached the scratch is zero to the length needed, and where it ends without a list the first 2 * l words are zero. Words beyond stay, and a
+   refusal before the work touches nothing. */
+labrador_mistyped_answer labrador_mistyped(const uint32_t *job, size_t job_length, const uint32_t *randomness, size_t randomness_length,
+                                           const uint32_t *transcript, size_t transcript_length, uint32_t *scratch, size_t scratch_length,
+                                           uint32_t *list, size_t list_length);
+
 /* What is told of one witness vector. meets: 0 unused, 1 its norm meets A's bound for every choice, 2 for some but not every, 3 for none.
    least and greatest are the smallest and the largest norm, each hi * 2^64 + lo. */
 typedef struct {

@@ -803,6 +803,130 @@ static void test_recorded_ranges(void) {
     }
 }
 
+/* Which constant was mistyped: a load of five constant-term constraints, whose constants are put wrong after the proof. */
+static uint32_t list[16];
+
+static const labrador_parameters five = {1, 1, 4, 1, 1, 1, 5, 32, 256, 4, 4, 4};
+static size_t five_job, five_randomness, five_scratch, five_output;
+
+/* Where the constants and the rows of psi stand. */
+static uint32_t *five_b0(void) { return job + 31 + 1 + 64 * 5 + 1 + 64 * 5 + 1; }
+static uint32_t *five_psi(void) { return randomness + 1 + 16384 + 1; }
+
+static void load_five(uint32_t seed_word) {
+    labrador_load(five, seed_word, job, JOB, witness, WITNESS, randomness, RANDOMNESS);
+    five_job = labrador_load_needs(five).job;
+    five_randomness = labrador_load_needs(five).randomness;
+    five_scratch = labrador_scratch_need(job, five_job).words;
+    five_output = labrador_output_need(job, five_job).words;
+}
+
+static void prove_five(void) {
+    labrador_answer a = labrador_prove(job, five_job, randomness, five_randomness, witness, labrador_load_needs(five).witness, scratch,
+                                       five_scratch, output, OUTPUT);
+    CHECK(a.number == 0);
+}
+
+static labrador_mistyped_answer mistyped(size_t scratch_length, size_t list_length) {
+    for (size_t k = 0; k < SCRATCH; k++) scratch[k] = MARK;
+    for (size_t k = 0; k < 16; k++) list[k] = MARK;
+    return labrador_mistyped(job, five_job, randomness, five_randomness, output, five_output, scratch, scratch_length, list, list_length);
+}
+
+static int is_mistyped(labrador_mistyped_answer a, uint32_t number, uint64_t place, uint64_t entries) {
+    return a.number == number && a.place == place && a.entries == entries;
+}
+
+static int is_list(const uint32_t *words) { return same(list, words, 10) && list[10] == MARK && list[15] == MARK; }
+
+static void test_mistyped(void) {
+    const uint32_t none[10] = {0}, marks[10] = {MARK, MARK, MARK, MARK, MARK, MARK, MARK, MARK, MARK, MARK};
+    load_five(1);
+    prove_five();
+    CHECK(is_mistyped(mistyped(five_scratch, 10), 32, 0, 0) && is_list(none));
+    CHECK(all_zero(scratch, five_scratch) && scratch[five_scratch] == MARK);
+    CHECK(is_mistyped(mistyped(five_scratch, 9), 2, 10, 0) && is_list(marks) && scratch[0] == MARK);
+    CHECK(is_mistyped(mistyped(five_scratch - 1, 0), 1, five_scratch, 0) && is_list(marks) && scratch[0] == MARK);
+    for (uint32_t i = 0; i < 5; i++) {
+        const uint32_t mended[10] = {i, NEG(7 + i)};
+        uint32_t *b0 = five_b0() + i, right = *b0;
+        *b0 = (uint32_t)(((uint64_t)right + 7 + i) % Q);
+        CHECK(is_mistyped(mistyped(five_scratch, 10 + i), 0, 0, 1) && is_list(mended));
+        CHECK(all_zero(scratch, five_scratch) && scratch[five_scratch] == MARK);
+        *b0 = right;
+    }
+    five_b0()[0] = (five_b0()[0] + 1) % Q;
+    five_b0()[4] = (five_b0()[4] + 1) % Q;
+    CHECK(is_mistyped(mistyped(five_scratch, 16), 33, 0, 0) && is_list(none));
+    /* b'' wrong, and no constant-term constraint */
+    make_job(1, 0);
+    five_scratch = labrador_scratch_need(job, job_length).words;
+    labrador_prove(job, job_length, randomness, randomness_length, witness, witness_length, scratch, five_scratch, output, OUTPUT);
+    five_output = labrador_output_need(job, job_length).words;
+    uint32_t *constant = output + 1 + output[0] + 1 + 256 + 1;
+    *constant = (*constant + 1) % Q;
+    labrador_mistyped_answer a =
+        labrador_mistyped(job, job_length, randomness, randomness_length, output, five_output, scratch, five_scratch, list, 0);
+    CHECK(is_mistyped(a, 33, 0, 0));
+}
+
+/* Lists of mistyped constants as document 02's model answers (`harness mistyped-sums` of oracle/ prints these rows): number, place, entries, and the
+   list's first ten words. */
+static const struct {
+    uint32_t number;
+    uint64_t place, entries;
+    uint32_t words[10];
+} recorded_mistyped[16] = {
+    {0, 0, 3, {0u, 4294967288u, 1u, 4294967288u, 2u, 7u, 0u, 0u, 0u, 0u}},
+    {0, 0, 4, {0u, 7u, 1u, 7u, 2u, 4294967288u, 3u, 3817748709u, 0u, 0u}},
+    {0, 0, 4, {3u, 1u, 0u, 3u, 1u, 3u, 2u, 4294967292u, 0u, 0u}},
+    {0, 0, 4, {3u, 65537u, 0u, 196611u, 1u, 196611u, 2u, 4294770684u, 0u, 0u}},
+    {0, 0, 1, {4u, 4293967292u, 0u, 0u, 0u, 0u, 0u, 0u, 0u, 0u}},
+    {0, 0, 3, {0u, 1u, 1u, 1u, 2u, 4294967294u, 0u, 0u, 0u, 0u}},
+    {0, 0, 4, {0u, 4294967288u, 1u, 4294967288u, 2u, 7u, 3u, 5614334u, 0u, 0u}},
+    {0, 0, 4, {0u, 4294967288u, 1u, 4294967288u, 2u, 7u, 3u, 4294945447u, 0u, 0u}},
+    {0, 0, 4, {3u, 4294967292u, 0u, 4294967286u, 1u, 4294967286u, 2u, 9u, 0u, 0u}},
+    {0, 0, 1, {4u, 65537u, 0u, 0u, 0u, 0u, 0u, 0u, 0u, 0u}},
+    {0, 0, 3, {0u, 4293967292u, 1u, 4293967292u, 2u, 1000003u, 0u, 0u, 0u, 0u}},
+    {0, 0, 3, {0u, 1u, 1u, 1u, 2u, 4294967294u, 0u, 0u, 0u, 0u}},
+    {33, 0, 0, {0u, 0u, 0u, 0u, 0u, 0u, 0u, 0u, 0u, 0u}},
+    {33, 0, 0, {0u, 0u, 0u, 0u, 0u, 0u, 0u, 0u, 0u, 0u}},
+    {2, 10, 0, {MARK, MARK, MARK, MARK, MARK, MARK, MARK, MARK, MARK, MARK}},
+    {32, 0, 0, {0u, 0u, 0u, 0u, 0u, 0u, 0u, 0u, 0u, 0u}},
+};
+
+static uint32_t times(uint32_t a, uint32_t b) { return (uint32_t)((uint64_t)a * b % Q); }
+
+static void add_to(uint32_t *word, uint32_t x) { *word = (uint32_t)(((uint64_t)*word + x) % Q); }
+
+/* The rows of psi of a recorded case: the columns are alike, negated and multiplied. */
+static void weigh_five(uint32_t k) {
+    const uint32_t factors[8] = {1, 3, 5, 17, 257, 65537, 255, 65535};
+    for (int row = 0; row < 4; row++) {
+        uint32_t *psi = five_psi() + 5 * row;
+        psi[0] = psi[1] = times(psi[0], factors[k % 8]);
+        psi[2] = (Q - psi[0]) % Q;
+        psi[3] = times(psi[0], 3);
+    }
+    if (k % 4 == 3) memset(five_psi(), 0, 5 * sizeof(uint32_t));
+    if (k == 13) memset(five_psi(), 0, 20 * sizeof(uint32_t));
+}
+
+static void test_recorded_mistyped(void) {
+    const uint32_t errors[6] = {7, NEG(7), 3, NEG(65537), 1000003, NEG(1)};
+    for (uint32_t k = 0; k < 16; k++) {
+        load_five(k);
+        weigh_five(k);
+        prove_five();
+        if (k != 15) add_to(five_b0() + k % 5, errors[k % 6]);
+        if (k == 12) add_to(five_b0() + 4, 11);
+        if (k == 13) add_to(output + 1 + 64 + 1 + 256 + 1, 1);
+        labrador_mistyped_answer a = mistyped(five_scratch, k == 14 ? 9 : 10 + k % 2);
+        CHECK(is_mistyped(a, recorded_mistyped[k].number, recorded_mistyped[k].place, recorded_mistyped[k].entries));
+        CHECK(is_list(recorded_mistyped[k].words));
+    }
+}
+
 int main(void) {
     test_numbers();
     test_digits();
@@ -821,6 +945,8 @@ int main(void) {
     test_apart();
     test_ranges();
     test_recorded_ranges();
+    test_mistyped();
+    test_recorded_mistyped();
     if (failures > 0) {
         printf("%d of %d checks failed\n", failures, checks);
         return EXIT_FAILURE;

@@ -11,7 +11,7 @@ use Rattle.algebra.specs.Ops.{sum}
 use Rattle.algebra.proofs.Ring.{CRing, double-cancel, eq-of-sub-nil}
 use Rattle.definitions.specs.Zq.{Q, Canonical, zadd, zsub, zneg, zmul}
 use Rattle.definitions.specs.Ring.{Residue, residue, ZqOps}
-use Rattle.definitions.proofs.Modulo.{add-neg-mod, mul-mod-first, mul-mod-second, mul-mod-both}
+use Rattle.definitions.proofs.Modulo.{add-neg-mod, add-sub-mod, sub-add-mod, mul-mod-first, mul-mod-second, mul-mod-both}
 
 -- canonical values with the same number are equal
 pub residue-path : (a b : Residue) → a .0 ≡ b .0 → a ≡ b
@@ -72,6 +72,25 @@ pub zsub-zero : (a b : ℕ) → Canonical a → Canonical b → (zsub a b ≡ 0)
 zsub-zero a b p q = (
   λ e. sym (Nat.mod-eq-of-lt p) ∙ ap (λ (x : Residue). x .0) (eq-of-sub-nil ZqOps zq-ring (residue a) (residue b) (sym (residue-zsub a b) ∙ ap residue e)) ∙ Nat.mod-eq-of-lt q,
   λ e. ap (λ x. zsub x b) e ∙ add-neg-mod Q (omega arith) b,
+)
+
+-- a value is c + v modulo Q just where v is their difference
+pub zsub-iff : (a c v : ℕ) → Canonical a → (a ≡ (c + v) % Q) ↔ (v % Q ≡ zsub a (c % Q))
+zsub-iff a c v h = (
+  λ e.
+      sym
+      (ap (λ k. (a + (Q - k)) % Q) (Nat.mod-mod c Q)
+      ∙ ap (λ k. (k + (Q - c % Q)) % Q) e
+      ∙ Nat.mod-add-mod (c + v) Q (Q - c % Q)
+      ∙ ap (λ k. (k + (Q - c % Q)) % Q) (Nat.add-comm c v)
+      ∙ add-sub-mod Q (omega arith) v c),
+  λ e.
+      sym
+      (ap (λ k. k % Q) (Nat.add-comm c v)
+      ∙ sym (Nat.mod-add-mod v Q c)
+      ∙ ap (λ k. (k + c) % Q) (e ∙ ap (λ k. (a + (Q - k)) % Q) (Nat.mod-mod c Q))
+      ∙ sub-add-mod Q (omega arith) a c
+      ∙ Nat.mod-eq-of-lt h),
 )
 
 -- the canonical value of a finite sum

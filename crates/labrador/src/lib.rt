@@ -3,6 +3,7 @@ pub mod calls;
 pub mod digits;
 pub mod elements;
 pub mod loads;
+pub mod mistyped_call;
 pub mod needs;
 pub mod numbers;
 pub mod ranges_call;

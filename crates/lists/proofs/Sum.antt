@@ -1,9 +1,13 @@
 -- Laws of finite sums of natural numbers.
 use mathlib.Core.Path.{_≡_, refl, sym, ap, ap₂, _∙_}
+use mathlib.Core.Bool.{cond}
+use mathlib.Core.Logic.{_⊎_, inl, inr}
 use Prim.Native.Nat.{ℕ, zero, suc, _+_, _-_, _*_, _/_, _%_, _≤_, _<_}
-use native.Mathlib.Nat.{add-zero, add-suc, add-comm, add-assoc, add-sub-of-le, zero-mul, mul-zero, le-refl, add-mod-mod, mod-add-mod}
+use native.Mathlib.Nat.{not-suc-le-zero, eq-or-lt-of-le, add-zero, add-suc, add-comm, add-assoc, add-sub-of-le, zero-mul, mul-zero, le-refl, add-mod-mod, mod-add-mod}
 use native.Mathlib.Numerals.{add-one}
 use native.Mathlib.Omega.{arith}
+use borrow.Author.Tests.{eq-eqb, ne-eqb}
+use lib.Dec.{eqb}
 use Rattle.lists.specs.Sum.{Σ}
 
 -- one more term stands at the end
@@ -119,3 +123,31 @@ unfolding Σ
 -- terms that agree modulo q give sums that agree modulo q
 pub Σ-mod-ext : (n q : ℕ) (f g : ℕ → ℕ) → ((i : ℕ) → i < n → f i % q ≡ g i % q) → Σ n f % q ≡ Σ n g % q
 Σ-mod-ext n q f g h = sym (Σ-mod n q f) ∙ ap (λ s. s % q) (Σ-ext n (λ i. f i % q) (λ i. g i % q) h) ∙ Σ-mod n q g
+
+-- a sum with one value changed
+pub Σ-changed : (n i : ℕ) (w b : ℕ → ℕ) (v : ℕ) → i < n → Σ n (λ m. w m * cond (eqb m i) v (b m)) + w i * b i ≡ Σ n (λ m. w m * b m) + w i * v
+unfolding Σ
+Σ-changed zero i w b v h = absurd (not-suc-le-zero h)
+Σ-changed (suc n) i w b v h = go (eq-or-lt-of-le h) (Σ-changed n i w b v)
+  where
+    -- a value at another index
+    other : (m : ℕ) → (m ≡ i → ⊥) → w m * cond (eqb m i) v (b m) ≡ w m * b m
+    other m d = ap (λ t. w m * cond t v (b m)) (ne-eqb m i d)
+
+    swap : (s x y : ℕ) → s + x + y ≡ s + y + x
+    swap s x y = omega arith
+
+    next : (s s′ x y z : ℕ) → s + x ≡ s′ + y → s + z + x ≡ s′ + z + y
+    next s s′ x y z e = omega arith
+
+    go : (suc i ≡ suc n) ⊎ (suc i < suc n) → (i < n → Σ n (λ m. w m * cond (eqb m i) v (b m)) + w i * b i ≡ Σ n (λ m. w m * b m) + w i * v)
+        → Σ n (λ m. w m * cond (eqb m i) v (b m)) + w n * cond (eqb n i) v (b n) + w i * b i ≡ Σ n (λ m. w m * b m) + w n * b n + w i * v
+    go (inl p) ih =
+        let e : n ≡ i = omega arith in
+        ap₂ (λ s t. s + w n * cond t v (b n) + w i * b i) (Σ-ext n (λ m. w m * cond (eqb m i) v (b m)) (λ m. w m * b m) (λ m k. other m (λ q. omega arith))) (eq-eqb n i e)
+        ∙ swap (Σ n (λ m. w m * b m)) (w n * v) (w i * b i)
+        ∙ ap₂ (λ x y. Σ n (λ m. w m * b m) + w x * b x + w y * v) (sym e) e
+    go (inr k) ih =
+        let d : n ≡ i → ⊥ = λ q. omega arith in
+        ap (λ z. Σ n (λ m. w m * cond (eqb m i) v (b m)) + z + w i * b i) (other n d)
+        ∙ next (Σ n (λ m. w m * cond (eqb m i) v (b m))) (Σ n (λ m. w m * b m)) (w i * b i) (w i * v) (w n * b n) (ih (omega arith))

@@ -32,3 +32,5 @@ pub mod Stored
 pub mod Region
 pub mod Examples
 pub mod Ranges
+pub mod Mistyped
+pub mod MistypedList

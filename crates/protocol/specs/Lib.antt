@@ -11,3 +11,4 @@ pub mod CellsBack
 pub mod Kept
 pub mod Ranges
 pub mod Load
+pub mod Mistyped

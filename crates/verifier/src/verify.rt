@@ -65,7 +65,7 @@ pub fn check_all(
 }
 
 // The work of a call that is refused nothing before it: "After any later answer scratch is zero to the length needed".
-fn work_and_clear(
+pub fn work_and_clear(
     job: &[u32],
     randomness: &[u32],
     transcript: &[u32],

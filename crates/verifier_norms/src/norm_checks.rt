@@ -39,7 +39,7 @@ pub fn check_projection_norm(transcript: &[u32], p: EnvironmentParameters) -> Ch
 }
 
 // Σ psi[l]·b0[l] + Σ omega[j]·p[j], of a row of psi and one of omega.
-fn constant_term(
+pub fn constant_term(
     job: &[u32],
     b0: usize,
     l: usize,

@@ -1,7 +1,8 @@
 //! Runs the published Rust, the model of document 01 and the proved library on the same cases.
 //!
 //! `harness compare SEED COUNT [largest]` compares, on COUNT random instances beside the fixed families.
-//! `harness load-sums` and `harness range-sums` print the rows of whole test loads and of calls on ranges that `bindings/test.c` has.
+//! `harness load-sums`, `harness range-sums` and `harness mistyped-sums` print the rows of whole test loads, of calls on ranges and of lists of
+//! mistyped constants that `bindings/test.c` has.
 //! `harness record FOLDER` writes the recorded answers. `harness replay FOLDER` reads them back and compares them with
 //! the model, and with the library where it is linked.
 //! Each prints a tally, and fails where anything differs, an answer never occurs or a comparison is never made.
@@ -10,7 +11,7 @@ use harness::cases::Context;
 use harness::instances::{apart, one_kind, small, Instance};
 use harness::random::Random;
 use harness::record::Recorder;
-use harness::{loads, ranges, recompose, replay, rust, slices, unfit, whole};
+use harness::{loads, mistyped, ranges, recompose, replay, rust, slices, unfit, whole};
 use model::Call;
 use std::path::Path;
 use std::process::ExitCode;
@@ -30,9 +31,13 @@ fn main() -> ExitCode {
             ranges::print_sums();
             true
         }
+        ["mistyped-sums"] => {
+            mistyped::print_sums();
+            true
+        }
         ["record", folder] => record(Path::new(folder)),
         ["replay", folder] => replay::replay(Path::new(folder)),
-        _ => panic!("usage: harness compare SEED COUNT [largest] | load-sums | range-sums | record FOLDER | replay FOLDER"),
+        _ => panic!("usage: harness compare SEED COUNT [largest] | load-sums | range-sums | mistyped-sums | record FOLDER | replay FOLDER"),
     };
     if good {
         ExitCode::SUCCESS
@@ -69,6 +74,8 @@ fn compare(seed: u64, count: u64, largest: bool) -> bool {
     context.tally.stage("calls of the slice layer");
     ranges::all(&mut context.tally, &mut Random::new(seed), 12.max(count as usize / 4));
     context.tally.stage("ranges");
+    mistyped::all(&mut context.tally, &mut Random::new(seed), 24.max(count as usize / 4));
+    context.tally.stage("mistyped constants");
     loads::all(&mut context, &mut Random::new(seed), 300.max(count as usize));
     context.tally.stage("test loads");
     let base = whole::base(&mut random, whole::pair_parameters());

@@ -4,6 +4,7 @@ use model::calls::{Leaf, LeafAnswer};
 use model::{Answer, Call};
 
 pub mod load;
+pub mod mistyped;
 pub mod ranges;
 pub mod recompose;
 pub mod slices;

@@ -1,0 +1,4 @@
+pub mod Verdicts
+pub mod Judged
+pub mod Whole
+pub mod Determined

@@ -1,0 +1,100 @@
+// The call for every input.
+use crate::answers;
+use crate::answers::MistypedAnswer;
+use admission::answers::Admitted;
+use definitions::answers::FailedCheck;
+use definitions::answers::Verdict;
+use relation::env_params::EnvironmentParameters;
+use verifier::verify;
+ghost use mathlib.Core.Path.{_≡_};
+ghost use Prim.Native.Nat.{_*_, _≤_};
+ghost use lib.ListN.{length};
+ghost use Rattle.definitions.specs.Answer.{ofVerdict, ofFailed};
+ghost use Rattle.protocol.specs.Parameters.{parameters};
+ghost use Rattle.protocol.specs.Layout.{scratch-need};
+ghost use Rattle.protocol.specs.Prover.{zeroed};
+ghost use Rattle.protocol.specs.Mistyped.{verdict-of, list-need, mistyped-scratch};
+ghost use Rattle.admission.specs.Admission.{Verifiable};
+ghost use Rattle.verifier_common.specs.Work.{Sent};
+ghost use Rattle.mistyped.specs.Told.{Judged, Worked, Mistyped};
+
+// The list where check 22 is the failed one, and 32 where it is another.
+fn judge_failed(
+    job: &[u32],
+    randomness: &[u32],
+    transcript: &[u32],
+    p: EnvironmentParameters,
+    check: FailedCheck,
+    list: &mut [u32],
+) -> MistypedAnswer
+    requires { ⌜ Sent (now job) (now randomness) (now transcript) p × (2 * p .«constraint_l» ≤ length (now list)) ⌝ }
+    requires { ⌜ ofFailed check ≡ verdict-of (now job) (now randomness) (now transcript) ⌝ }
+    ensures { λ r. ⌜ Judged (now (job .entry)) (now (randomness .entry)) (now (transcript .entry)) (now (list .entry)) (now (list .exit)) r ⌝ }
+{
+    let FailedCheck::B0Mismatch { .. } = check else {
+        return answers::refused(32, 0);
+    };
+    let entries = mistyped_entries::enter_all(job, randomness, transcript, p, list);
+    answers::counted(entries)
+}
+
+// "After the verifier's refusals, 14 to 16 included […] it refuses with 32 where check 22 isn't the failed one, and with 33 where the list would be empty".
+fn judge(
+    job: &[u32],
+    randomness: &[u32],
+    transcript: &[u32],
+    p: EnvironmentParameters,
+    verdict: Verdict,
+    list: &mut [u32],
+) -> MistypedAnswer
+    requires { ⌜ Sent (now job) (now randomness) (now transcript) p × (2 * p .«constraint_l» ≤ length (now list)) ⌝ }
+    requires { ⌜ ofVerdict verdict ≡ verdict-of (now job) (now randomness) (now transcript) ⌝ }
+    ensures { λ r. ⌜ Judged (now (job .entry)) (now (randomness .entry)) (now (transcript .entry)) (now (list .entry)) (now (list .exit)) r ⌝ }
+{
+    match verdict {
+        Verdict::Accepted(_) => answers::refused(32, 0),
+        Verdict::Refused(refusal) => answers::refusal_of(refusal),
+        Verdict::Failed(check) => judge_failed(job, randomness, transcript, p, check, list),
+    }
+}
+
+// The work of a call that is refused nothing before it: the verifier's, once, and what comes of its verdict.
+fn work(
+    job: &[u32],
+    randomness: &[u32],
+    transcript: &[u32],
+    p: EnvironmentParameters,
+    scratch: &mut [u32],
+    list: &mut [u32],
+) -> MistypedAnswer
+    requires { ⌜ Verifiable (now job) (now randomness) (now transcript) (length (now scratch)) p × (2 * p .«constraint_l» ≤ length (now list)) ⌝ }
+    ensures { λ r. ⌜ Worked (now (job .entry)) (now (randomness .entry)) (now (transcript .entry)) (now (list .entry)) (now (list .exit)) r ⌝ }
+    ensures { λ r. ⌜ now (scratch .exit) ≡ zeroed (scratch-need (parameters (now (job .entry)))) (now (scratch .entry)) ⌝ }
+{
+    words::clear(list, 2 * p.constraint_l);
+    let verdict = verify::work_and_clear(job, randomness, transcript, p, scratch);
+    judge(job, randomness, transcript, p, verdict, list)
+}
+
+// "lists each index l for which adding one number to b0[l] alone would let check 22 pass".
+pub fn mistyped(
+    job: &[u32],
+    randomness: &[u32],
+    transcript: &[u32],
+    scratch: &mut [u32],
+    list: &mut [u32],
+) -> MistypedAnswer
+    ensures { λ r. ⌜ Mistyped (now (job .entry)) (now (randomness .entry)) (now (transcript .entry)) (length (now (scratch .entry))) (now (list .entry)) (now (list .exit)) r ⌝ }
+    ensures { λ r. ⌜ now (scratch .exit) ≡ mistyped-scratch (now (job .entry)) (now (randomness .entry)) (now (transcript .entry)) (now (scratch .entry)) (length (now (list .entry))) ⌝ }
+{
+    match admission_order::verifier::admit(job, randomness, transcript, scratch.len()) {
+        Admitted::Refused(refusal) => answers::refusal_of(refusal),
+        Admitted::Fit(p) => {
+            let need = 2 * p.constraint_l;
+            if list.len() < need {
+                return answers::refused(2, need);
+            }
+            work(job, randomness, transcript, p, scratch, list)
+        }
+    }
+}

@@ -1,0 +1,44 @@
+// The number of smallest centred size that gives every row of check 22 what it lacks (document 02, Item 8).
+use congruence::Congruence;
+use congruence::Joined;
+use congruence::Solution;
+use zq::zq::Zq;
+ghost use Prim.Native.Nat.{ℕ, _+_, _*_, _<_, _≤_};
+ghost use lib.ListN.{length, getD};
+ghost use Rattle.definitions.specs.Zq.{Canonical};
+ghost use Rattle.congruence.specs.Congruence.{Found};
+ghost use Rattle.mistyped_rows.specs.Rows.{Supplies};
+
+// Of an index whose weight in row k stands at `at` and k times `width`. All rows count, those that lack nothing too.
+pub fn smallest_for(
+    randomness: &[u32],
+    at: usize,
+    width: usize,
+    lacking: [u32; 32],
+    rows: usize,
+) -> Solution
+    requires { ⌜ (rows ≤ 32) × ((k : ℕ) → k < rows → at + k * width < length (now randomness)) ⌝ }
+    requires { ⌜ ((k : ℕ) → k < rows → Canonical (getD lacking k 0)) ⌝ }
+    ensures { λ r. ⌜ Found (Supplies (now (randomness .entry)) at width lacking rows) r ⌝ }
+{
+    let mut factor = Zq::Q;
+    let mut value = 0;
+    let mut k = 0;
+    while k < rows {
+        let row = Congruence {
+            factor: randomness[at + k * width],
+            value: lacking[k],
+        };
+        match congruence::join(Congruence { factor, value }, row) {
+            Joined::None => {
+                return Solution::None;
+            }
+            Joined::One(both) => {
+                factor = both.factor;
+                value = both.value;
+            }
+        }
+        k += 1;
+    }
+    congruence::smallest(Congruence { factor, value })
+}
