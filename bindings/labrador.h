@@ -75,8 +75,8 @@ labrador_word_answer labrador_zq_neg(uint32_t a);
 /* The centre of a: a itself up to 2147483647, above that a - Q. */
 labrador_centre_answer labrador_zq_centre(uint32_t a);
 
-/* The digits of a, lowest first, in 32 places, and the size left over when the parts are used up, without sign. A base outside 2 to 4294967294 is refused with 4 at place 0, a number of parts
-   outside 1 to 32 with 4 at place 1; a is place 2. */
+/* The digits of a, lowest first, in 32 places, and the size left over when the parts are used up, without sign. A base outside 2 to
+   4294967294 is refused with 4 at place 0, a number of parts outside 1 to 32 with 4 at place 1; a is place 2. */
 labrador_digits_answer labrador_zq_digits(uint32_t base, uint32_t parts, uint32_t a);
 
 /* The value of digits, lowest first: the sum of digits[i] * base^i. Of the digits of a value it is that value exactly when nothing was
@@ -126,8 +126,8 @@ labrador_element_answer labrador_challenge(labrador_challenge_words words);
 
 /* The calls on whole slices. Each slice is a pointer, which is not null, and a length in words; no two overlap.
    Refusals before the work touch nothing: 1 scratch too short, 2 output too short (place: the length needed); 3 the job's layout,
-   4 a parameter outside its limits (K and l are from 0 to 64, not both 0), 5 L below 128 / log_q rounded up, 6 a job word; 7, 8 the randomness's
-   layout and words; 9, 10 the transcript's; 11, 12 the witness's. In the work: 13 norm of a witness vector (place: its index), 14,
+   4 a parameter outside its limits (K and l are from 0 to 64, not both 0), 5 L below 128 / log_q rounded up, 6 a job word; 7, 8 the
+   randomness's layout and words; 9, 10 the transcript's; 11, 12 the witness's. In the work: 13 norm of a witness vector (place: its index), 14,
    15, 16 digits of t, g, h above their bound.
    After the work scratch is zero to the length needed, and so is the output after 13 to 16. Words beyond never change. */
 

@@ -100,6 +100,13 @@ pub struct Verdict {
 }
 
 #[repr(C)]
+pub struct MistypedAnswer {
+    pub number: u32,
+    pub place: u64,
+    pub entries: u64,
+}
+
+#[repr(C)]
 pub struct RangeNorms {
     pub meets: u32,
     pub least_hi: u64,
@@ -192,6 +199,18 @@ extern "C" {
         scratch: *mut u32,
         scratch_length: usize,
     ) -> Verdict;
+    fn labrador_mistyped(
+        job: *const u32,
+        job_length: usize,
+        randomness: *const u32,
+        randomness_length: usize,
+        transcript: *const u32,
+        transcript_length: usize,
+        scratch: *mut u32,
+        scratch_length: usize,
+        list: *mut u32,
+        list_length: usize,
+    ) -> MistypedAnswer;
     fn labrador_ranges(
         job: *const u32,
         job_length: usize,
@@ -282,6 +301,31 @@ pub fn verify(job: &[u32], randomness: &[u32], transcript: &[u32], scratch: &mut
             transcript.len(),
             scratch.as_mut_ptr(),
             scratch.len(),
+        )
+    }
+}
+
+pub fn mistyped(
+    job: &[u32],
+    randomness: &[u32],
+    transcript: &[u32],
+    scratch: &mut [u32],
+    list: &mut [u32],
+) -> MistypedAnswer {
+    // SAFETY: the pointers are those of slices, so none is null and that many words of each can be read, and what is only
+    // read may overlap; scratch and list are lent alone, so they can be written and overlap with nothing.
+    unsafe {
+        labrador_mistyped(
+            job.as_ptr(),
+            job.len(),
+            randomness.as_ptr(),
+            randomness.len(),
+            transcript.as_ptr(),
+            transcript.len(),
+            scratch.as_mut_ptr(),
+            scratch.len(),
+            list.as_mut_ptr(),
+            list.len(),
         )
     }
 }

@@ -27,6 +27,7 @@ mod ffi;
 mod handed;
 mod load;
 pub mod meaning;
+mod mistyped;
 mod needs;
 pub mod norms;
 mod number;
@@ -43,6 +44,7 @@ mod verifier;
 
 pub use element::{ChallengeWords, DigitRows, Element};
 pub use load::{load, load_into, load_needs, Load, LoadNeeds};
+pub use mistyped::{mistyped, mistyped_into, Mistyped};
 pub use needs::{output_need, scratch_need};
 pub use number::{parts_needed, projection_entry, recompose, Digits, Zq, Q};
 pub use place::{expected, Place, Spot};

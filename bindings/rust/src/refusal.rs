@@ -46,6 +46,10 @@ pub enum Refusal {
     Operand { number: u32, place: u64, found: u32 },
     /// 11 of the call on ranges: a list of another length than 64·r·n.
     RangesLength { list: &'static str, place: u64, found: u64, expected: u64 },
+    /// 32 of the call on mistyped constants: the verdict is no failed check 22.
+    NotCheck22,
+    /// 33: no constant alone mends check 22.
+    NothingMends,
     /// 36: the first pair whose low is above its high.
     Crossed { pair: u64, low: i64, high: i64 },
     /// 37: the first pair with a number beyond ±2147483647.
@@ -72,6 +76,8 @@ impl Refusal {
             Refusal::DigitsOfG => 15,
             Refusal::DigitsOfH => 16,
             Refusal::Operand { number, .. } => *number,
+            Refusal::NotCheck22 => 32,
+            Refusal::NothingMends => 33,
             Refusal::Crossed { .. } => 36,
             Refusal::Beyond { .. } => 37,
         }
@@ -83,6 +89,7 @@ impl Refusal {
             Refusal::Scratch { needed, .. } | Refusal::Output { needed, .. } => *needed,
             Refusal::WitnessNorm { vector, .. } => *vector,
             Refusal::DigitsOfT | Refusal::DigitsOfG | Refusal::DigitsOfH => 0,
+            Refusal::NotCheck22 | Refusal::NothingMends => 0,
             Refusal::Operand { place, .. } | Refusal::RangesLength { place, .. } => *place,
             Refusal::Crossed { pair, .. } | Refusal::Beyond { pair, .. } => *pair,
             _ => self.word().map_or(0, |place| place.index),
@@ -139,7 +146,11 @@ impl Refusal {
             Refusal::Beyond { pair, low, high } => {
                 format!("pair {pair} goes from {low} to {high}, beyond ±2147483647")
             }
-            Refusal::DigitsOfT | Refusal::DigitsOfG | Refusal::DigitsOfH => self.meaning().short.to_string(),
+            Refusal::DigitsOfT
+            | Refusal::DigitsOfG
+            | Refusal::DigitsOfH
+            | Refusal::NotCheck22
+            | Refusal::NothingMends => self.meaning().short.to_string(),
         }
     }
 }

@@ -9,5 +9,6 @@ mod layout;
 mod leaves;
 mod left;
 mod lent;
+mod mistyped;
 mod norms;
 mod review;
