@@ -229,7 +229,7 @@ typedef struct {
 
 /* Which constant was mistyped. Where labrador_verify gives 22, the list's first 2 * l words hold, for each index of b0 at which adding one number
    alone would let check 22 pass, the index from 0 and the number of smallest centred size that does, as a word below Q; then zeros. Smallest size
-   comes first, equal sizes by lower index. Other checks are not judged. Refused: as labrador_verify is, 14 to 16 too, with 2 right after 1 for a list
+   comes first; of equal sizes negative numbers (above 2147483647) first, then lower indexes. Other checks are not judged. Refused: as labrador_verify is, 14 to 16 too, with 2 right after 1 for a list
    shorter than 2 * l (place: 2 * l); 32 where the verdict is no refusal and no 22; 33 where the list would be empty (place 0 of both). Where the work is
    reached the scratch is zero to the length needed, and where it ends without a list the first 2 * l words are zero. Words beyond stay, and a
    refusal before the work touches nothing. */

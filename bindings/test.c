@@ -876,37 +876,44 @@ static const struct {
     uint32_t number;
     uint64_t place, entries;
     uint32_t words[10];
-} recorded_mistyped[16] = {
+} recorded_mistyped[20] = {
     {0, 0, 3, {0u, 4294967288u, 1u, 4294967288u, 2u, 7u, 0u, 0u, 0u, 0u}},
-    {0, 0, 4, {0u, 7u, 1u, 7u, 2u, 4294967288u, 3u, 3817748709u, 0u, 0u}},
-    {0, 0, 4, {3u, 1u, 0u, 3u, 1u, 3u, 2u, 4294967292u, 0u, 0u}},
-    {0, 0, 4, {3u, 65537u, 0u, 196611u, 1u, 196611u, 2u, 4294770684u, 0u, 0u}},
+    {0, 0, 4, {2u, 4294967288u, 0u, 7u, 1u, 7u, 3u, 3817748709u, 0u, 0u}},
+    {0, 0, 4, {3u, 1u, 2u, 4294967292u, 0u, 3u, 1u, 3u, 0u, 0u}},
+    {0, 0, 4, {3u, 65537u, 2u, 4294770684u, 0u, 196611u, 1u, 196611u, 0u, 0u}},
     {0, 0, 1, {4u, 4293967292u, 0u, 0u, 0u, 0u, 0u, 0u, 0u, 0u}},
-    {0, 0, 3, {0u, 1u, 1u, 1u, 2u, 4294967294u, 0u, 0u, 0u, 0u}},
+    {0, 0, 3, {2u, 4294967294u, 0u, 1u, 1u, 1u, 0u, 0u, 0u, 0u}},
     {0, 0, 4, {0u, 4294967288u, 1u, 4294967288u, 2u, 7u, 3u, 5614334u, 0u, 0u}},
     {0, 0, 4, {0u, 4294967288u, 1u, 4294967288u, 2u, 7u, 3u, 4294945447u, 0u, 0u}},
     {0, 0, 4, {3u, 4294967292u, 0u, 4294967286u, 1u, 4294967286u, 2u, 9u, 0u, 0u}},
     {0, 0, 1, {4u, 65537u, 0u, 0u, 0u, 0u, 0u, 0u, 0u, 0u}},
     {0, 0, 3, {0u, 4293967292u, 1u, 4293967292u, 2u, 1000003u, 0u, 0u, 0u, 0u}},
-    {0, 0, 3, {0u, 1u, 1u, 1u, 2u, 4294967294u, 0u, 0u, 0u, 0u}},
+    {0, 0, 3, {2u, 4294967294u, 0u, 1u, 1u, 1u, 0u, 0u, 0u, 0u}},
     {33, 0, 0, {0u, 0u, 0u, 0u, 0u, 0u, 0u, 0u, 0u, 0u}},
     {33, 0, 0, {0u, 0u, 0u, 0u, 0u, 0u, 0u, 0u, 0u, 0u}},
     {2, 10, 0, {MARK, MARK, MARK, MARK, MARK, MARK, MARK, MARK, MARK, MARK}},
     {32, 0, 0, {0u, 0u, 0u, 0u, 0u, 0u, 0u, 0u, 0u, 0u}},
+    {0, 0, 4, {1u, 4293967292u, 3u, 4293967292u, 0u, 1000003u, 2u, 1000003u, 0u, 0u}},
+    {0, 0, 5, {1u, 4294967294u, 3u, 4294967294u, 0u, 1u, 2u, 1u, 4u, 3817748707u}},
+    {0, 0, 4, {1u, 4294967288u, 3u, 4294967288u, 0u, 7u, 2u, 7u, 0u, 0u}},
+    {0, 0, 5, {4u, 7u, 1u, 4294967274u, 3u, 4294967274u, 0u, 21u, 2u, 21u}},
 };
 
 static uint32_t times(uint32_t a, uint32_t b) { return (uint32_t)((uint64_t)a * b % Q); }
 
 static void add_to(uint32_t *word, uint32_t x) { *word = (uint32_t)(((uint64_t)*word + x) % Q); }
 
-/* The rows of psi of a recorded case: the columns are alike, negated and multiplied. */
+/* The rows of psi of a recorded case: the columns are alike, negated and multiplied, from case 16 on with the signs in turn. */
 static void weigh_five(uint32_t k) {
     const uint32_t factors[8] = {1, 3, 5, 17, 257, 65537, 255, 65535};
     for (int row = 0; row < 4; row++) {
         uint32_t *psi = five_psi() + 5 * row;
-        psi[0] = psi[1] = times(psi[0], factors[k % 8]);
-        psi[2] = (Q - psi[0]) % Q;
-        psi[3] = times(psi[0], 3);
+        uint32_t first = times(psi[0], factors[k % 8]), negated = (Q - first) % Q;
+        psi[0] = first;
+        psi[1] = k < 16 ? first : negated;
+        psi[2] = k < 16 ? negated : first;
+        psi[3] = k < 16 ? times(first, 3) : negated;
+        psi[4] = k < 16 ? psi[4] : times(first, 3);
     }
     if (k % 4 == 3) memset(five_psi(), 0, 5 * sizeof(uint32_t));
     if (k == 13) memset(five_psi(), 0, 20 * sizeof(uint32_t));
@@ -914,7 +921,7 @@ static void weigh_five(uint32_t k) {
 
 static void test_recorded_mistyped(void) {
     const uint32_t errors[6] = {7, NEG(7), 3, NEG(65537), 1000003, NEG(1)};
-    for (uint32_t k = 0; k < 16; k++) {
+    for (uint32_t k = 0; k < 20; k++) {
         load_five(k);
         weigh_five(k);
         prove_five();

@@ -15,7 +15,7 @@ pub struct Mistyped {
 }
 
 /// The list into the first 2·l words of a lent one, by [`scratch_need`] words of lent scratch; gives the number of entries,
-/// each of which is its index and then its number.
+/// each of which is its index and then its number, in the order of [`mistyped`].
 pub fn mistyped_into(
     job: &[u32],
     randomness: &[u32],
@@ -35,7 +35,8 @@ pub fn mistyped_into(
     }
 }
 
-/// The list after a failed check 22.
+/// The list after a failed check 22. The smallest centred size comes first; of equal sizes negative numbers first, since an
+/// overstated total is the usual slip, then lower indexes.
 ///
 /// ```
 /// use labrador::{load, mistyped, prove, verify, Mistyped, Parameters, Slice, Zq, Q};

@@ -1,10 +1,10 @@
-// Entries in their order in a lent list: for each its index and then its number (document 02, Item 8).
+// Entries in their order in a lent list: for each its index and then its number (document 02, Items 8 and 12).
 use zq::zq::Zq;
 ghost use mathlib.Core.Path.{_≡_};
 ghost use Prim.Native.Nat.{_+_, _*_, _≤_};
 ghost use lib.ListN.{length};
 ghost use Rattle.lists.specs.Part.{splice};
-ghost use Rattle.protocol.specs.Mistyped.{comes-before as before, entry-words};
+ghost use Rattle.protocol.specs.Mistyped.{by-number, sign-rank as rank, comes-before as before, entry-words};
 ghost use Rattle.mistyped_list.specs.Insert.{entry, entries, first-of, later-of, insert as inserted};
 
 // Two entries: the one that comes first, and the other.
@@ -15,17 +15,34 @@ pub struct InOrder {
     pub later_number: u32,
 }
 
-// "Smallest size comes first; equal sizes by lower l."
+// "negative numbers first": 0 for a number whose centre is negative, else 1.
+fn sign_rank(number: u32) -> u32
+    ensures { λ r. ⌜ r ≡ rank number ⌝ }
+{
+    if Zq(number).is_larger_than_half() {
+        0
+    } else {
+        1
+    }
+}
+
+// The lower of two numbers comes first; where they are equal, what is said next decides.
+fn by_number(a: u32, b: u32, next: bool) -> bool
+    ensures { λ r. ⌜ r ≡ by-number a b next ⌝ }
+{
+    if a == b { next } else { a < b }
+}
+
+// "entries of equal size now come with negative numbers first, then by lower l. Smallest size still leads."
 fn comes_before(index: u32, number: u32, other_index: u32, other_number: u32) -> bool
     ensures { λ r. ⌜ r ≡ before (entry index number) (entry «other_index» «other_number») ⌝ }
 {
+    let rank = sign_rank(number);
+    let other_rank = sign_rank(other_number);
     let size = Zq(number).size();
     let other_size = Zq(other_number).size();
-    if size == other_size {
-        index < other_index
-    } else {
-        size < other_size
-    }
+    let of_equal_size = by_number(rank, other_rank, index < other_index);
+    by_number(size, other_size, of_equal_size)
 }
 
 // Two entries in their order.

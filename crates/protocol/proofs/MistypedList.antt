@@ -1,4 +1,4 @@
--- The order of the list of Item 8 is total, and the list is unique.
+-- The order of the list of Item 8, as Item 12 has it, is total, and the list is unique.
 use mathlib.Core.Path.{_≡_, refl, sym, ap, ap₂, _∙_}
 use mathlib.Core.Bool.{Bool, true, false, cond}
 use mathlib.Core.Logic.{_⊎_, inl, inr}
@@ -10,7 +10,7 @@ use borrow.Author.Tests.{ltb-true, ltb-false, lt-ltb, eqb-true, eqb-false, eq-eq
 use lib.Dec.{ltb, eqb}
 use Rattle.definitions.specs.Zq.{size}
 use Rattle.protocol.specs.Views.{Public, Message}
-use Rattle.protocol.specs.Mistyped.{Entry, by-number, comes-before, Ordered, Listed, Smallest}
+use Rattle.protocol.specs.Mistyped.{Entry, by-number, sign-rank, of-equal-size, comes-before, Ordered, Listed, Smallest}
 use Rattle.protocol.proofs.Mistyped.{smallest-unique}
 
 -- nothing is both true and false
@@ -83,18 +83,25 @@ ltb-self a e = let h : a < a = ltb-true a a e in omega arith
 pub before-trans : (e f g : Entry) → comes-before e f ≡ true → comes-before f g ≡ true → comes-before e g ≡ true
 unfolding comes-before
 before-trans e f g =
-    by-number-trans (size (e .number)) (size (f .number)) (size (g .number)) (ltb (e .index) (f .index)) (ltb (f .index) (g .index)) (ltb (e .index) (g .index))
-    (ltb-trans (e .index) (f .index) (g .index))
+    by-number-trans (size (e .number)) (size (f .number)) (size (g .number)) (of-equal-size e f) (of-equal-size f g) (of-equal-size e g)
+    (by-number-trans (sign-rank (e .number)) (sign-rank (f .number)) (sign-rank (g .number)) (ltb (e .index) (f .index)) (ltb (f .index) (g .index)) (ltb (e .index) (g .index))
+    (ltb-trans (e .index) (f .index) (g .index)))
 
 -- total on entries of different indexes
 pub before-other : (e f : Entry) → (e .index ≡ f .index → ⊥) → comes-before e f ≡ false → comes-before f e ≡ true
 unfolding comes-before
-before-other e f d = by-number-other (size (e .number)) (size (f .number)) (ltb (e .index) (f .index)) (ltb (f .index) (e .index)) (ltb-other (e .index) (f .index) d)
+before-other e f d =
+    by-number-other (size (e .number)) (size (f .number)) (of-equal-size e f) (of-equal-size f e)
+    (by-number-other (sign-rank (e .number)) (sign-rank (f .number)) (ltb (e .index) (f .index)) (ltb (f .index) (e .index)) (ltb-other (e .index) (f .index) d))
 
 -- and no entry comes before itself
 pub before-self : (e : Entry) → comes-before e e ≡ true → ⊥
 unfolding comes-before
-before-self e h = ltb-self (e .index) (sym (by-equal (size (e .number)) (size (e .number)) (ltb (e .index) (e .index)) refl) ∙ h)
+before-self e h =
+    ltb-self (e .index)
+    (sym (by-equal (sign-rank (e .number)) (sign-rank (e .number)) (ltb (e .index) (e .index)) refl)
+    ∙ sym (by-equal (size (e .number)) (size (e .number)) (of-equal-size e e) refl)
+    ∙ h)
 
 -- lists in order with the same entries are equal
 pub ordered-unique : (es fs : List Entry) → Ordered es → Ordered fs → ((e : Entry) → List·Memᴰ e es → List·Memᴰ e fs) → ((e : Entry) → List·Memᴰ e fs → List·Memᴰ e es) → es ≡ fs

@@ -1,4 +1,4 @@
--- Which constant was mistyped (document 02, Item 8): "A failed check 22 is mostly one wrong entry of b0."
+-- Which constant was mistyped (document 02, Item 8, and Item 12 on the order of its list): "A failed check 22 is mostly one wrong entry of b0."
 use mathlib.Core.Path.{_≡_}
 use mathlib.Core.Bool.{Bool, true, cond}
 use mathlib.Core.List.{List, [], _∷_, _++_, flatMap, List·Memᴰ}
@@ -6,7 +6,7 @@ use Prim.Native.Nat.{ℕ, _-_, _*_, _<_, _≤_}
 use native.Mathlib.Decide.{decLe}
 use lib.Dec.{ltb, eqb}
 use lib.ListN.{length, drop, replicate}
-use Rattle.definitions.specs.Zq.{Canonical, zadd, size}
+use Rattle.definitions.specs.Zq.{Canonical, zadd, isLargerThanHalf, size}
 use Rattle.definitions.specs.Answer.{Answer, fine, accepted, refused, failed, result, _then_}
 use Rattle.protocol.specs.Checks.{require}
 use Rattle.protocol.specs.Parameters.{Parameters, parameters}
@@ -56,9 +56,17 @@ pub record Entry : Type 0 where
 abbrev pub by-number : (a b : ℕ) → (next : Bool) → Bool
 by-number a b next = cond (eqb a b) next (ltb a b)
 
--- whether an entry comes before another: "Smallest size comes first; equal sizes by lower l."
+-- "negative numbers first" (document 02, Item 12): 0 for a number whose centre is negative, else 1
+abbrev pub sign-rank : ℕ → ℕ
+sign-rank a = cond (isLargerThanHalf a) 0 1
+
+-- "entries of equal size now come with negative numbers first, then by lower l" (document 02, Item 12)
+abbrev pub of-equal-size : Entry → Entry → Bool
+of-equal-size e f = by-number (sign-rank (e .number)) (sign-rank (f .number)) (ltb (e .index) (f .index))
+
+-- whether an entry comes before another: "Smallest size still leads." (document 02, Item 12)
 unfoldable pub comes-before : Entry → Entry → Bool
-comes-before e f = by-number (size (e .number)) (size (f .number)) (ltb (e .index) (f .index))
+comes-before e f = by-number (size (e .number)) (size (f .number)) (of-equal-size e f)
 
 -- entries of which each comes before all that follow it
 unfoldable pub Ordered : List Entry → Type 0

@@ -74,7 +74,7 @@ fn compare(seed: u64, count: u64, largest: bool) -> bool {
     context.tally.stage("calls of the slice layer");
     ranges::all(&mut context.tally, &mut Random::new(seed), 12.max(count as usize / 4));
     context.tally.stage("ranges");
-    mistyped::all(&mut context.tally, &mut Random::new(seed), 24.max(count as usize / 4));
+    mistyped::all(&mut context.tally, &mut Random::new(seed), 56.max(count as usize / 2));
     context.tally.stage("mistyped constants");
     loads::all(&mut context, &mut Random::new(seed), 300.max(count as usize));
     context.tally.stage("test loads");

@@ -4,7 +4,7 @@ use crate::instances::{small, Instance, Size, LOOSE};
 use crate::random::Random;
 use crate::tally::Tally;
 use crate::whole::modelled;
-use model::leaves::{add, canonical, mul, neg, Q};
+use model::leaves::{add, canonical, centre, mul, neg, Q};
 use model::mistyped::{mistyped, smallest, Mistyped};
 use model::refusals::Handed;
 use model::words::{join, Job, Parameters, Randomness, Transcript, PARAMETERS};
@@ -12,6 +12,7 @@ use model::checks;
 
 pub const ANSWERS: &str = "answers of the call on mistyped constants";
 pub const COUNTS: &str = "entries of a list of mistyped constants";
+pub const ORDERS: &str = "neighbours in a list of mistyped constants";
 pub const KINDS: &str = "weights of the rows of check 22";
 
 /// The comparisons.
@@ -19,6 +20,7 @@ pub const LISTS: &str = "library: the list of mistyped constants with the model'
 pub const PLANTED: &str = "model: answers of the call on mistyped constants with what was planted";
 pub const MENDED: &str = "model: check 22 with each entry's number put in";
 pub const SEARCHED: &str = "model: the smallest number with a search by rising size";
+pub const ORDERED: &str = "model: which of two entries of a list comes first, from document 02's words";
 
 const SPARE: usize = 7;
 const MARK: u32 = 0xc0de_c0de;
@@ -88,8 +90,48 @@ fn compare(tally: &mut Tally, purpose: &str, given: &Given) -> Mistyped {
     tally.occurred(ANSWERS, format!("{:>2}", expected.number));
     if expected.number == 0 {
         tally.occurred(COUNTS, expected.entries.min(4));
+        in_order(tally, &expected);
     }
     expected
+}
+
+/// How an entry stands to the one after it. The first is what equal sizes were ordered by before Item 12.
+const NEIGHBOURS: [&str; 5] = [
+    "a negative number of a higher index before a positive one of its size",
+    "a negative number of a lower index before a positive one of its size",
+    "two negative numbers of one size",
+    "two positive numbers of one size",
+    "a smaller size",
+];
+
+/// Two entries, each an index and a centred number, in the order that "Smallest size still leads", "negative numbers first,
+/// then by lower l" asks for, or none where it asks for the other one.
+fn neighbours(first: (u32, i64), second: (u32, i64)) -> Option<&'static str> {
+    let by_index = |kind: usize| (first.0 < second.0).then_some(NEIGHBOURS[kind]);
+    if first.1.abs() != second.1.abs() {
+        return (first.1.abs() < second.1.abs()).then_some(NEIGHBOURS[4]);
+    }
+    match (first.1 < 0, second.1 < 0) {
+        (true, false) if first.0 > second.0 => Some(NEIGHBOURS[0]),
+        (true, false) => Some(NEIGHBOURS[1]),
+        (false, true) => None,
+        (true, true) => by_index(2),
+        (false, false) => by_index(3),
+    }
+}
+
+/// Each entry with the one after it.
+fn in_order(tally: &mut Tally, told: &Mistyped) {
+    let list = told.list.as_deref().unwrap_or_default();
+    let entries: Vec<(u32, i64)> =
+        list.chunks(2).take(told.entries as usize).map(|entry| (entry[0], centre(entry[1]))).collect();
+    for pair in entries.windows(2) {
+        let kind = neighbours(pair[0], pair[1]);
+        tally.compare(ORDERED, &kind.is_some(), &true, || format!("{entries:?}"));
+        if let Some(kind) = kind {
+            tally.occurred(ORDERS, kind);
+        }
+    }
 }
 
 /// Check 22 with each entry's number put in: no row is left.
@@ -133,15 +175,18 @@ enum Weights {
     SomeZero,
     /// Each index a divisor of Q times the first.
     Multiplied,
+    /// Each index the first one's column times 1, 3 or 5, as it is or negated: several sizes, each with both signs.
+    Tied,
 }
 
-const WEIGHTS: [Weights; 6] = [
+const WEIGHTS: [Weights; 7] = [
     Weights::Drawn,
     Weights::Multiples,
     Weights::Alike,
     Weights::AlikeMultiples,
     Weights::SomeZero,
     Weights::Multiplied,
+    Weights::Tied,
 ];
 
 /// Sets the rows of psi.
@@ -171,15 +216,23 @@ fn weigh(random: &mut Random, instance: &mut Instance, weights: Weights) {
                     *w = mul(first, DIVISORS[i % DIVISORS.len()]);
                 }
             }
+            Weights::Tied => {
+                let first = row[0];
+                for (i, (w, &negated)) in row.iter_mut().zip(&signs).enumerate() {
+                    let times = mul(first, [1, 3, 5][i / 2 % 3]);
+                    *w = if negated { neg(times) } else { times };
+                }
+            }
         }
     }
 }
 
-/// A number to be added to a constant, small ones more often.
+/// A number to be added to a constant, small ones and small multiples of 15 more often.
 fn error(random: &mut Random) -> u32 {
-    match random.below(3) {
+    match random.below(4) {
         0 => canonical(random.below(41) as i64 - 20),
-        1 => mul(random.pick(&DIVISORS), random.number()),
+        1 => canonical(15 * (random.below(41) as i64 - 20)),
+        2 => mul(random.pick(&DIVISORS), random.number()),
         _ => random.number(),
     }
 }
@@ -281,7 +334,10 @@ fn searched(tally: &mut Tally, random: &mut Random) {
 
 /// All cases, on `count` random jobs.
 pub fn all(tally: &mut Tally, random: &mut Random, count: usize) {
-    tally.must_compare(&[LISTS, PLANTED, MENDED, SEARCHED]);
+    tally.must_compare(&[LISTS, PLANTED, MENDED, SEARCHED, ORDERED]);
+    for kind in NEIGHBOURS {
+        tally.must_occur(ORDERS, kind);
+    }
     for number in (0..=10).chain([14, 15, 16, 32, 33]) {
         tally.must_occur(ANSWERS, format!("{number:>2}"));
     }
@@ -291,7 +347,7 @@ pub fn all(tally: &mut Tally, random: &mut Random, count: usize) {
     for i in 0..count {
         searched(tally, random);
         let mut parameters = small(random, i);
-        parameters.constant = [1, 2, 4, 6, 0, 3, 5][i % 7];
+        parameters.constant = [1, 2, 4, 6, 0, 3, 5, 6][i % 8];
         let weights = WEIGHTS[i % WEIGHTS.len()];
         tally.occurred(KINDS, format!("{weights:?}"));
         let mut instance = Instance::random(random, parameters, Size::Bits(2));
@@ -308,9 +364,10 @@ pub fn all(tally: &mut Tally, random: &mut Random, count: usize) {
 }
 
 /// The number of recorded cases.
-const RECORDED: u32 = 16;
+const RECORDED: u32 = 20;
 
-/// What recorded case k hands to the call: a load with five constants, whose columns of psi are alike, negated and multiplied; the constants wrong after.
+/// What recorded case k hands to the call: a load with five constants, whose columns of psi are alike, negated and multiplied, from case 16 on with the signs in
+/// turn; the constants wrong after.
 fn recorded(k: u32) -> Given {
     let sizes = [1, 1, 4, 1, 1, 1, 5, 32, 256, 4, 4, 4];
     let lengths = model::load::needs(sizes).expect("parameters within their limits");
@@ -321,7 +378,12 @@ fn recorded(k: u32) -> Given {
     let factor = [1, 3, 5, 17, 257, 65537, 255, 65535][k as usize % 8];
     for row in randomness[psi..psi + p.aggregations * 5].chunks_mut(5) {
         let first = mul(row[0], factor);
-        row.copy_from_slice(&[first, first, neg(first), mul(first, 3), row[4]]);
+        let columns = if k < 16 {
+            [first, first, neg(first), mul(first, 3), row[4]]
+        } else {
+            [first, neg(first), first, neg(first), mul(first, 3)]
+        };
+        row.copy_from_slice(&columns);
     }
     if k % 4 == 3 {
         randomness[psi..psi + 5].fill(0);
@@ -356,7 +418,7 @@ fn recorded(k: u32) -> Given {
     }
 }
 
-/// The model's answers to sixteen cases as rows of `bindings/test.c`: number, place, entries, and the first ten words of the list.
+/// The model's answers to the recorded cases as rows of `bindings/test.c`: number, place, entries, and the first ten words of the list.
 pub fn print_sums() {
     for k in 0..RECORDED {
         let told = recorded(k).model();

@@ -1,5 +1,5 @@
 //! Document 02, Item 8: which constant was mistyped. "After such a verdict a call lists each index l for which adding one
-//! number to b0[l] alone would let check 22 pass."
+//! number to b0[l] alone would let check 22 pass." Its order is Item 12's.
 
 use crate::checks::{row_values, verdict};
 use crate::leaves::{centre, mul, sub, Q};
@@ -18,9 +18,10 @@ pub struct Entry {
 }
 
 impl Entry {
-    /// "Smallest size comes first; equal sizes by lower l."
-    fn rank(&self) -> (u64, u32) {
-        (centre(self.number).unsigned_abs(), self.index)
+    /// "entries of equal size now come with negative numbers first, then by lower l. Smallest size still leads."
+    fn rank(&self) -> (u64, bool, u32) {
+        let number = centre(self.number);
+        (number.unsigned_abs(), number > 0, self.index)
     }
 }
 

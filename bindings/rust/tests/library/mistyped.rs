@@ -25,6 +25,36 @@ fn each_constant_put_wrong_is_found() {
     }
 }
 
+/// Columns of psi that are the first one's times a number, so that one wrong constant can be mended at every index.
+fn with_columns(p: &Parameters, factors: &[i64]) -> Case {
+    let mut case = made(p, 3);
+    let psi = begin(Slice::Randomness, p, "psi");
+    for row in case.randomness[psi..psi + (p.L * p.l) as usize].chunks_mut(p.l as usize) {
+        let first = i128::from(row[0]);
+        for (word, &factor) in row.iter_mut().zip(factors) {
+            *word = (first * i128::from(factor)).rem_euclid(i128::from(Q)) as u32;
+        }
+    }
+    case.transcript = labrador::prove(&case.job, &case.randomness, &case.witness).unwrap();
+    case
+}
+
+#[test]
+fn of_equal_sizes_lowered_constants_come_first() {
+    let p = Parameters { l: 6, ..Parameters::SMALL };
+    let b0 = begin(Slice::Job, &p, "b0");
+    let centred = |found: Vec<Mistyped>| -> Vec<(u32, i64)> {
+        found.iter().map(|entry| (entry.index, entry.number.centre().unwrap())).collect()
+    };
+    let mut case = with_columns(&p, &[1, -1, 1, -1, 1, -1]);
+    add(&mut case.job[b0], Q - 7);
+    assert_eq!(centred(list_of(&case).unwrap()), [(1, -7), (3, -7), (5, -7), (0, 7), (2, 7), (4, 7)]);
+    // two sizes, each with both signs
+    let mut case = with_columns(&p, &[1, 3, -3, -1, -1, 3]);
+    add(&mut case.job[b0], 9);
+    assert_eq!(centred(list_of(&case).unwrap()), [(1, -3), (5, -3), (2, 3), (0, -9), (3, 9), (4, 9)]);
+}
+
 #[test]
 fn two_wrong_constants_are_mended_by_none() {
     let p = Parameters { l: 5, ..Parameters::SMALL };
