@@ -1,5 +1,6 @@
 -- The digits of cells in slices, and where cells and matrices lie.
-use mathlib.Core.List.{List}
+use mathlib.Core.Path.{_≡_}
+use mathlib.Core.List.{List, flatMap}
 use Prim.Native.Nat.{ℕ, _+_, _*_, _≤_, _<_, _^_}
 use native.Mathlib.Decide.{decLe}
 use lib.ListN.{length, getD}
@@ -10,6 +11,7 @@ use Rattle.definitions.specs.Zq.{Canonical}
 use Rattle.definitions.specs.Rq.{Element}
 use Rattle.definitions.specs.Ring.{element}
 use Rattle.inner_product.specs.Run.{run}
+use Rattle.digit_products.specs.Forms.{shifted}
 use Rattle.protocol.specs.Checks.{require}
 use Rattle.protocol.specs.Formulas.{_⊕_, dot, flat, rows, norm-of, digit-element, digits-of, count-left, times}
 use Rattle.rq_matrix.specs.Region.{vector}
@@ -43,6 +45,10 @@ added words at n f = splice words at (flat (table n (λ k. run words at 64 k ⊕
 abbrev pub digits-of-element : ℕ → List ℕ → ℕ → ℕ → Element
 digits-of-element b words at = digit-element b (element (part words at 64))
 
+-- the forms of n digits that stand from the first word on, half the base added
+abbrev pub forms-of : ℕ → List ℕ → ℕ → List ℕ
+forms-of half words n = flatMap (shifted half) (table n (λ m. part words (64 * m) 64))
+
 -- the inner product of n elements with those of row k, rows at equal steps
 abbrev pub row-product : List ℕ → ℕ → ℕ → ℕ → (ℕ → Element) → ℕ → Element
 row-product matrix at step n f k = dot n (run matrix (at + step * k) 64) f
@@ -73,6 +79,10 @@ pub record Cells (words : List ℕ) (d : Digits) : Type 0 where
 pub record Blocks (words : List ℕ) (at step size n : ℕ) : Type 0 where
   pub within : (k : ℕ) → k < n → at + step * k + size ≤ length words
   pub near : step ≤ 2 ^ 40
+
+-- buffers for 32 digits and their forms
+abbrev pub Buffers : List ℕ → List ℕ → Type 0
+Buffers digits forms = (length digits ≡ 2048) × (length forms ≡ 4096)
 
 -- n words from a place on are canonical
 abbrev pub CanonicalFrom : List ℕ → ℕ → ℕ → Type 0

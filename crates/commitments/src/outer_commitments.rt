@@ -5,12 +5,14 @@ use rq_vector::digits;
 use rq_vector::vector::zero;
 use zq::wide::wide;
 ghost use mathlib.Core.Path.{_≡_};
-ghost use Prim.Native.Nat.{_+_, _*_, _≤_, _<_, _^_};
+ghost use Prim.Native.Nat.{_+_, _*_, _/_, _≤_, _<_, _^_};
 ghost use lib.ListN.{length};
+ghost use Rattle.lists.specs.Table.{table};
 ghost use Rattle.lists.specs.Part.{splice};
+ghost use Rattle.protocol.specs.Formulas.{flat};
 ghost use Rattle.inner_product.specs.Run.{run};
 ghost use Rattle.digit_products.specs.Forms.{DigitForms};
-ghost use Rattle.commitments.specs.Cells.{width, Room, added, row-product, digits-of-element, digits-product, u1-of, u2-of, Cells, Blocks, CanonicalFrom};
+ghost use Rattle.commitments.specs.Cells.{width, Room, added, row-product, digits-of-element, forms-of, digits-product, u1-of, u2-of, Cells, Blocks, Buffers, CanonicalFrom};
 
 // The digits of `cells` elements from `at` on, each element in `parts` digits.
 pub struct Digits {
@@ -48,7 +50,7 @@ pub fn add_products(
     }
 }
 
-// The inner products of one cell's digits with the rows' parts added to the rows' elements.
+// The inner products of one cell's digits with the rows' parts added to the rows' elements. The digits and their forms are made in lent buffers.
 pub fn add_cell(
     matrix: &[u32],
     m_at: usize,
@@ -58,24 +60,26 @@ pub fn add_cell(
     at: usize,
     base: u32,
     parts: usize,
+    digits: &mut [u32],
+    forms: &mut [u64],
     out: &mut [u32],
     out_at: usize,
 )
-    requires { ⌜ Blocks (now matrix) «m_at» «m_step» (64 * parts) rows × (at + 64 ≤ length (now from)) × Room (now out) «out_at» rows × (1 < base) × (parts ≤ 32) ⌝ }
+    requires { ⌜ Blocks (now matrix) «m_at» «m_step» (64 * parts) rows × (at + 64 ≤ length (now from)) × Room (now out) «out_at» rows × (1 < base) × (parts ≤ 32) × Buffers (now digits) (now forms) ⌝ }
     ensures { λ _. ⌜ now (out .exit) ≡ added (now (out .entry)) «out_at» rows (row-product (now (matrix .entry)) «m_at» «m_step» parts (digits-of-element base (now (from .entry)) at)) ⌝ }
+    ensures { λ _. ⌜ now (digits .exit) ≡ splice (now (digits .entry)) 0 (flat (table parts (digits-of-element base (now (from .entry)) at))) ⌝ }
+    ensures { λ _. ⌜ now (forms .exit) ≡ splice (now (forms .entry)) 0 (forms-of (base / 2) (now (digits .exit)) parts) ⌝ }
 {
-    let mut digits = [0u32; 2048];
-    digits::decompose_to(from, at, base, parts, &mut digits, 0);
+    digits::decompose_to(from, at, base, parts, digits, 0);
     let half = wide(base / 2);
-    let mut forms = [0u64; 4096];
-    forms::store_forms(&digits, parts, half, &mut forms);
+    forms::store_forms(digits, parts, half, forms);
     add_products(
         matrix,
         m_at,
         m_step,
         rows,
-        &digits,
-        &forms,
+        digits,
+        forms,
         half,
         parts,
         out,
@@ -101,6 +105,8 @@ pub fn add_cells(
     let parts = d.parts;
     let block = 64 * parts;
     let step = 64 * (cells * parts);
+    let mut digits = [0u32; 2048];
+    let mut forms = [0u64; 4096];
     let mut column = m_at;
     let mut place = d.at;
     let mut c = 0;
@@ -114,6 +120,8 @@ pub fn add_cells(
             place,
             base,
             parts,
+            &mut digits,
+            &mut forms,
             out,
             out_at,
         );

@@ -1,25 +1,21 @@
 -- The cells of the contracts are those of the prover's formulas.
-use mathlib.Core.Path.{_≡_, refl, sym, ap₂, subst}
+use mathlib.Core.Path.{_≡_, refl, ap₂}
 use mathlib.Core.List.{List}
-use Prim.Native.Nat.{ℕ, _+_, _*_, _≤_, _<_}
+use Prim.Native.Nat.{ℕ, _+_, _<_}
 use native.Mathlib.Omega.{arith}
-use lib.ListN.{length}
 use Rattle.lists.specs.Table.{table}
-use Rattle.lists.specs.Part.{splice}
 use Rattle.lists.proofs.Table.{table-ext}
 use Rattle.lists.proofs.Cat.{cat-ext}
 use Rattle.algebra.proofs.Dot.{dot-ext}
 use Rattle.definitions.specs.Rq.{Element}
 use Rattle.definitions.specs.Ring.{RqOps}
-use Rattle.protocol.specs.Parameters.{Parameters, triangular}
+use Rattle.protocol.specs.Parameters.{Parameters}
 use Rattle.protocol.specs.Layout.{start, witness-sections}
 use Rattle.protocol.specs.Views.{Public, public, witness}
 use Rattle.protocol.specs.Formulas as F
-use Rattle.protocol.specs.Formulas.{_⊕_, dot, flat, triangle}
-use Rattle.protocol.proofs.ReadBack.{g-symmetric}
-use Rattle.protocol.proofs.Region.{Triangle, Vectors}
+use Rattle.protocol.specs.Formulas.{_⊕_, dot, triangle}
+use Rattle.protocol.proofs.Region.{Vectors}
 use Rattle.rq_matrix.specs.Region.{vector, gram}
-use Rattle.rq_matrix.proofs.Fill.{triangle-stored}
 use Rattle.garbage_polynomials.specs.Garbage.{h-of}
 
 -- cells that agree below the diagonal and on it give equal triangles
@@ -35,12 +31,6 @@ module _ (J R W : List ℕ) where
   pub g-formula : triangle r (gram W (start (witness-sections P) 0) n) ≡ triangle r (F.g (public J R) (witness P W))
   unfolding F.g
   g-formula = refl
-
-  -- the triangle that `compute_g` fills is g
-  pub g-stored : (l : List ℕ) (at : ℕ) → at + 64 * triangular r ≤ length l → Triangle (splice l at (flat (triangle r (gram W (start (witness-sections P) 0) n)))) at r (F.g (public J R) (witness P W))
-  g-stored l at within =
-      subst (λ cells. Triangle (splice l at (flat cells)) at r (F.g (public J R) (witness P W))) (sym g-formula)
-      (triangle-stored l at r (F.g (public J R) (witness P W)) (g-symmetric (public J R) (witness P W)) within)
 
   -- h of the witness and of the φ that a slice holds
   pub h-formula : (S : List ℕ) (φ-at : ℕ) → Vectors S φ-at r n (F.φ-sum (public J R))

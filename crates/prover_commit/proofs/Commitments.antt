@@ -2,8 +2,8 @@
 use mathlib.Core.Path.{_≡_, refl, sym, ap, subst, _∙_}
 use mathlib.Core.Bool.{Bool, cond}
 use mathlib.Core.List.{List, []}
-use mathlib.Core.Logic.{inl}
 use Prim.Native.Nat.{ℕ, _+_, _*_, _≤_, _<_, _^_}
+use native.Mathlib.Nat.{le-div-iff-mul-le, mul-le-mul-right}
 use native.Mathlib.Decide.{decLe}
 use native.Mathlib.Omega.{arith}
 use lib.Dec.{leb}
@@ -24,7 +24,16 @@ use Rattle.protocol.specs.Prover.{witness-norm}
 use Rattle.protocol.specs.Region.{Triangle}
 use Rattle.protocol.proofs.Then.{then-assoc}
 use Rattle.protocol.proofs.ReadBack.{g-symmetric, h-symmetric}
-use Rattle.rq_matrix.specs.Region.{vector, gram, Apart}
+use Rattle.protocol.proofs.Flat.{length-flat, length-rows}
+use Rattle.definitions.specs.Rq.{Element}
+use Rattle.rq_matrix.specs.Region.{vector, gram}
+use Rattle.kept_vectors.specs.Keeps.{kept-words, Keeps, AllValues}
+use Rattle.kept_vectors.proofs.Stored.{length-kept}
+use Rattle.kept_vectors.proofs.Laws.{keeps-values}
+use Rattle.kept_garbage.specs.KeptGarbage.{kept-gram}
+use Rattle.kept_garbage.proofs.Laws.{g-kept}
+use Rattle.kept_commitments.specs.Spread.{ColumnsRoom}
+use Rattle.kept_h.specs.KeptLines.{lines-of, HRoom}
 use Rattle.commitments.specs.Cells.{digits-at, vector-norm}
 use Rattle.commitments.proofs.Answers.{require-leb}
 use Rattle.commitments.proofs.Formula.{digits, t-is, witness-norm-is, t-norm-is, g-norm-is, h-norm-is}
@@ -43,8 +52,8 @@ use Rattle.workspace.proofs.Aggregated.{a″-symmetric}
 use Rattle.workspace.proofs.Ready.{ready-changed, regions-end, A-within, φ″-end, a″-end, φ-end, a-end, g-end, c-end, t-end, u-end, b″-end}
 use Rattle.prover_commit.specs.Words.{statement, X, s, t-words, g-words, b″-words, h-words}
 use Rattle.prover_commit.specs.Refusals.{t-refusal, g-refusal, h-refusal, first-refusal, t-check, g-check, h-check}
-use Rattle.prover_commit.specs.Work.{Given, Where-made, Committed}
-use Rattle.prover_commit.proofs.Lengths.{length-t, length-g}
+use Rattle.prover_commit.specs.Work.{Given, Where-made, Committed, with-h-words}
+use Rattle.prover_commit.proofs.Lengths.{length-t, length-g, length-h}
 
 -- the witness's words stand after their count
 witness-start : (P : Parameters) → start (witness-sections P) 0 ≡ 1
@@ -119,59 +128,131 @@ module _ (J W : List ℕ) (p : EnvironmentParameters) (q : Regions) (S : List �
   unfolding first-refusal
   first-is = ap (λ a. a then (t-refusal J W then g-refusal J W)) witness-answer ∙ sym (then-assoc (witness-norm (statement J) (s J W)) (t-refusal J W) (g-refusal J W))
 
-  -- t: what `commit_all` needs, and what it stores
+  -- "5 aggregations fewer than 128/log_q rounded up": there are at least 4
+  four : 4 ≤ P .L
+  four = omega (arith, h .ready .sound .aggregated, le-div-iff-mul-le {k = P .log-q} {x = 4} {y = 127 + P .log-q} (omega (arith, h .ready .sound .within .log-q .0)) .1 (omega (arith, h .ready .sound .within .log-q .1)))
+
+  -- the region of φ'' has room for the values of the witness's vectors, and that of a'' for a square of r rows
+  pub values-room : q .phi2 + 192 * (P .r * P .n) ≤ q .a2
+  values-room = omega (arith, φ″-end J p q S (h .ready), mul-le-mul-right (P .r * P .n) four)
+
+  square-room : q .a2 + 64 * (P .r * P .r) ≤ q .phi
+  square-room = omega (arith, a″-end J p q S (h .ready), mul-le-mul-right (T P) four)
+
+  a″-below-g : q .a2 ≤ q .g
+  a″-below-g = omega (arith, a″-end J p q S (h .ready), φ-end J p q S (h .ready), a-end J p q S (h .ready))
+
+  g-before-t : q .g ≤ q .t
+  g-before-t = omega (arith, g-end J p q S (h .ready), c-end J p q S (h .ready))
+
+  -- the values by the code's parameters
+  pub values-end : q .phi2 + length (kept-words W 1 (p .multiplicity * p .rank)) ≤ q .g
+  values-end = subst (λ Q. q .phi2 + length (kept-words W 1 (Q .r * Q .n)) ≤ q .g) (sym (h .ready .same)) (omega (arith, length-kept W 1 (P .r * P .n), values-room, a″-below-g))
+
+  -- the values of the witness's vectors
+  abbrev vs : List ℕ
+  vs = kept-words W 1 (p .multiplicity * p .rank)
+
+  -- t: what `t_of` needs, and what it stores
   pub t-fits : (at : ℕ) → at ≡ 31 + start (job-sections (parametersOf p)) 6
-      → (at + 64 * (p .kappa * p .rank) ≤ length J) × (1 + 64 * (p .multiplicity * p .rank) ≤ length W) × (q .t + 64 * (p .multiplicity * p .kappa) ≤ length S) × (p .rank ≤ 64) × (p .kappa ≤ 64)
+      → (at + 64 * (p .kappa * p .rank) ≤ length J) × (1 + 64 * (p .multiplicity * p .rank) ≤ length W) × ColumnsRoom S (p .kappa) (p .rank) (p .multiplicity) (q .phi2) (q .t)
   t-fits at e =
-      subst (λ k. (k + 64 * (p .kappa * p .rank) ≤ length J) × (1 + 64 * (p .multiplicity * p .rank) ≤ length W) × (q .t + 64 * (p .multiplicity * p .kappa) ≤ length S) × (p .rank ≤ 64) × (p .kappa ≤ 64)) (sym e)
-      (subst (λ Q. (31 + start (job-sections Q) 6 + 64 * (Q .κ * Q .n) ≤ length J) × (1 + 64 * (Q .r * Q .n) ≤ length W) × (q .t + 64 * (Q .r * Q .κ) ≤ length S) × (Q .n ≤ 64) × (Q .κ ≤ 64)) (sym (h .ready .same))
-      (A-within J p q S (h .ready), witness-fits, omega (arith, t-room, h .ready .room), h .ready .sound .within .n .1, omega (arith, h .ready .sound .within .κ .1)))
+      subst (λ k. (k + 64 * (p .kappa * p .rank) ≤ length J) × (1 + 64 * (p .multiplicity * p .rank) ≤ length W) × ColumnsRoom S (p .kappa) (p .rank) (p .multiplicity) (q .phi2) (q .t)) (sym e)
+      (subst (λ Q. (31 + start (job-sections Q) 6 + 64 * (Q .κ * Q .n) ≤ length J) × (1 + 64 * (Q .r * Q .n) ≤ length W) × ColumnsRoom S (Q .κ) (Q .n) (Q .r) (q .phi2) (q .t)) (sym (h .ready .same)) (
+        A-within J p q S (h .ready),
+        witness-fits,
+        (omega (arith, values-room, a″-below-g, g-before-t), omega (arith, t-room, h .ready .room), omega (arith, h .ready .sound .within .κ .1), h .ready .sound .within .n .1, omega (arith, h .ready .sound .within .r .1)),
+      ))
 
   pub t-made : (S′ : List ℕ) (at : ℕ) → at ≡ 31 + start (job-sections (parametersOf p)) 6
-      → S′ ≡ splice S (q .t) (flat (rows (p .multiplicity) (p .kappa) (λ i k. dot (p .rank) (vector J at (p .rank) k) (vector W 1 (p .rank) i)))) → S′ ≡ splice S (q .t) (t-words J W)
+      → S′ ≡ splice (splice S (q .phi2) vs) (q .t) (flat (rows (p .multiplicity) (p .kappa) (λ i k. dot (p .rank) (vector J at (p .rank) k) (vector W 1 (p .rank) i)))) → S′ ≡ splice (splice S (q .phi2) vs) (q .t) (t-words J W)
   t-made S′ at e w =
       w
-      ∙ ap (splice S (q .t))
+      ∙ ap (splice (splice S (q .phi2) vs) (q .t))
       (ap (λ k. flat (rows (p .multiplicity) (p .kappa) (λ i j. dot (p .rank) (vector J k (p .rank) j) (vector W 1 (p .rank) i)))) e
       ∙ ap (λ Q. flat (rows (Q .r) (Q .κ) (λ i j. dot (Q .n) (vector J (31 + start (job-sections Q) 6) (Q .n) j) (vector W 1 (Q .n) i)))) (h .ready .same)
       ∙ ap (λ k. flat (rows (P .r) (P .κ) (λ i j. dot (P .n) (vector J (31 + start (job-sections P) 6) (P .n) j) (vector W k (P .n) i)))) (sym (witness-start P))
       ∙ ap (λ f. flat (rows (P .r) (P .κ) f)) (t-is J [] W))
 
   -- g: what `compute_g` needs, and what it stores
-  pub g-fits : (1 + 64 * (p .multiplicity * p .rank) ≤ length W) × (q .g + 64 * triangular (p .multiplicity) ≤ length S) × (p .multiplicity ≤ 64) × (p .rank ≤ 64)
-  g-fits =
-      subst (λ Q. (1 + 64 * (Q .r * Q .n) ≤ length W) × (q .g + 64 * T Q ≤ length S) × (Q .r ≤ 64) × (Q .n ≤ 64)) (sym (h .ready .same))
-      (witness-fits, omega (arith, g-room, h .ready .room), omega (arith, h .ready .sound .within .r .1), h .ready .sound .within .n .1)
+  pub g-fits : Keeps S (q .phi2) W 1 (p .multiplicity * p .rank)
+      → AllValues S (q .phi2) (p .multiplicity * p .rank) × (q .phi2 + 192 * (p .multiplicity * p .rank) ≤ q .g) × (q .g + 64 * triangular (p .multiplicity) ≤ length S) × (p .multiplicity ≤ 64) × (p .rank ≤ 64)
+  g-fits k =
+      let fits : (q .phi2 + 192 * (p .multiplicity * p .rank) ≤ q .g) × (q .g + 64 * triangular (p .multiplicity) ≤ length S) × (p .multiplicity ≤ 64) × (p .rank ≤ 64) =
+      subst (λ Q. (q .phi2 + 192 * (Q .r * Q .n) ≤ q .g) × (q .g + 64 * T Q ≤ length S) × (Q .r ≤ 64) × (Q .n ≤ 64)) (sym (h .ready .same))
+      (omega (arith, values-room, a″-below-g), omega (arith, g-room, h .ready .room), omega (arith, h .ready .sound .within .r .1), h .ready .sound .within .n .1) in
+      (keeps-values S (q .phi2) W 1 (p .multiplicity * p .rank) k, fits .0, fits .1, fits .2, fits .3)
 
-  pub g-made : (S′ : List ℕ) → S′ ≡ splice S (q .g) (flat (triangle (p .multiplicity) (gram W 1 (p .rank)))) → S′ ≡ splice S (q .g) (g-words J W)
-  g-made S′ w =
+  pub g-made : (S′ : List ℕ) → Keeps S (q .phi2) W 1 (p .multiplicity * p .rank) → S′ ≡ splice S (q .g) (flat (triangle (p .multiplicity) (kept-gram S (q .phi2) (p .rank)))) → S′ ≡ splice S (q .g) (g-words J W)
+  g-made S′ k w =
       w
       ∙ ap (splice S (q .g))
-      (ap (λ Q. flat (triangle (Q .r) (gram W 1 (Q .n)))) (h .ready .same)
+      (ap flat (g-kept S (q .phi2) W 1 (p .multiplicity) (p .rank) (g-fits k .4) k)
+      ∙ ap (λ Q. flat (triangle (Q .r) (gram W 1 (Q .n)))) (h .ready .same)
       ∙ ap (λ k. flat (triangle (P .r) (gram W k (P .n)))) (sym (witness-start P))
       ∙ ap flat (g-formula J [] W))
 
   -- h: what `compute_h` needs, and what it stores from φ
-  pub h-fits : (1 + 64 * (p .multiplicity * p .rank) ≤ length W) × (q .phi + 64 * (p .multiplicity * p .rank) ≤ length S) × (q .a + 64 * triangular (p .multiplicity) ≤ length S)
-      × Apart (q .phi) (64 * (p .multiplicity * p .rank)) (q .a) (64 * triangular (p .multiplicity)) × (p .multiplicity ≤ 64) × (p .rank ≤ 64)
+  pub h-fits : (1 + 64 * (p .multiplicity * p .rank) ≤ length W) × HRoom S (p .multiplicity) (p .rank) (q .phi2) (q .a2) (q .phi) (q .a)
   h-fits =
-      subst (λ Q. (1 + 64 * (Q .r * Q .n) ≤ length W) × (q .phi + 64 * (Q .r * Q .n) ≤ length S) × (q .a + 64 * T Q ≤ length S) × Apart (q .phi) (64 * (Q .r * Q .n)) (q .a) (64 * T Q) × (Q .r ≤ 64) × (Q .n ≤ 64))
-      (sym (h .ready .same)) (
-        witness-fits,
-        omega (arith, φ-end J p q S (h .ready), a-room, h .ready .room),
-        omega (arith, a-room, h .ready .room),
-        inl (φ-end J p q S (h .ready)),
-        omega (arith, h .ready .sound .within .r .1),
-        h .ready .sound .within .n .1,
-      )
+      subst (λ Q. (1 + 64 * (Q .r * Q .n) ≤ length W) × HRoom S (Q .r) (Q .n) (q .phi2) (q .a2) (q .phi) (q .a)) (sym (h .ready .same))
+      (witness-fits, (values-room, square-room, φ-end J p q S (h .ready), omega (arith, a-room, h .ready .room), h .ready .sound .within .n .1, omega (arith, h .ready .sound .within .r .1)))
 
-  pub h-made : (R S′ : List ℕ) → Holds S (q .phi) (φ-words J R) → S′ ≡ splice S (q .a) (flat (triangle (p .multiplicity) (h-of S (q .phi) W 1 (p .rank)))) → S′ ≡ splice S (q .a) (h-words J R W)
+  pub h-made : (R S′ : List ℕ) → Holds S (q .phi) (φ-words J R)
+      → S′ ≡ splice (lines-of S (q .phi) W 1 (p .multiplicity) (p .rank) (q .phi2) (q .a2)) (q .a) (flat (triangle (p .multiplicity) (h-of S (q .phi) W 1 (p .rank)))) → S′ ≡ with-h-words J R W p q S
   h-made R S′ φ w =
       w
-      ∙ ap (splice S (q .a))
+      ∙ ap (splice (lines-of S (q .phi) W 1 (p .multiplicity) (p .rank) (q .phi2) (q .a2)) (q .a))
       (ap (λ Q. flat (triangle (Q .r) (h-of S (q .phi) W 1 (Q .n)))) (h .ready .same)
       ∙ ap (λ k. flat (triangle (P .r) (h-of S (q .phi) W k (P .n)))) (sym (witness-start P))
       ∙ ap flat (h-formula J R W S (q .phi) (vectors-held S (q .phi) (P .r) (P .n) (F.φ-sum (X J R)) φ)))
+
+  -- a scratch into which h was stored, and before it the values and the square
+  module _ (R S′ : List ℕ) (e : S′ ≡ with-h-words J R W p q S) where
+    abbrev cells : List ℕ
+    cells = flat (rows (p .multiplicity) (p .multiplicity) (λ i j. dot (p .rank) (vector S (q .phi) (p .rank) i) (vector W 1 (p .rank) j)))
+
+    abbrev S₁ : List ℕ
+    S₁ = splice S (q .phi2) (kept-words W 1 (p .multiplicity * p .rank))
+
+    abbrev S₂ : List ℕ
+    S₂ = splice S₁ (q .a2) cells
+
+    square-end : q .a2 + length cells ≤ q .g
+    square-end =
+        subst (λ Q. q .a2 + length (flat (rows (Q .r) (Q .r) (λ i j. dot (Q .n) (vector S (q .phi) (Q .n) i) (vector W 1 (Q .n) j)))) ≤ q .g) (sym (h .ready .same))
+        (omega (arith, square-room, φ-end J p q S (h .ready), a-end J p q S (h .ready), length-flat (rows (P .r) (P .r) f), length-rows (P .r) f (P .r)))
+      where
+        f : ℕ → ℕ → Element
+        f i j = dot (P .n) (vector S (q .phi) (P .n) i) (vector W 1 (P .n) j)
+
+    h-end : q .a + length (h-words J R W) ≤ q .g
+    h-end = omega (arith, length-h J R W, a-end J p q S (h .ready))
+
+    stored : S′ ≡ splice S₂ (q .a) (h-words J R W)
+    stored = e ∙ ap (λ l. splice l (q .a) (h-words J R W)) (unfold lines-of in refl)
+
+    lines-size : length S₂ ≡ length S
+    lines-size = length-splice S₁ (q .a2) cells ∙ length-splice S (q .phi2) (kept-words W 1 (p .multiplicity * p .rank))
+
+    pub given-h : Given J W p q S′
+    given-h = given-changed S′ (ap length stored ∙ length-splice S₂ (q .a) (h-words J R W) ∙ lines-size)
+
+    pub held-h : Holds S′ (q .a) (h-words J R W)
+    held-h = held-stored S₂ S′ (q .a) (h-words J R W) stored (omega (arith, h-end, g-room, h .ready .room, lines-size))
+
+    pub kept-h : Kept (scratch-need P) S S′
+    kept-h =
+        kept-stored (scratch-need P) S S₂ S′ (q .a) (h-words J R W)
+        (kept-stored (scratch-need P) S S₁ S₂ (q .a2) cells (kept-stored (scratch-need P) S S S₁ (q .phi2) (kept-words W 1 (p .multiplicity * p .rank)) (kept-refl (scratch-need P) S) refl (omega (arith, values-end, g-room))) refl (omega (arith, square-end, g-room)))
+        stored (omega (arith, h-end, g-room))
+
+    -- what stands from g on is as it was
+    pub stands-h : (at : ℕ) (ws : List ℕ) → q .g ≤ at → Holds S at ws → Holds S′ at ws
+    stands-h at ws l k =
+        held-after S₂ S′ (q .a) (h-words J R W) stored at ws (omega (arith, h-end, l))
+        (held-after S₁ S₂ (q .a2) cells refl at ws (omega (arith, square-end, l))
+        (held-after S S₁ (q .phi2) (kept-words W 1 (p .multiplicity * p .rank)) refl at ws (omega (arith, values-end, l)) k))
 
   -- b'': what `b_double_prime` needs, and what it stores from a'', g and φ''
   pub b″-fits : (q .a2 + 64 * (p .«const_agg_length» * triangular (p .multiplicity)) ≤ q .b2) × (q .g + 64 * triangular (p .multiplicity) ≤ q .b2) × (q .phi2 + 64 * (p .«const_agg_length» * (p .multiplicity * p .rank)) ≤ q .b2)
@@ -235,24 +316,29 @@ module _ (J W : List ℕ) (p : EnvironmentParameters) (q : Regions) (S : List �
       ∙ require-leb (norm-of (digits-at S (digits (q .a) (T P) (P .t₁)) (P .b))) (P .bound-D) (refused 16 0)
       ∙ sym (h-norm-is J R S (q .a) (F.h (X J R) (s J W)) (triangle-held S (q .a) (P .r) (F.h (X J R) (s J W)) (h-symmetric (X J R) (s J W)) d))
 
-  -- a scratch into which t was stored
-  module _ (S₁ : List ℕ) (e : S₁ ≡ splice S (q .t) (t-words J W)) where
+  -- a scratch into which the values and t were stored
+  module _ (S₁ : List ℕ) (e : S₁ ≡ splice (splice S (q .phi2) vs) (q .t) (t-words J W)) where
+    size₁ : length S₁ ≡ length S
+    size₁ = ap length e ∙ length-splice (splice S (q .phi2) vs) (q .t) (t-words J W) ∙ length-splice S (q .phi2) vs
+
     pub given-t : Given J W p q S₁
-    given-t = given-changed S₁ (ap length e ∙ length-splice S (q .t) (t-words J W))
+    given-t = given-changed S₁ size₁
 
     pub held-t : Holds S₁ (q .t) (t-words J W)
-    held-t = held-stored S S₁ (q .t) (t-words J W) e (omega (arith, length-t J W, t-room, h .ready .room))
+    held-t = held-stored (splice S (q .phi2) vs) S₁ (q .t) (t-words J W) e (omega (arith, length-t J W, t-room, h .ready .room, length-splice S (q .phi2) vs))
 
     pub kept-t : Kept (scratch-need P) S S₁
-    kept-t = kept-stored (scratch-need P) S S S₁ (q .t) (t-words J W) (kept-refl (scratch-need P) S) e (omega (arith, length-t J W, t-room))
+    kept-t =
+        kept-stored (scratch-need P) S (splice S (q .phi2) vs) S₁ (q .t) (t-words J W)
+        (kept-stored (scratch-need P) S S (splice S (q .phi2) vs) (q .phi2) vs (kept-refl (scratch-need P) S) refl (omega (arith, values-end, g-room))) e (omega (arith, length-t J W, t-room))
 
     -- and then g
     module _ (S₂ : List ℕ) (e′ : S₂ ≡ splice S₁ (q .g) (g-words J W)) where
       pub given-g : Given J W p q S₂
-      given-g = given-changed S₂ (ap length e′ ∙ length-splice S₁ (q .g) (g-words J W) ∙ ap length e ∙ length-splice S (q .t) (t-words J W))
+      given-g = given-changed S₂ (ap length e′ ∙ length-splice S₁ (q .g) (g-words J W) ∙ size₁)
 
       pub held-g : Holds S₂ (q .g) (g-words J W)
-      held-g = held-stored S₁ S₂ (q .g) (g-words J W) e′ (omega (arith, length-g J W, g-room, h .ready .room, ap length e, length-splice S (q .t) (t-words J W)))
+      held-g = held-stored S₁ S₂ (q .g) (g-words J W) e′ (omega (arith, length-g J W, g-room, h .ready .room, size₁))
 
       pub kept-g : Kept (scratch-need P) S S₂
       kept-g = kept-stored (scratch-need P) S S₁ S₂ (q .g) (g-words J W) kept-t e′ (omega (arith, length-g J W, g-room))

@@ -1,5 +1,5 @@
 -- What the scratch holds after each step of a round.
-use mathlib.Core.Path.{_≡_, sym, subst}
+use mathlib.Core.Path.{_≡_, sym, ap, subst, _∙_}
 use mathlib.Core.List.{List, _++_}
 use Prim.Native.Nat.{ℕ, _+_, _*_, _≤_}
 use native.Mathlib.Omega.{arith}
@@ -9,12 +9,13 @@ use Rattle.protocol.specs.Parameters.{Parameters, parameters, T}
 use Rattle.protocol.specs.Layout.{scratch-need}
 use Rattle.regions.specs.declared.Regions.{Regions}
 use Rattle.relation.specs.declared.env_params.EnvironmentParameters.{EnvironmentParameters}
+use Rattle.relation.specs.Parameters.{parametersOf}
 use Rattle.workspace.specs.Holds.{Holds, Kept}
-use Rattle.workspace.specs.Aggregated.{a″-words, φ″-words, c-words}
-use Rattle.workspace.specs.Ready.{Ready, Drawn}
+use Rattle.workspace.specs.Aggregated.{a″-words, φ″-words, c-words, challenge-words}
+use Rattle.workspace.specs.Ready.{Ready, Drawn, Challengeable}
 use Rattle.workspace.proofs.Holds.{holds-first, holds-second}
 use Rattle.workspace.proofs.Kept.{kept-refl, kept-trans, kept-stored}
-use Rattle.workspace.proofs.Ready.{regions-end, φ″-end, a″-end, φ-end, a-end, g-end, c-end, t-end, u-end, length-φ″, length-a″, length-c}
+use Rattle.workspace.proofs.Ready.{regions-end, φ″-end, a″-end, φ-end, a-end, g-end, c-end, t-end, u-end, length-φ″, length-a″, length-c, c-requires, c-made}
 use Rattle.prover_commit.specs.Words.{t-words, g-words, b″-words, h-words}
 use Rattle.prover_commit.specs.Work.{Given, Committed, Aggregated}
 use Rattle.prover_commit.proofs.Commitments.{held-stored, held-before, held-after, given-changed}
@@ -39,23 +40,17 @@ module _ (J R W : List ℕ) (p : EnvironmentParameters) (q : Regions) (S : List 
   double-prime-end =
       omega (arith, double-prime-size, h .ready .regions .first, φ″-end J p q S (h .ready), a″-end J p q S (h .ready), φ-end J p q S (h .ready), a-end J p q S (h .ready))
 
-  g-below : q .g + length (g-words J W) ≤ q .challenges
+  pub g-below : q .g + length (g-words J W) ≤ q .challenges
   g-below = omega (arith, length-g J W, g-end J p q S (h .ready))
 
-  c-below : q .challenges + length (c-words J R) ≤ q .t
+  pub c-below : q .challenges + length (c-words J R) ≤ q .t
   c-below = omega (arith, length-c J R, c-end J p q S (h .ready))
 
-  t-below : q .t + length (t-words J W) ≤ q .b2
+  pub t-below : q .t + length (t-words J W) ≤ q .b2
   t-below = omega (arith, length-t J W, t-end J p q S (h .ready), u-end J p q S (h .ready))
 
   h-below : q .a + length (h-words J R W) ≤ q .g
   h-below = omega (arith, length-h J R W, a-end J p q S (h .ready))
-
-  φ″-below : q .phi2 + length (φ″-words J R) ≤ q .g
-  φ″-below = omega (arith, length-φ″ J R, φ″-end J p q S (h .ready), a″-end J p q S (h .ready), φ-end J p q S (h .ready), a-end J p q S (h .ready))
-
-  a″-below : q .a2 + length (a″-words J R) ≤ q .g
-  a″-below = omega (arith, length-a″ J R, a″-end J p q S (h .ready), φ-end J p q S (h .ready), a-end J p q S (h .ready))
 
   b″-below : q .b2 + length (b″-words J R W) ≤ scratch-need P
   b″-below = omega (arith, length-b″ J R W, h .ready .sound .within .L .1, regions-end J p q S (h .ready))
@@ -81,28 +76,15 @@ module _ (J R W : List ℕ) (p : EnvironmentParameters) (q : Regions) (S : List 
 
   -- b'' stored
   module _ (S′ : List ℕ) (e : S′ ≡ splice S (q .b2) (b″-words J R W)) where
-    b″-held : Holds S′ (q .b2) (b″-words J R W)
+    pub b″-held : Holds S′ (q .b2) (b″-words J R W)
     b″-held = held-stored S S′ (q .b2) (b″-words J R W) e (omega (arith, b″-below, h .ready .room))
 
-    b″-kept : Kept (scratch-need P) S S′
+    pub b″-kept : Kept (scratch-need P) S S′
     b″-kept = kept-stored (scratch-need P) S S S′ (q .b2) (b″-words J R W) (kept-refl (scratch-need P) S) e b″-below
 
-    b″-beside-c : Holds S (q .challenges) (c-words J R) → Holds S′ (q .challenges) (c-words J R)
-    b″-beside-c k = held-before S S′ (q .b2) (b″-words J R W) e (q .challenges) (c-words J R) (omega (arith, c-below, t-below)) k
-
     -- the others stand as they did
-    b″-aggregated : Aggregated J R W q S → Aggregated J R W q S′
-    b″-aggregated k =
-        let before = held-before S S′ (q .b2) (b″-words J R W) e in
-        record {
-          committed = record {
-            t = before (q .t) (t-words J W) t-below (k .committed .t);
-            g = before (q .g) (g-words J W) (omega (arith, g-below, c-below, t-below)) (k .committed .g);
-          };
-          phi2 = before (q .phi2) (φ″-words J R) (omega (arith, φ″-below, g-below, c-below, t-below)) (k .phi2);
-          a2 = before (q .a2) (a″-words J R) (omega (arith, a″-below, g-below, c-below, t-below)) (k .a2);
-          h = before (q .a) (h-words J R W) (omega (arith, h-below, g-below, c-below, t-below)) (k .h);
-        }
+    pub b″-before : (at : ℕ) (ws : List ℕ) → at + length ws ≤ q .b2 → Holds S at ws → Holds S′ at ws
+    b″-before = held-before S S′ (q .b2) (b″-words J R W) e
 
   -- the challenges stored
   module _ (S′ : List ℕ) (e : S′ ≡ splice S (q .challenges) (c-words J R)) where
@@ -112,6 +94,9 @@ module _ (J R W : List ℕ) (p : EnvironmentParameters) (q : Regions) (S : List 
     c-kept : Kept (scratch-need P) S S′
     c-kept = kept-stored (scratch-need P) S S S′ (q .challenges) (c-words J R) (kept-refl (scratch-need P) S) e (omega (arith, c-below, t-below, b″-below))
 
+    c-beside-b : Holds S (q .b2) (b″-words J R W) → Holds S′ (q .b2) (b″-words J R W)
+    c-beside-b k = held-after S S′ (q .challenges) (c-words J R) e (q .b2) (b″-words J R W) (omega (arith, c-below, t-below)) k
+
     c-aggregated : Aggregated J R W q S → Aggregated J R W q S′
     c-aggregated k =
         let before = held-before S S′ (q .challenges) (c-words J R) e in
@@ -120,8 +105,6 @@ module _ (J R W : List ℕ) (p : EnvironmentParameters) (q : Regions) (S : List 
             t = held-after S S′ (q .challenges) (c-words J R) e (q .t) (t-words J W) c-below (k .committed .t);
             g = before (q .g) (g-words J W) g-below (k .committed .g);
           };
-          phi2 = before (q .phi2) (φ″-words J R) (omega (arith, φ″-below, g-below)) (k .phi2);
-          a2 = before (q .a2) (a″-words J R) (omega (arith, a″-below, g-below)) (k .a2);
           h = before (q .a) (h-words J R W) (omega (arith, h-below, g-below)) (k .h);
         }
 
@@ -150,19 +133,19 @@ module _ (J R W : List ℕ) (p : EnvironmentParameters) (q : Regions) (S : List 
       round₃-kept =
           kept-trans (scratch-need (parameters J)) S S₂ S₃ (kept-trans (scratch-need (parameters J)) S S₁ S₂ kept (double-prime-kept J R W p q S₁ given₁ S₂ e₂)) (b″-kept J R W p q S₂ given₂ S₃ e₃)
 
--- the calls that are handed all randomness: a scratch with t, g, φ'', a'' and h
+-- the calls that are handed all randomness: a scratch with t, g and h
 module _ (J R W : List ℕ) (p : EnvironmentParameters) (q : Regions) (S : List ℕ) (h : Given J W p q S) (d : Drawn 7 J R) (S₁ : List ℕ) (kept : Kept (scratch-need (parameters J)) S S₁) (k : Aggregated J R W q S₁) where
   given₇ : Given J W p q S₁
   given₇ = given-kept J W p q (scratch-need (parameters J)) S S₁ kept h
 
-  pub challenges-need : Ready J p q S₁ × Drawn 7 J R
-  challenges-need = (given₇ .ready, d)
-
-  pub b-given : Given J W p q S₁
-  b-given = given₇
+  pub challenges-need : Challengeable R p q S₁
+  challenges-need = c-requires J R S₁ p q (given₇ .ready) d
 
   -- then the challenges
-  module _ (S₂ : List ℕ) (e : S₂ ≡ splice S₁ (q .challenges) (c-words J R)) where
+  module _ (S₂ : List ℕ) (stored : S₂ ≡ splice S₁ (q .challenges) (challenge-words (parametersOf p) R)) where
+    e : S₂ ≡ splice S₁ (q .challenges) (c-words J R)
+    e = stored ∙ ap (splice S₁ (q .challenges)) (c-made J R S₁ p q (given₇ .ready))
+
     pub c-there : Holds S₂ (q .challenges) (c-words J R)
     c-there = c-held J R W p q S₁ given₇ S₂ e
 
@@ -172,16 +155,6 @@ module _ (J R W : List ℕ) (p : EnvironmentParameters) (q : Regions) (S : List 
     pub c-stays : Kept (scratch-need (parameters J)) S S₂
     c-stays = kept-trans (scratch-need (parameters J)) S S₁ S₂ kept (c-kept J R W p q S₁ given₇ S₂ e)
 
-  -- or b''
-  module _ (S₂ : List ℕ) (e : S₂ ≡ splice S₁ (q .b2) (b″-words J R W)) where
-    pub b-there : Holds S₂ (q .b2) (b″-words J R W)
-    b-there = b″-held J R W p q S₁ given₇ S₂ e
-
-    pub b-others : Aggregated J R W q S₂
-    b-others = b″-aggregated J R W p q S₁ given₇ S₂ e k
-
-    pub b-stays : Kept (scratch-need (parameters J)) S S₂
-    b-stays = kept-trans (scratch-need (parameters J)) S S₁ S₂ kept (b″-kept J R W p q S₁ given₇ S₂ e)
-
-    pub c-stands : Holds S₁ (q .challenges) (c-words J R) → Holds S₂ (q .challenges) (c-words J R)
-    c-stands = b″-beside-c J R W p q S₁ given₇ S₂ e
+    -- b'' stands as it did
+    pub b-stands : Holds S₁ (q .b2) (b″-words J R W) → Holds S₂ (q .b2) (b″-words J R W)
+    b-stands = c-beside-b J R W p q S₁ given₇ S₂ e

@@ -1,4 +1,4 @@
--- What the steps of `commit_with_h` find and leave in the scratch.
+-- What the steps up to φ find and leave in the scratch, and b'' and h after it.
 use mathlib.Core.Path.{_≡_, ap, _∙_}
 use mathlib.Core.List.{List, _++_}
 use Prim.Native.Nat.{ℕ, _+_, _≤_}
@@ -15,11 +15,11 @@ use Rattle.relation.specs.declared.env_params.EnvironmentParameters.{Environmen
 use Rattle.workspace.specs.Ready.{Ready, Drawn}
 use Rattle.workspace.specs.Holds.{Holds, Kept}
 use Rattle.workspace.specs.Aggregated.{a″-words, φ″-words, φ-words}
-use Rattle.workspace.proofs.Kept.{kept-stored}
+use Rattle.workspace.proofs.Kept.{kept-stored, kept-trans}
 use Rattle.workspace.proofs.Ready.{drawn-fewer, ready-changed, φ″-end, a″-end, φ-end, a-end, g-end, c-end, length-φ″, length-a″, length-φ}
-use Rattle.prover_commit.specs.Words.{t-words, g-words, h-words}
-use Rattle.prover_commit.specs.Work.{Given, Where-made, Committed, Aggregated}
-use Rattle.prover_commit.proofs.Commitments.{from-made, held-stored, held-before, held-after, given-changed, a-room}
+use Rattle.prover_commit.specs.Words.{t-words, g-words, b″-words, h-words}
+use Rattle.prover_commit.specs.Work.{Given, Where-made, Committed, Weighed, Aggregated, AllMade, with-h-words}
+use Rattle.prover_commit.proofs.Commitments.{from-made, held-stored, held-before, held-after, given-changed, a-room, kept-h, stands-h, held-h}
 use Rattle.prover_commit.proofs.Lengths.{length-h}
 use Rattle.prover_commit.proofs.Scratch as Scratch
 
@@ -85,29 +85,78 @@ module _ (J R W : List ℕ) (p : EnvironmentParameters) (q : Regions) (S : List 
         pub φ-held : Holds S₃ (q .phi) (φ-words J R)
         φ-held = held-stored S₂ S₃ (q .phi) (φ-words J R) e₃ (omega (arith, φ-stop, h-room, h .ready .room, size₂))
 
-        -- and h
-        module _ (S₄ : List ℕ) (e₄ : S₄ ≡ splice S₃ (q .a) (h-words J R W)) where
-          pub h-held : Holds S₄ (q .a) (h-words J R W)
-          h-held = held-stored S₃ S₄ (q .a) (h-words J R W) e₄ (omega (arith, h-room, h .ready .room, size₃))
+        pub kept-φ : Kept (scratch-need P) S S₃
+        kept-φ = kept-stored (scratch-need P) S S₂ S₃ (q .phi) (φ-words J R) (kept-stored (scratch-need P) S S₁ S₂ 0 both kept e₂ (omega (arith, both-end, φ-stop, h-room))) e₃ (omega (arith, φ-stop, h-room))
 
-          pub h-given : Given J W p q S₄
-          h-given = given-changed J W p q S h S₄ (ap length e₄ ∙ length-splice S₃ (q .a) (h-words J R W) ∙ size₃)
+        pub weighed : (r : Proved) → r ≡ E.Made → Where-made r (Committed J W q S₁) → Weighed J R W q S₃
+        weighed r made w =
+            record {
+              committed = committed-after S₂ S₃ (q .phi) (φ-words J R) e₃ (omega (arith, φ-stop, a-stop))
+                  (committed-after S₁ S₂ 0 both e₂ (omega (arith, both-end, φ-stop, a-stop)) (from-made r (Committed J W q S₁) made w));
+              phi2 = held-before S₂ S₃ (q .phi) (φ-words J R) e₃ (q .phi2) (φ″-words J R) (omega (arith, length-φ″ J R, φ″-end J p q S (h .ready), a″-end J p q S (h .ready))) φ″-held;
+              a2 = held-before S₂ S₃ (q .phi) (φ-words J R) e₃ (q .a2) (a″-words J R) (omega (arith, length-a″ J R, a″-end J p q S (h .ready))) a″-held;
+              phi = φ-held;
+            }
 
-          pub kept-h : Kept (scratch-need P) S S₄
-          kept-h =
-              kept-stored (scratch-need P) S S₃ S₄ (q .a) (h-words J R W)
-              (kept-stored (scratch-need P) S S₂ S₃ (q .phi) (φ-words J R) (kept-stored (scratch-need P) S S₁ S₂ 0 both kept e₂ (omega (arith, both-end, φ-stop, h-room))) e₃ (omega (arith, φ-stop, h-room)))
-              e₄ h-room
+-- h after φ: a scratch with t, g and φ
+module _ (J R W : List ℕ) (p : EnvironmentParameters) (q : Regions) (S : List ℕ) (h : Given J W p q S) (S₁ : List ℕ) (kept : Kept (scratch-need (parameters J)) S S₁) (k : Weighed J R W q S₁) where
+  pub weighed-given : Given J W p q S₁
+  weighed-given = given-changed J W p q S h S₁ (kept .size)
 
-          pub aggregated : (r : Proved) → r ≡ E.Made → Where-made r (Committed J W q S₁) → Aggregated J R W q S₄
-          aggregated r made w =
-              record {
-                committed = committed-after S₃ S₄ (q .a) (h-words J R W) e₄ a-stop
-                    (committed-after S₂ S₃ (q .phi) (φ-words J R) e₃ (omega (arith, φ-stop, a-stop))
-                    (committed-after S₁ S₂ 0 both e₂ (omega (arith, both-end, φ-stop, a-stop)) (from-made r (Committed J W q S₁) made w)));
-                phi2 = held-before S₃ S₄ (q .a) (h-words J R W) e₄ (q .phi2) (φ″-words J R) (omega (arith, length-φ″ J R, φ″-end J p q S (h .ready), a″-end J p q S (h .ready), φ-stop))
-                    (held-before S₂ S₃ (q .phi) (φ-words J R) e₃ (q .phi2) (φ″-words J R) (omega (arith, length-φ″ J R, φ″-end J p q S (h .ready), a″-end J p q S (h .ready))) φ″-held);
-                a2 = held-before S₃ S₄ (q .a) (h-words J R W) e₄ (q .a2) (a″-words J R) (omega (arith, length-a″ J R, a″-end J p q S (h .ready), φ-stop))
-                    (held-before S₂ S₃ (q .phi) (φ-words J R) e₃ (q .a2) (a″-words J R) (omega (arith, length-a″ J R, a″-end J p q S (h .ready))) a″-held);
-                h = h-held;
-              }
+  g-before-t : q .g ≤ q .t
+  g-before-t = omega (arith, g-end J p q S (h .ready), c-end J p q S (h .ready))
+
+  -- and then h
+  module _ (S₂ : List ℕ) (e : S₂ ≡ with-h-words J R W p q S₁) where
+    pub h-kept : Kept (scratch-need (parameters J)) S S₂
+    h-kept = kept-trans (scratch-need (parameters J)) S S₁ S₂ kept (kept-h J W p q S₁ weighed-given R S₂ e)
+
+    pub h-aggregated : Aggregated J R W q S₂
+    h-aggregated =
+        record {
+          committed = record {
+            t = stands-h J W p q S₁ weighed-given R S₂ e (q .t) (t-words J W) g-before-t (k .committed .t);
+            g = stands-h J W p q S₁ weighed-given R S₂ e (q .g) (g-words J W) (omega arith) (k .committed .g);
+          };
+          h = held-h J W p q S₁ weighed-given R S₂ e;
+        }
+
+  -- or b'' first
+  module _ (S₂ : List ℕ) (e : S₂ ≡ splice S₁ (q .b2) (b″-words J R W)) where
+    stays : (at : ℕ) (ws : List ℕ) → at + length ws ≤ q .b2 → Holds S₁ at ws → Holds S₂ at ws
+    stays = Scratch.b″-before J R W p q S₁ weighed-given S₂ e
+
+    t-place : q .t + length (t-words J W) ≤ q .b2
+    t-place = Scratch.t-below J R W p q S₁ weighed-given
+
+    g-place : q .g + length (g-words J W) ≤ q .b2
+    g-place = omega (arith, Scratch.g-below J R W p q S₁ weighed-given, Scratch.c-below J R W p q S₁ weighed-given, t-place)
+
+    φ-place : q .phi + length (φ-words J R) ≤ q .b2
+    φ-place = omega (arith, length-φ J R, φ-end J p q S (h .ready), a-end J p q S (h .ready), g-place)
+
+    b-kept : Kept (scratch-need (parameters J)) S S₂
+    b-kept = kept-trans (scratch-need (parameters J)) S S₁ S₂ kept (Scratch.b″-kept J R W p q S₁ weighed-given S₂ e)
+
+    b-given : Given J W p q S₂
+    b-given = given-changed J W p q S h S₂ (b-kept .size)
+
+    pub h-needs : Given J W p q S₂ × Holds S₂ (q .phi) (φ-words J R)
+    h-needs = (b-given, stays (q .phi) (φ-words J R) φ-place (k .phi))
+
+    -- and then h
+    module _ (S₃ : List ℕ) (e′ : S₃ ≡ with-h-words J R W p q S₂) where
+      pub all-kept : Kept (scratch-need (parameters J)) S S₃
+      all-kept = kept-trans (scratch-need (parameters J)) S S₂ S₃ b-kept (kept-h J W p q S₂ b-given R S₃ e′)
+
+      pub all-made : AllMade J R W q S₃
+      all-made = (
+        record {
+          committed = record {
+            t = stands-h J W p q S₂ b-given R S₃ e′ (q .t) (t-words J W) g-before-t (stays (q .t) (t-words J W) t-place (k .committed .t));
+            g = stands-h J W p q S₂ b-given R S₃ e′ (q .g) (g-words J W) (omega arith) (stays (q .g) (g-words J W) g-place (k .committed .g));
+          };
+          h = held-h J W p q S₂ b-given R S₃ e′;
+        },
+        stands-h J W p q S₂ b-given R S₃ e′ (q .b2) (b″-words J R W) (omega (arith, g-place)) (Scratch.b″-held J R W p q S₁ weighed-given S₂ e),
+      )

@@ -2,6 +2,7 @@
 use mathlib.Core.List.{List}
 use Prim.Native.Nat.{ℕ, _+_, _*_, _≤_}
 use lib.ListN.{length}
+use Rattle.lists.specs.Part.{splice}
 use Rattle.definitions.specs.declared.answers.Proved.{Proved}
 use Rattle.definitions.specs.declared.answers.Proved.the-variants as P
 use Rattle.protocol.specs.Parameters.{parameters, triangular}
@@ -14,7 +15,8 @@ use Rattle.relation.specs.Parameters.{parametersOf}
 use Rattle.sizes.specs.Sizes.{Sized}
 use Rattle.workspace.specs.Ready.{Ready}
 use Rattle.workspace.specs.Holds.{Holds}
-use Rattle.workspace.specs.Aggregated.{a″-words, φ″-words, c-words}
+use Rattle.workspace.specs.Aggregated.{a″-words, φ″-words, φ-words, c-words}
+use Rattle.kept_h.specs.KeptLines.{lines-of}
 use Rattle.prover_commit.specs.Words.{t-words, g-words, b″-words, h-words}
 
 -- a job that is refused nothing, and a witness of the job's size
@@ -42,12 +44,21 @@ pub record Committed (J W : List ℕ) (q : Regions) (scratch : List ℕ) : Type 
   pub g : Holds scratch (q .g) (g-words J W)
 
 module _ (J R W : List ℕ) (q : Regions) (scratch : List ℕ) where
-  -- φ'', a'' and h too
-  pub record Aggregated : Type 0 where
+  -- φ'', a'' and φ too
+  pub record Weighed : Type 0 where
     pub committed : Committed J W q scratch
     pub phi2 : Holds scratch (q .phi2) (φ″-words J R)
     pub a2 : Holds scratch (q .a2) (a″-words J R)
+    pub phi : Holds scratch (q .phi) (φ-words J R)
+
+  -- t, g and h
+  pub record Aggregated : Type 0 where
+    pub committed : Committed J W q scratch
     pub h : Holds scratch (q .a) (h-words J R W)
+
+  -- b'' too
+  abbrev pub AllMade : Type 0
+  AllMade = Aggregated × Holds scratch (q .b2) (b″-words J R W)
 
   -- what the sections of a call are made of stands in its regions
   abbrev pub Filled : Call → Type 0
@@ -57,3 +68,7 @@ module _ (J R W : List ℕ) (q : Regions) (scratch : List ℕ) where
   Filled C.Round3 = Holds scratch (q .b2) (b″-words J R W)
   Filled C.Round4 = Aggregated
   Filled C.Round5 = Aggregated × Holds scratch (q .challenges) (c-words J R)
+
+-- a scratch into which h is stored, and before it what it is made of where φ'' and a'' stood
+abbrev pub with-h-words : (J R W : List ℕ) → EnvironmentParameters → Regions → List ℕ → List ℕ
+with-h-words J R W p q scratch = splice (lines-of scratch (q .phi) W 1 (p .multiplicity) (p .rank) (q .phi2) (q .a2)) (q .a) (h-words J R W)

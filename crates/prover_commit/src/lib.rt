@@ -1,13 +1,13 @@
 // What the prover works out into the scratch, with the refusals 13 to 16: t, g, b'', h and the challenges.
 use admission::calls::Call;
 use aggregate;
-use commitments::ajtai_commitment;
 use commitments::common_instances;
 use commitments::outer_commitments::Digits;
 use definitions::answers::Proved;
 use definitions::answers::Refusal;
-use garbage_polynomials::g;
-use garbage_polynomials::h;
+use kept_commitments;
+use kept_garbage;
+use kept_h;
 use regions::Regions;
 use relation::env_params::EnvironmentParameters;
 use sizes::offsets;
@@ -21,9 +21,10 @@ ghost use Rattle.protocol.specs.Prover.{round₃, round₄, round₅, whole};
 ghost use Rattle.admission.specs.Admission.{callOf};
 ghost use Rattle.admission.specs.declared.calls.Call.the-variants as C;
 ghost use Rattle.workspace.specs.Ready.{Drawn};
-ghost use Rattle.workspace.specs.Holds.{Kept};
-ghost use Rattle.prover_commit.specs.Refusals.{t-refusal, g-refusal, first-refusal, work, t-check, g-check, h-check};
-ghost use Rattle.prover_commit.specs.Work.{Given, Placed, Where-made, Committed, Filled};
+ghost use Rattle.workspace.specs.Holds.{Holds, Kept};
+ghost use Rattle.workspace.specs.Aggregated.{φ-words};
+ghost use Rattle.prover_commit.specs.Refusals.{t-refusal, g-refusal, h-refusal, first-refusal, work, t-check, g-check, h-check};
+ghost use Rattle.prover_commit.specs.Work.{Given, Placed, Where-made, Committed, Weighed, AllMade, Filled, with-h-words};
 
 // "14 digits of t above B's bound", of the cells of its region.
 fn check_t(p: EnvironmentParameters, q: Regions, scratch: &[u32]) -> Proved
@@ -91,7 +92,7 @@ fn commit_t_and_g(
     ensures { λ result. ⌜ Where-made result (Committed (now (job .entry)) (now (witness .entry)) q (now (scratch .exit))) ⌝ }
 {
     let a_at = offsets::of_job(p, 6);
-    ajtai_commitment::commit_all(
+    kept_commitments::t_of(
         job,
         a_at,
         p.kappa,
@@ -100,12 +101,13 @@ fn commit_t_and_g(
         1,
         p.multiplicity,
         scratch,
+        q.phi2,
         q.t,
     );
     match check_t(p, q, scratch) {
         Proved::Refused(refusal) => Proved::Refused(refusal),
         Proved::Made => {
-            g::compute_g(witness, 1, p.multiplicity, p.rank, scratch, q.g);
+            kept_garbage::compute_g(scratch, q.phi2, p.multiplicity, p.rank, q.g);
             check_g(p, q, scratch)
         }
     }
@@ -165,7 +167,58 @@ fn commit_with_b_double_prime(
     }
 }
 
-// Round 4: "h_ij = ⟨φ_i,s_j⟩+⟨φ_j,s_i⟩, not halved" after t and g, with 16: "Prover: 13, 14, 15, 16."
+// φ'', a'' and φ after t and g.
+fn commit_with_phi(
+    job: &[u32],
+    randomness: &[u32],
+    witness: &[u32],
+    p: EnvironmentParameters,
+    q: Regions,
+    scratch: &mut [u32],
+) -> Proved
+    requires { ⌜ Given (now job) (now witness) p q (now scratch) × Drawn 5 (now job) (now randomness) ⌝ }
+    ensures { λ result. ⌜ ofProved result ≡ first-refusal (now (job .entry)) (now (witness .entry)) ⌝ }
+    ensures { λ result. ⌜ Kept (scratch-need (parameters (now (job .entry)))) (now (scratch .entry)) (now (scratch .exit)) ⌝ }
+    ensures { λ result. ⌜ Where-made result (Weighed (now (job .entry)) (now (randomness .entry)) (now (witness .entry)) q (now (scratch .exit))) ⌝ }
+{
+    match commit(job, witness, p, q, scratch) {
+        Proved::Refused(refusal) => Proved::Refused(refusal),
+        Proved::Made => {
+            workspace::double_prime(job, randomness, p, q, scratch);
+            workspace::phi(job, randomness, p, q, scratch);
+            Proved::Made
+        }
+    }
+}
+
+// "h_ij = ⟨φ_i,s_j⟩+⟨φ_j,s_i⟩, not halved", where φ'' and a'' stood, with 16.
+fn add_h(
+    job: &[u32],
+    randomness: &[u32],
+    witness: &[u32],
+    p: EnvironmentParameters,
+    q: Regions,
+    scratch: &mut [u32],
+) -> Proved
+    requires { ⌜ Given (now job) (now witness) p q (now scratch) × Holds (now scratch) (q .phi) (φ-words (now job) (now randomness)) ⌝ }
+    ensures { λ result. ⌜ ofProved result ≡ h-refusal (now (job .entry)) (now (randomness .entry)) (now (witness .entry)) ⌝ }
+    ensures { λ result. ⌜ now (scratch .exit) ≡ with-h-words (now (job .entry)) (now (randomness .entry)) (now (witness .entry)) p q (now (scratch .entry)) ⌝ }
+{
+    kept_h::compute_h(
+        witness,
+        1,
+        p.multiplicity,
+        p.rank,
+        scratch,
+        q.phi2,
+        q.a2,
+        q.phi,
+        q.a,
+    );
+    check_h(p, q, scratch)
+}
+
+// Round 4: h after φ: "Prover: 13, 14, 15, 16."
 fn commit_with_h(
     job: &[u32],
     randomness: &[u32],
@@ -179,13 +232,42 @@ fn commit_with_h(
     ensures { λ result. ⌜ Kept (scratch-need (parameters (now (job .entry)))) (now (scratch .entry)) (now (scratch .exit)) ⌝ }
     ensures { λ result. ⌜ Where-made result (Filled (now (job .entry)) (now (randomness .entry)) (now (witness .entry)) q (now (scratch .exit)) C.Round4) ⌝ }
 {
-    match commit(job, witness, p, q, scratch) {
+    match commit_with_phi(job, randomness, witness, p, q, scratch) {
+        Proved::Refused(refusal) => Proved::Refused(refusal),
+        Proved::Made => add_h(job, randomness, witness, p, q, scratch),
+    }
+}
+
+// b'' before h, for the whole call.
+fn commit_with_b_and_h(
+    job: &[u32],
+    randomness: &[u32],
+    witness: &[u32],
+    p: EnvironmentParameters,
+    q: Regions,
+    scratch: &mut [u32],
+) -> Proved
+    requires { ⌜ Given (now job) (now witness) p q (now scratch) × Drawn 5 (now job) (now randomness) ⌝ }
+    ensures { λ result. ⌜ ofProved result ≡ work (now (job .entry)) (now (randomness .entry)) (now (witness .entry)) round₄ ⌝ }
+    ensures { λ result. ⌜ Kept (scratch-need (parameters (now (job .entry)))) (now (scratch .entry)) (now (scratch .exit)) ⌝ }
+    ensures { λ result. ⌜ Where-made result (AllMade (now (job .entry)) (now (randomness .entry)) (now (witness .entry)) q (now (scratch .exit))) ⌝ }
+{
+    match commit_with_phi(job, randomness, witness, p, q, scratch) {
         Proved::Refused(refusal) => Proved::Refused(refusal),
         Proved::Made => {
-            workspace::double_prime(job, randomness, p, q, scratch);
-            workspace::phi(job, randomness, p, q, scratch);
-            h::compute_h(witness, 1, p.multiplicity, p.rank, scratch, q.phi, q.a);
-            check_h(p, q, scratch)
+            aggregate::b_double_prime(
+                scratch,
+                q.a2,
+                q.g,
+                q.phi2,
+                p.multiplicity,
+                p.rank,
+                witness,
+                1,
+                p.const_agg_length,
+                q.b2,
+            );
+            add_h(job, randomness, witness, p, q, scratch)
         }
     }
 }
@@ -207,7 +289,7 @@ fn commit_with_challenges(
     match commit_with_h(job, randomness, witness, p, q, scratch) {
         Proved::Refused(refusal) => Proved::Refused(refusal),
         Proved::Made => {
-            workspace::generate_challenges(job, randomness, p, q, scratch);
+            workspace::generate_challenges(randomness, p, q, scratch);
             Proved::Made
         }
     }
@@ -227,21 +309,10 @@ fn commit_for_all(
     ensures { λ result. ⌜ Kept (scratch-need (parameters (now (job .entry)))) (now (scratch .entry)) (now (scratch .exit)) ⌝ }
     ensures { λ result. ⌜ Where-made result (Filled (now (job .entry)) (now (randomness .entry)) (now (witness .entry)) q (now (scratch .exit)) C.Whole) ⌝ }
 {
-    match commit_with_challenges(job, randomness, witness, p, q, scratch) {
+    match commit_with_b_and_h(job, randomness, witness, p, q, scratch) {
         Proved::Refused(refusal) => Proved::Refused(refusal),
         Proved::Made => {
-            aggregate::b_double_prime(
-                scratch,
-                q.a2,
-                q.g,
-                q.phi2,
-                p.multiplicity,
-                p.rank,
-                witness,
-                1,
-                p.const_agg_length,
-                q.b2,
-            );
+            workspace::generate_challenges(randomness, p, q, scratch);
             Proved::Made
         }
     }

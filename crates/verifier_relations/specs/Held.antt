@@ -3,16 +3,11 @@ use mathlib.Core.List.{List}
 use Prim.Native.Nat.{ℕ}
 use Rattle.regions.specs.declared.Regions.{Regions}
 use Rattle.workspace.specs.Holds.{Holds}
-use Rattle.workspace.specs.Aggregated.{φ-words, a-words, c-words}
+use Rattle.workspace.specs.Aggregated.{a-words, c-words}
 
 -- the challenges c_i
 abbrev pub Challenged : (J R : List ℕ) → Regions → List ℕ → Type 0
 Challenged J R q S = Holds S (q .challenges) (c-words J R)
-
--- the challenges and the lines φ_i
-pub record Lined (J R : List ℕ) (q : Regions) (S : List ℕ) : Type 0 where
-  pub challenges : Challenged J R q S
-  pub lines : Holds S (q .phi) (φ-words J R)
 
 -- the triangle a_ij
 abbrev pub Multiplied : (J R : List ℕ) → Regions → List ℕ → Type 0

@@ -15,22 +15,23 @@ ghost use Rattle.protocol.specs.Parameters.{parameters};
 ghost use Rattle.protocol.specs.Layout.{scratch-need};
 ghost use Rattle.workspace.specs.Ready.{Ready};
 ghost use Rattle.workspace.specs.Holds.{Kept};
-ghost use Rattle.verifier_common.specs.Work.{Sent};
-ghost use Rattle.verifier_common.specs.Answers.{az, z-inner, phi, relation};
+ghost use Rattle.relation.specs.Parameters.{parametersOf};
+ghost use Rattle.verifier_common.specs.Work.{Received, Posed, Sent};
+ghost use Rattle.verifier_common.specs.Answers.{relation};
 ghost use Rattle.verifier_relations.specs.Order.{openings, aggregated, relations};
-ghost use Rattle.verifier_relations.specs.Held.{Challenged, Lined, Multiplied};
+ghost use Rattle.verifier_relations.specs.Held.{Challenged, Multiplied};
+ghost use Rattle.verifier_relations.specs.Weighed.{challenges-in, lines-in, ChallengesWithin, LinesWithin, az-of, z-inner-of, phi-of};
 
 // "24 A·z is not Σ t_i·c_i."
 pub fn check_az(
     job: &[u32],
-    randomness: &[u32],
     transcript: &[u32],
     p: EnvironmentParameters,
     q: Regions,
     scratch: &[u32],
 ) -> Checked
-    requires { ⌜ Sent (now job) (now randomness) (now transcript) p × Ready (now job) p q (now scratch) × Challenged (now job) (now randomness) q (now scratch) ⌝ }
-    ensures { λ v. ⌜ ofChecked v ≡ az (now (job .entry)) (now (randomness .entry)) (now (transcript .entry)) ⌝ }
+    requires { ⌜ Posed (now job) (now transcript) p × Ready (now job) p q (now scratch) ⌝ }
+    ensures { λ v. ⌜ ofChecked v ≡ az-of (now (job .entry)) (now (transcript .entry)) (challenges-in (now (scratch .entry)) q) ⌝ }
 {
     let a_at = offsets::of_job(p, 6);
     let z_at = offsets::of_transcript(p, 4);
@@ -60,15 +61,13 @@ pub fn check_az(
 
 // "25 ⟨z,z⟩ is not Σ g_ij·c_i·c_j."
 pub fn check_z_inner(
-    job: &[u32],
-    randomness: &[u32],
     transcript: &[u32],
     p: EnvironmentParameters,
     q: Regions,
     scratch: &[u32],
 ) -> Checked
-    requires { ⌜ Sent (now job) (now randomness) (now transcript) p × Ready (now job) p q (now scratch) × Challenged (now job) (now randomness) q (now scratch) ⌝ }
-    ensures { λ v. ⌜ ofChecked v ≡ z-inner (now (job .entry)) (now (randomness .entry)) (now (transcript .entry)) ⌝ }
+    requires { ⌜ Received (now transcript) p × ChallengesWithin p q (now scratch) ⌝ }
+    ensures { λ v. ⌜ ofChecked v ≡ z-inner-of (parametersOf p) (now (transcript .entry)) (challenges-in (now (scratch .entry)) q) ⌝ }
 {
     let z_at = offsets::of_transcript(p, 4);
     let g_at = offsets::of_transcript(p, 6);
@@ -83,15 +82,13 @@ pub fn check_z_inner(
 
 // "26 twice Σ⟨φ_i,z⟩·c_i is not Σ h_ij·c_i·c_j."
 pub fn check_phi(
-    job: &[u32],
-    randomness: &[u32],
     transcript: &[u32],
     p: EnvironmentParameters,
     q: Regions,
     scratch: &[u32],
 ) -> Checked
-    requires { ⌜ Sent (now job) (now randomness) (now transcript) p × Ready (now job) p q (now scratch) × Lined (now job) (now randomness) q (now scratch) ⌝ }
-    ensures { λ v. ⌜ ofChecked v ≡ phi (now (job .entry)) (now (randomness .entry)) (now (transcript .entry)) ⌝ }
+    requires { ⌜ Received (now transcript) p × ChallengesWithin p q (now scratch) × LinesWithin p q (now scratch) ⌝ }
+    ensures { λ v. ⌜ ofChecked v ≡ phi-of (parametersOf p) (now (transcript .entry)) (challenges-in (now (scratch .entry)) q) (lines-in (parametersOf p) (now (scratch .entry)) q) ⌝ }
 {
     let z_at = offsets::of_transcript(p, 4);
     let h_at = offsets::of_transcript(p, 7);
@@ -167,12 +164,12 @@ pub fn check_openings(
     ensures { λ v. ⌜ Kept (scratch-need (parameters (now (job .entry)))) (now (scratch .entry)) (now (scratch .exit)) ⌝ }
     ensures { λ v. ⌜ Challenged (now (job .entry)) (now (randomness .entry)) q (now (scratch .exit)) ⌝ }
 {
-    workspace::generate_challenges(job, randomness, p, q, scratch);
-    let first = check_az(job, randomness, transcript, p, q, scratch);
+    workspace::generate_challenges(randomness, p, q, scratch);
+    let first = check_az(job, transcript, p, q, scratch);
     let Checked::Passed = first else {
         return first;
     };
-    check_z_inner(job, randomness, transcript, p, q, scratch)
+    check_z_inner(transcript, p, q, scratch)
 }
 
 // 26 and 27, in order, of the aggregated constraints.
@@ -190,7 +187,7 @@ pub fn check_aggregated(
 {
     workspace::double_prime(job, randomness, p, q, scratch);
     workspace::phi(job, randomness, p, q, scratch);
-    let first = check_phi(job, randomness, transcript, p, q, scratch);
+    let first = check_phi(transcript, p, q, scratch);
     let Checked::Passed = first else {
         return first;
     };

@@ -1,12 +1,12 @@
 -- What a ready call's parameters, slices and regions are: sizes, places and bounds.
-use mathlib.Core.Path.{_≡_, ap, _∙_}
+use mathlib.Core.Path.{_≡_, sym, ap, subst, _∙_}
 use mathlib.Core.List.{List}
 use Prim.Native.Nat.{ℕ, _+_, _*_, _≤_, _<_}
 use native.Mathlib.Omega.{arith}
 use lib.ListN.{length}
 use Rattle.lists.proofs.Table.{length-table}
 use Rattle.protocol.specs.Parameters.{parameters, T}
-use Rattle.protocol.specs.Layout.{scratch-need}
+use Rattle.protocol.specs.Layout.{start, randomness-sections, scratch-need}
 use Rattle.protocol.specs.Views.{public}
 use Rattle.protocol.specs.Formulas.{rows, triangle, a″, φ″, a-sum, φ-sum}
 use Rattle.lists.specs.Table.{table, cat}
@@ -19,8 +19,8 @@ use Rattle.relation.specs.Parameters.{parametersOf}
 use Rattle.sizes.specs.Sizes.{Sized}
 use Rattle.sizes.proofs.Sized.{sized}
 use Rattle.aggregate.proofs.Laws.{job-at, randomness-at}
-use Rattle.workspace.specs.Ready.{Ready, Drawn}
-use Rattle.workspace.specs.Aggregated.{a″-words, φ″-words, φ-words, a-words, c-words}
+use Rattle.workspace.specs.Ready.{Ready, Drawn, Challengeable}
+use Rattle.workspace.specs.Aggregated.{a″-words, φ″-words, φ-words, a-words, c-words, challenge-words}
 
 -- the first sections of those that lie within the randomness
 pub drawn-fewer : (k m : ℕ) (J R : List ℕ) → m ≤ k → Drawn k J R → Drawn m J R
@@ -176,3 +176,22 @@ module _ (m : ℕ) (J R : List ℕ) (d : Drawn m J R) where
   -- the shuffle words
   pub shuffle-within : 6 < m → randomness-at J 6 + 63 * parameters J .r ≤ length R
   shuffle-within h = d 6 h
+
+-- the challenges of a scratch that is ready
+module _ (J R S : List ℕ) (p : EnvironmentParameters) (q : Regions) (h : Ready J p q S) where
+  -- what `generate_challenges` requires
+  pub c-requires : Drawn 7 J R → Challengeable R p q S
+  c-requires d =
+      let placed : (start (randomness-sections (parametersOf p)) 5 + 41 * p .multiplicity ≤ length R)
+      × (start (randomness-sections (parametersOf p)) 6 + 63 * p .multiplicity ≤ length R)
+      × (q .challenges + 64 * p .multiplicity ≤ length S) =
+      subst (λ Q. (start (randomness-sections Q) 5 + 41 * Q .r ≤ length R) × (start (randomness-sections Q) 6 + 63 * Q .r ≤ length R) × (q .challenges + 64 * Q .r ≤ length S)) (sym (h .same)) (
+        signs-within 7 J R d (omega arith),
+        shuffle-within 7 J R d (omega arith),
+        omega (arith, c-end J p q S h, t-end J p q S h, u-end J p q S h, b″-end J p q S h),
+      ) in
+      record { sized = ready-sized J p q S h; signs = placed .0; shuffle = placed .1; room = placed .2 }
+
+  -- and what it stores
+  pub c-made : challenge-words (parametersOf p) R ≡ c-words J R
+  c-made = ap (λ Q. challenge-words Q R) (h .same)

@@ -6,10 +6,8 @@ use native.Mathlib.Nat.{mul-le-mul}
 use native.Mathlib.Omega.{arith}
 use lib.ListN.{length}
 use Rattle.lists.specs.Table.{table, cat}
-use Rattle.lists.specs.Part.{part, splice}
+use Rattle.lists.specs.Part.{splice}
 use Rattle.lists.proofs.Splice.{splice-append}
-use Rattle.definitions.specs.Ring.{element}
-use Rattle.definitions.specs.Challenge.{challenge}
 use Rattle.inner_product.specs.Run.{Run}
 use Rattle.protocol.specs.Parameters.{Parameters, parameters, T, triangular}
 use Rattle.protocol.specs.Layout.{start, job-sections, randomness-sections}
@@ -24,10 +22,10 @@ use Rattle.aggregate.proofs.Grid.{row-run}
 use Rattle.aggregate.proofs.Laws.{job-at, randomness-at}
 use Rattle.workspace.specs.Ready.{Ready, Drawn}
 use Rattle.workspace.specs.Holds.{Holds}
-use Rattle.workspace.specs.Aggregated.{a″-words, φ″-words, φ-words, a-words, c-words}
+use Rattle.workspace.specs.Aggregated.{a″-words, φ″-words, φ-words, a-words}
 use Rattle.workspace.proofs.Holds.{vectors-list-held, triangle-list-held}
 use Rattle.workspace.proofs.Aggregated.{a″-symmetric, φ″-formula, a″-formula, φ-formula, a-formula}
-use Rattle.workspace.proofs.Ready.{length-φ″, φ″-end, a″-end, φ-end, a-end, g-end, c-end, t-end, u-end, b″-end, a′-within, φ′-within, a-within, φ-within, Π-within, psi-within, omega-within, alpha-within, beta-within, signs-within, shuffle-within}
+use Rattle.workspace.proofs.Ready.{length-φ″, φ″-end, a″-end, φ-end, a-end, g-end, c-end, t-end, u-end, b″-end, a′-within, φ′-within, a-within, φ-within, Π-within, psi-within, omega-within, alpha-within, beta-within}
 
 -- few cells
 few-cells : (r : ℕ) → r ≤ 16 → triangular r ≤ 1024
@@ -61,10 +59,6 @@ a″-of J R Q cells at psi = flat (rows (Q .L) cells (λ k. weighed J at cells (
 -- what `aggregate::aggregate` stores
 abbrev sum-of : (J R S : List ℕ) → Parameters → (width at alpha beta from : ℕ) → List ℕ
 sum-of J R S Q width at alpha beta from = flat (table width (λ c. mixed J (at + 64 * c) (64 * width) (Q .K) R alpha beta S (from + 64 * c) (64 * width) (Q .L)))
-
--- what `challenges::generate_challenges` stores
-abbrev c-of : (R : List ℕ) → Parameters → (signs shuffle : ℕ) → List ℕ
-c-of R Q signs shuffle = flat (table (Q .r) (λ i. element (challenge (part R (signs + 41 * i) 41) (part R (shuffle + 63 * i) 63))))
 
 module _ (J R S : List ℕ) (p : EnvironmentParameters) (q : Regions) (h : Ready J p q S) where
   abbrev P : Parameters
@@ -214,21 +208,3 @@ module _ (J R S : List ℕ) (p : EnvironmentParameters) (q : Regions) (h : Ready
       ∙ ap (λ x. sum-of J R S P (T P) (job-at J 3) x beta (q .a2)) (in-randomness 3 alpha b)
       ∙ ap (λ x. sum-of J R S P (T P) (job-at J 3) (randomness-at J 3) x (q .a2)) (in-randomness 4 beta c)
       ∙ a-formula J R S (q .a2) (triangle-list-held S (q .a2) (P .L) (P .r) (a″ (public J R)) (a″-symmetric J R) holds)
-
-  -- what `generate_challenges` requires
-  pub c-requires : (signs shuffle : ℕ) → Drawn 7 J R → signs ≡ start (randomness-sections (parametersOf p)) 5 → shuffle ≡ start (randomness-sections (parametersOf p)) 6
-      → (signs + 41 * p .multiplicity ≤ length R) × (shuffle + 63 * p .multiplicity ≤ length R) × (q .challenges + 64 * p .multiplicity ≤ length S)
-  c-requires signs shuffle d a b =
-      subst (λ Q. (signs + 41 * Q .r ≤ length R) × (shuffle + 63 * Q .r ≤ length R) × (q .challenges + 64 * Q .r ≤ length S)) (sym (h .same)) (
-        omega (arith, in-randomness 5 signs a, signs-within 7 J R d (omega arith)),
-        omega (arith, in-randomness 6 shuffle b, shuffle-within 7 J R d (omega arith)),
-        omega (arith, c-end J p q S h, t-end J p q S h, u-end J p q S h, b″-end J p q S h),
-      )
-
-  -- and what it stores
-  pub c-made : (signs shuffle : ℕ) → signs ≡ start (randomness-sections (parametersOf p)) 5 → shuffle ≡ start (randomness-sections (parametersOf p)) 6
-      → c-of R (parametersOf p) signs shuffle ≡ c-words J R
-  c-made signs shuffle a b =
-      ap (λ Q. c-of R Q signs shuffle) (h .same)
-      ∙ ap (λ x. c-of R P x shuffle) (in-randomness 5 signs a)
-      ∙ ap (λ x. c-of R P (randomness-at J 5) x) (in-randomness 6 shuffle b)

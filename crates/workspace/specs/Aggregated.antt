@@ -2,9 +2,15 @@
 use mathlib.Core.List.{List, _++_}
 use Prim.Native.Nat.{ℕ}
 use Rattle.lists.specs.Table.{table, cat}
-use Rattle.protocol.specs.Parameters.{parameters}
+use Rattle.protocol.specs.Parameters.{Parameters, parameters}
+use Rattle.protocol.specs.Layout.{start, randomness-sections}
 use Rattle.protocol.specs.Views.{public}
 use Rattle.protocol.specs.Formulas.{flat, rows, triangle, a″, φ″, a-sum, φ-sum}
+use Rattle.challenges.specs.Challenges.{challenges}
+
+-- the challenges, of the parameters and a randomness
+abbrev pub challenge-words : Parameters → List ℕ → List ℕ
+challenge-words P R = let of = start (randomness-sections P) in flat (challenges R (of 5) (of 6) (P .r))
 
 module _ (J R : List ℕ) where
   -- a''_k, one triangle after the other

@@ -1,7 +1,7 @@
 -- What the steps of a call's work stand on.
 use mathlib.Core.Path.{_≡_}
 use mathlib.Core.List.{List}
-use Prim.Native.Nat.{ℕ, _+_, _≤_, _<_}
+use Prim.Native.Nat.{ℕ, _+_, _*_, _≤_, _<_}
 use lib.ListN.{length}
 use Rattle.protocol.specs.Parameters.{parameters}
 use Rattle.protocol.specs.Layout.{start, job-sections, randomness-sections, scratch-need}
@@ -12,6 +12,7 @@ use Rattle.regions.specs.Laid as Places
 use Rattle.relation.specs.declared.env_params.EnvironmentParameters.{EnvironmentParameters}
 use Rattle.relation.specs.Parameters.{parametersOf}
 use Rattle.relation.specs.SectionOne.{Sound}
+use Rattle.sizes.specs.Sizes.{Sized}
 
 -- a job that is refused nothing, its parameters, and a scratch of the length needed with the places of its regions
 pub record Ready (J : List ℕ) (p : EnvironmentParameters) (q : Regions) (scratch : List ℕ) : Type 0 where
@@ -24,3 +25,10 @@ pub record Ready (J : List ℕ) (p : EnvironmentParameters) (q : Regions) (scrat
 -- the first m sections of the randomness lie within it
 abbrev pub Drawn : ℕ → List ℕ → List ℕ → Type 0
 Drawn m J R = let ss = randomness-sections (parameters J) in (k : ℕ) → k < m → start ss k + nth ss k .count ≤ length R
+
+-- the sign words and the shuffle words lie within the randomness, and the challenges' region within the scratch
+pub record Challengeable (R : List ℕ) (p : EnvironmentParameters) (q : Regions) (scratch : List ℕ) : Type 0 where
+  pub sized : Sized (parametersOf p)
+  pub signs : start (randomness-sections (parametersOf p)) 5 + 41 * p .multiplicity ≤ length R
+  pub shuffle : start (randomness-sections (parametersOf p)) 6 + 63 * p .multiplicity ≤ length R
+  pub room : q .challenges + 64 * p .multiplicity ≤ length scratch

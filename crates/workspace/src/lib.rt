@@ -7,9 +7,10 @@ use relation::env_params::EnvironmentParameters;
 use sizes::offsets;
 ghost use mathlib.Core.Path.{_≡_};
 ghost use Rattle.lists.specs.Part.{splice};
-ghost use Rattle.workspace.specs.Ready.{Ready, Drawn};
+ghost use Rattle.workspace.specs.Ready.{Ready, Drawn, Challengeable};
 ghost use Rattle.workspace.specs.Holds.{Holds};
-ghost use Rattle.workspace.specs.Aggregated.{a″-words, φ″-words, double-prime-words, φ-words, a-words, c-words};
+ghost use Rattle.workspace.specs.Aggregated.{a″-words, φ″-words, double-prime-words, φ-words, a-words, challenge-words};
+ghost use Rattle.relation.specs.Parameters.{parametersOf};
 
 // "φ''_k,i = Σ psi[k][l]·φ'_l,i + Σ omega[k][j]·conj(row j of Π_i)"
 pub fn phi_double_prime(
@@ -127,14 +128,13 @@ pub fn a(job: &[u32], randomness: &[u32], p: EnvironmentParameters, q: Regions, 
 
 // The challenges c_i.
 pub fn generate_challenges(
-    job: &[u32],
     randomness: &[u32],
     p: EnvironmentParameters,
     q: Regions,
     scratch: &mut [u32],
 )
-    requires { ⌜ Ready (now job) p q (now scratch) × Drawn 7 (now job) (now randomness) ⌝ }
-    ensures { λ _. ⌜ now (scratch .exit) ≡ splice (now (scratch .entry)) (q .challenges) (c-words (now (job .entry)) (now (randomness .entry))) ⌝ }
+    requires { ⌜ Challengeable (now randomness) p q (now scratch) ⌝ }
+    ensures { λ _. ⌜ now (scratch .exit) ≡ splice (now (scratch .entry)) (q .challenges) (challenge-words (parametersOf p) (now (randomness .entry))) ⌝ }
 {
     challenges::generate_challenges(
         randomness,

@@ -3,7 +3,7 @@ use mathlib.Core.Path.{_≡_, refl, _∙_, ap}
 use Prim.Native.Nat.{ℕ, _+_, _*_, _<_}
 use native.Mathlib.Omega.{arith}
 use borrow.Author.Needs.{needs}
-use lib.ListN.{length, replicate, length-replicate}
+use lib.ListN.{length}
 use Rattle.lists.specs.Part.{part, splice}
 use Rattle.lists.proofs.Table.{table-ext}
 use Rattle.lists.proofs.Splice.{length-splice}
@@ -14,45 +14,52 @@ use Rattle.inner_product.specs.Run.{run}
 use Rattle.protocol.specs.Formulas.{_⊕_, dot, flat, digit-element}
 use Rattle.protocol.proofs.Region.{elements-stored}
 use Rattle.digit_products.proofs.Shifted.{formed}
+use Rattle.commitments.specs.Cells.{forms-of}
 use Rattle.commitments.proofs.SmallParts.{digits-small}
 use Rattle.commitments.proofs.outer_commitments.add_cell.Statement.{statement}
 use Rattle.commitments.proofs.outer_commitments.add_cell.Tie as tie
 
 returns : tie.Need-returns
 returns c =
-    let s = c .before .before .before .before .before .before .before .before .before .before .before .before .before .before .before .before .before .args in
+    let s = c .before .before .before .before .before .before .before .before .before .before .before .before .before .before .before .before .before .before .before .before .before .args in
     let f : ℕ → Element = digit-element (s .base) (element (part (s .from .now) (s .at) 64)) in
-    let digits = c .before .before .before .before .before .before .before .before .before .before .before .before .decompose-to .last .1 .1 .1 .1 .0 in
+    let digits = c .before .before .before .before .before .before .before .before .before .before .before .before .before .before .decompose-to .last .1 .1 .1 .1 .0 in
+    let stored = c .before .before .before .before .before .before .before .before .before .before .before .before .before .before .decompose-to .ensures in
     let row : ℕ → ℕ → Element = λ k. run (s .matrix .now) (s .m-at + s .m-step * k) 64 in
     let out = run (s .out .now) (s .out-at) 64 in
-    let read : (m : ℕ) → m < s .parts → run digits 0 64 m ≡ f m = λ m h. ap (λ w. run w 0 64 m) (c .before .before .before .before .before .before .before .before .before .before .before .before .decompose-to .ensures) ∙ elements-stored (replicate 2048 0) 0 (s .parts) f (omega (arith, length-replicate {A = ℕ} 2048 0)) m h in
-    c .before .before .add-products .ensures
-    ∙ ap (λ t. splice (s .out .now) (s .out-at) (flat t))
-    (table-ext (s .rows) (λ k. out k ⊕ dot (s .parts) (row k) (run digits 0 64)) (λ k. out k ⊕ dot (s .parts) (row k) f)
-    (λ k h. ap (_⊕_ (out k)) (dot-ext RqOps (s .parts) (row k) (row k) (run digits 0 64) f (λ m q. refl) read)))
+    let read : (m : ℕ) → m < s .parts → run digits 0 64 m ≡ f m = λ m h. ap (λ w. run w 0 64 m) stored ∙ elements-stored (s .digits .now) 0 (s .parts) f (omega arith) m h in (
+      c .before .before .add-products .ensures
+          ∙ ap (λ t. splice (s .out .now) (s .out-at) (flat t))
+          (table-ext (s .rows) (λ k. out k ⊕ dot (s .parts) (row k) (run digits 0 64)) (λ k. out k ⊕ dot (s .parts) (row k) f)
+          (λ k h. ap (_⊕_ (out k)) (dot-ext RqOps (s .parts) (row k) (row k) (run digits 0 64) f (λ m q. refl) read))),
+      (
+        stored,
+        c .before .before .before .before .before .before .before .before .store-forms .ensures ∙ ap (λ h. splice (s .forms .now) 0 (forms-of h digits (s .parts))) (c .before .before .before .before .before .before .before .before .before .before .before .wide .ensures .0),
+      ),
+    )
 
 store-forms-requires : tie.Need-store-forms-requires
 store-forms-requires c κs =
-    let long = ap length (c .before .before .before .before .decompose-to .ensures) ∙ length-splice (replicate 2048 0) 0 _ ∙ length-replicate {A = ℕ} 2048 0 in
+    let s = c .before .before .before .before .before .before .before .before .before .before .before .before .args in
+    let long = ap length (c .before .before .before .before .before .decompose-to .ensures) ∙ length-splice (s .digits .now) 0 _ in
     (omega (arith, c .before .before .wide .ensures .0), omega (arith, long), omega arith)
 
 add-products-requires : tie.Need-add-products-requires
 add-products-requires c κs =
-    let s = c .before .before .before .before .before .before .before .before .before .before .before .before .before .before .args in
-    let p = c .before .before .before .before .before .before .before .before .before .before .before .before .before .before .pre in
-    let digits = c .before .before .before .before .before .before .before .before .before .decompose-to .last .1 .1 .1 .1 .0 in
-    let stored = c .before .before .before .before .before .before .before .before .before .decompose-to .ensures in
-    let long = ap length stored ∙ length-splice (replicate 2048 0) 0 _ ∙ length-replicate {A = ℕ} 2048 0 in
-    let half = c .before .before .before .before .before .before .before .wide .ensures .0 in
-    let forms = formed (c .before .before .before .before .before .before .before .wide .result) (λ m. part digits (64 * m) 64) (replicate 4096 0) _ digits (s .parts) (c .before .before .before .before .store-forms .ensures)
-    (omega (arith, length-replicate {A = ℕ} 4096 0)) (λ m l. refl) in (
+    let s = c .before .before .before .before .before .before .before .before .before .before .before .before .before .before .before .before .before .before .args in
+    let p = c .before .before .before .before .before .before .before .before .before .before .before .before .before .before .before .before .before .before .pre in
+    let digits = c .before .before .before .before .before .before .before .before .before .before .before .decompose-to .last .1 .1 .1 .1 .0 in
+    let stored = c .before .before .before .before .before .before .before .before .before .before .before .decompose-to .ensures in
+    let long = ap length stored ∙ length-splice (s .digits .now) 0 _ in
+    let half = c .before .before .before .before .before .before .before .before .wide .ensures .0 in
+    let forms = formed (c .before .before .before .before .before .before .before .before .wide .result) (λ m. part digits (64 * m) 64) (s .forms .now) _ digits (s .parts) (c .before .before .before .before .before .store-forms .ensures) (omega arith) (λ m l. refl) in (
       p .0,
       omega (arith, long),
       p .2,
       record {
         few = p .4;
         formed = forms;
-        small = λ h. rw half (digits-small (s .base) (s .parts) (element (part (s .from .now) (s .at) 64)) (replicate 2048 0) digits stored (omega (arith, length-replicate {A = ℕ} 2048 0)) (p .3) (omega (arith, half, h)));
+        small = λ h. rw half (digits-small (s .base) (s .parts) (element (part (s .from .now) (s .at) 64)) (s .digits .now) digits stored (omega arith) (p .3) (omega (arith, half, h)));
       },
     )
 
@@ -60,14 +67,11 @@ pub add-cell-spec : {M : Type 1} → statement M
 add-cell-spec =
     tie.close
     (tie.spec
-    (λ c. search needs)
     (λ c κs. search needs)
     (λ c κs. search needs)
-    (λ c. search needs)
-    (λ c. search needs)
     store-forms-requires
-    (λ c. search needs)
-    (λ c. search needs)
     add-products-requires
+    (λ c. search needs)
+    (λ c. search needs)
     (λ c. search needs)
     returns)

@@ -1,5 +1,5 @@
 -- `check_aggregated` meets its contract.
-use mathlib.Core.Path.{_∙_}
+use mathlib.Core.Path.{_≡_, _∙_}
 use mathlib.Core.List.{_++_}
 use native.Mathlib.Omega.{arith}
 use borrow.Author.Needs.{needs}
@@ -9,7 +9,10 @@ use Rattle.workspace.specs.Holds.{Kept}
 use Rattle.workspace.specs.Aggregated.{φ″-words, a″-words, φ-words, a-words}
 use Rattle.workspace.proofs.Kept.{kept-trans}
 use Rattle.workspace.proofs.Ready.{drawn-fewer}
-use Rattle.verifier_common.specs.Answers.{relation}
+use Rattle.definitions.specs.Answer.{ofChecked}
+use Rattle.verifier_common.specs.Answers.{phi, relation}
+use Rattle.verifier_common.proofs.Sent.{received}
+use Rattle.verifier_relations.proofs.Sides.{c-within, φ-within, phi-held}
 use Rattle.verifier_common.proofs.Verdicts.{goes-on, stops}
 use Rattle.verifier_relations.proofs.Scratch.{Made, double-made, φ″-made, a″-made, double-leaves-c, φ-made, φ-leaves-a″, φ-leaves-c, a-made}
 use Rattle.verifier_relations.proofs.relations.check_aggregated.Statement.{statement}
@@ -50,16 +53,24 @@ summed c =
 check-phi-requires : tie.Need-check-phi-requires
 check-phi-requires c κs =
     let f = c .before .before .before in
+    let s = f .before .before .before .before .before .before .before .before .before .before in
+    let w = s .pre .0 .posed in (
+      received w,
+      c-within (s .args .job .now) (s .args .transcript .now) (s .args .p) (s .args .q) _ w (summed f .ready),
+      φ-within (s .args .job .now) (s .args .transcript .now) (s .args .p) (s .args .q) _ w (summed f .ready),
+    )
+
+-- 26 of the challenges and the lines in the scratch is that of the randomness
+phi-is : (c : tie.After-check-phi)
+    → let s = c .before .before .before .before .before .before .before .before .before .before .before .before .before .before .args in
+    ofChecked (c .check-phi .result) ≡ phi (s .job .now) (s .randomness .now) (s .transcript .now)
+phi-is c =
+    let f = c .before .before .before .before in
     let d = f .before .before .before .before in
     let s = d .before .before .before .before .before .before in
-    let left = double-leaves-c (s .args .job .now) (s .args .randomness .now) (s .args .p) (s .args .q) (s .args .scratch .now) (s .pre .1) _ (d .double-prime .ensures) (s .pre .2) in (
-      s .pre .0,
-      summed f .ready,
-      record {
-        challenges = φ-leaves-c (s .args .job .now) (s .args .randomness .now) (s .args .p) (s .args .q) (d .double-prime .last .1 .1 .1 .1 .0) (doubled d .ready) _ (f .phi .ensures) left;
-        lines = summed f .holds;
-      },
-    )
+    let left = double-leaves-c (s .args .job .now) (s .args .randomness .now) (s .args .p) (s .args .q) (s .args .scratch .now) (s .pre .1) _ (d .double-prime .ensures) (s .pre .2) in
+    let challenges = φ-leaves-c (s .args .job .now) (s .args .randomness .now) (s .args .p) (s .args .q) (d .double-prime .last .1 .1 .1 .1 .0) (doubled d .ready) _ (f .phi .ensures) left in
+    c .check-phi .ensures ∙ phi-held (s .args .job .now) (s .args .randomness .now) (s .args .transcript .now) (s .args .p) (s .args .q) _ (s .pre .1 .same) challenges (summed f .holds)
 
 a-requires : tie.Need-a-requires
 a-requires c κs =
@@ -102,7 +113,7 @@ returns c =
     let k = c .before in
     let f = k .before .before .before .before in
     let s = f .before .before .before .before .before .before .before .before .before .before .args in
-    (stops (k .check-phi .result) (k .check-phi .ensures) (c .match .keys2) (relation (s .job .now) (s .randomness .now) (s .transcript .now)), kept-φ f)
+    (stops (k .check-phi .result) (phi-is k) (c .match .keys2) (relation (s .job .now) (s .randomness .now) (s .transcript .now)), kept-φ f)
 
 returns-2 : tie.Need-returns-2
 returns-2 c =
@@ -111,7 +122,7 @@ returns-2 c =
     let f = k .before .before .before .before in
     let s = f .before .before .before .before .before .before .before .before .before .before .args in
     let after = relation (s .job .now) (s .randomness .now) (s .transcript .now) in (
-      c .check-relation .ensures ∙ goes-on (k .check-phi .result) (k .check-phi .ensures) (g .before .before .enum-told .given .1) after,
+      c .check-relation .ensures ∙ goes-on (k .check-phi .result) (phi-is k) (g .before .before .enum-told .given .1) after,
       kept-trans (scratch-need (parameters (s .job .now))) (s .scratch .now) (f .phi .last .1 .1 .1 .1 .0) (g .a .last .1 .1 .1 .1 .0) (kept-φ f) (whole g .kept),
     )
 

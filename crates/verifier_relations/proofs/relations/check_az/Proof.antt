@@ -9,25 +9,26 @@ use Rattle.definitions.specs.Answer.{fine, failed}
 use Rattle.protocol.specs.Checks.{first}
 use Rattle.protocol.proofs.First.{first-next}
 use Rattle.verifier_common.proofs.Sent.{reckoned}
+use Rattle.verifier_relations.specs.Weighed.{challenges-in}
 use Rattle.verifier_relations.proofs.Sides.{az-test, row-bounds, row-requires, column-requires, az-tested, az-fails, az-passes}
 use borrow.Author.Needs.{needs}
 use Rattle.verifier_relations.proofs.relations.check_az.Statement.{statement}
 use Rattle.verifier_relations.proofs.relations.check_az.Tie as tie
 
 abbrev Inv-loop : tie.InvT-loop
-Inv-loop job randomness transcript p q scratch a-at z-at t-at n kappa k₀ k = (k ≤ kappa) × (first k (az-test job randomness transcript) ≡ fine)
+Inv-loop job transcript p q scratch a-at z-at t-at n kappa k₀ k = (k ≤ kappa) × (first k (az-test job transcript (challenges-in scratch q)) ≡ fine)
 
 abbrev μ-loop : tie.MeasureT-loop
-μ-loop job randomness transcript p q scratch a-at z-at t-at n kappa k₀ k = kappa - k
+μ-loop job transcript p q scratch a-at z-at t-at n kappa k₀ k = kappa - k
 
 of-job-requires : tie.Need-of-job-requires Inv-loop μ-loop
-of-job-requires c κs = (reckoned (c .before .before .before .before .pre .0 .posed), omega arith)
+of-job-requires c κs = (reckoned (c .before .before .before .pre .0), omega arith)
 
 of-transcript-requires : tie.Need-of-transcript-requires Inv-loop μ-loop
-of-transcript-requires c κs = (reckoned (c .before .before .before .before .before .pre .0 .posed), omega arith)
+of-transcript-requires c κs = (reckoned (c .before .before .before .before .pre .0), omega arith)
 
 of-transcript-requires-2 : tie.Need-of-transcript-requires-2 Inv-loop μ-loop
-of-transcript-requires-2 c κs = (reckoned (c .before .before .before .before .before .before .pre .0 .posed), omega arith)
+of-transcript-requires-2 c κs = (reckoned (c .before .before .before .before .before .pre .0), omega arith)
 
 loop-holds : tie.Need-loop-holds Inv-loop μ-loop
 unfolding first
@@ -35,11 +36,11 @@ loop-holds c = (omega arith, refl)
 
 -- the places of row k are small
 bounds : (c : tie.In-loop Inv-loop μ-loop)
-    → let s = c .before .before .before .before .before .before .before .before .before .args in
+    → let s = c .before .before .before .before .before .before .before .before .args in
     (c .before .loop .k * s .p .rank ≤ 1024) × (c .before .before .before .before .of-job .result + 64 * (c .before .loop .k * s .p .rank) ≤ 2 ^ 62)
 bounds c =
-    let s = c .before .before .before .before .before .before .before .before .before in
-    row-bounds _ _ _ _ _ _ (s .pre .0) (s .pre .1) _ _ (omega arith) (c .before .before .before .before .of-job .ensures) (c .loop-test .taken)
+    let s = c .before .before .before .before .before .before .before .before in
+    row-bounds _ _ _ _ _ (s .pre .0) (s .pre .1) _ _ (omega arith) (c .before .before .before .before .of-job .ensures) (c .loop-test .taken)
 
 mul-row : tie.Need-mul-row Inv-loop μ-loop
 mul-row c = omega (arith, bounds c .0)
@@ -52,48 +53,48 @@ add-row c = omega (arith, bounds c .1)
 
 inner-product-requires : tie.Need-inner-product-requires Inv-loop μ-loop
 inner-product-requires c κs =
-    let s = c .before .before .before .before .before .before .before .before .before in
-    row-requires _ _ _ _ _ _ (s .pre .0) (s .pre .1) _ _ _ (omega arith) (omega arith) (c .before .before .before .before .of-job .ensures) (c .before .before .before .of-transcript .ensures) (c .loop-test .taken)
+    let s = c .before .before .before .before .before .before .before .before in
+    row-requires _ _ _ _ _ (s .pre .0) (s .pre .1) _ _ _ (omega arith) (omega arith) (c .before .before .before .before .of-job .ensures) (c .before .before .before .of-transcript .ensures) (c .loop-test .taken)
 
 column-sum-requires : tie.Need-column-sum-requires Inv-loop μ-loop
 column-sum-requires c κs =
-    let s = c .before .before .before .before .before .before .before .before .before .before in
-    column-requires _ _ _ _ _ _ (s .pre .0) (s .pre .1) _ _ (c .before .before .before .of-transcript2 .ensures) (c .before .loop-test .taken)
+    let s = c .before .before .before .before .before .before .before .before .before in
+    column-requires _ _ _ _ _ (s .pre .0) (s .pre .1) _ _ (c .before .before .before .of-transcript2 .ensures) (c .before .loop-test .taken)
 
 -- the test of row k
 tested : (c : tie.After-same Inv-loop μ-loop)
-    → let s = c .before .before .before .before .before .before .before .before .before .before .before .before .args in
-    az-test (s .job .now) (s .randomness .now) (s .transcript .now) (c .before .before .before .before .loop .k) ≡ cond (c .same .result) fine (failed 24 [])
+    → let s = c .before .before .before .before .before .before .before .before .before .before .before .args in
+    az-test (s .job .now) (s .transcript .now) (challenges-in (s .scratch .now) (s .q)) (c .before .before .before .before .loop .k) ≡ cond (c .same .result) fine (failed 24 [])
 tested c =
     let l = c .before .before .before .before in
-    let s = l .before .before .before .before .before .before .before .before in
-    az-tested (s .args .job .now) (s .args .randomness .now) (s .args .transcript .now) (s .args .p) (s .args .q) (s .args .scratch .now) (s .pre .0) (s .pre .1) (s .pre .2) _ _ _ (l .loop .k) _ _ (c .same .result)
+    let s = l .before .before .before .before .before .before .before in
+    az-tested (s .args .job .now) (s .args .transcript .now) (s .args .p) (s .args .q) (s .args .scratch .now) (s .pre .0) (s .pre .1) _ _ _ (l .loop .k) _ _ (c .same .result)
     (l .before .before .before .of-job .ensures) (l .before .before .of-transcript .ensures) (l .before .of-transcript2 .ensures)
     (c .before .before .inner-product .ensures) (c .before .column-sum .ensures) (c .same .ensures)
 
 add-k : tie.Need-add-k Inv-loop μ-loop
 add-k c =
-    let s = c .before .before .before .before .before .before .before .before .before .before .before .before .before in
-    omega (arith, reckoned (s .pre .0 .posed) .within .κ .1)
+    let s = c .before .before .before .before .before .before .before .before .before .before .before .before in
+    omega (arith, reckoned (s .pre .0) .within .κ .1)
 
 loop-again : tie.Need-loop-again Inv-loop μ-loop
 loop-again c =
     let l = c .before .before .before .before .before in
-    let s = l .before .before .before .before .before .before .before .before .args in
-    (omega arith, first-next (l .loop .k) (az-test (s .job .now) (s .randomness .now) (s .transcript .now)) (l .loop .inv .1) (tested (c .before) ∙ ap (λ t. cond t fine (failed 24 [])) (not-false (c .before .same .result) (c .if1 .left))))
+    let s = l .before .before .before .before .before .before .before .args in
+    (omega arith, first-next (l .loop .k) (az-test (s .job .now) (s .transcript .now) (challenges-in (s .scratch .now) (s .q))) (l .loop .inv .1) (tested (c .before) ∙ ap (λ t. cond t fine (failed 24 [])) (not-false (c .before .same .result) (c .if1 .left))))
 
 returns : tie.Need-returns Inv-loop μ-loop
 returns c =
     let l = c .before .before .before .before .before in
-    let s = l .before .before .before .before .before .before .before .before in
-    az-fails (s .args .job .now) (s .args .randomness .now) (s .args .transcript .now) (s .args .p) (s .args .q) (s .args .scratch .now) (s .pre .0) (s .pre .1) (l .loop .k) (c .before .before .before .before .loop-test .taken) (l .loop .inv .1)
+    let s = l .before .before .before .before .before .before .before in
+    az-fails (s .args .job .now) (s .args .transcript .now) (s .args .p) (s .args .q) (s .args .scratch .now) (s .pre .0) (s .pre .1) (challenges-in (s .args .scratch .now) (s .args .q)) (l .loop .k) (c .before .before .before .before .loop-test .taken) (l .loop .inv .1)
     (tested (c .before) ∙ ap (λ t. cond t fine (failed 24 [])) (not-true (c .before .same .result) (c .if1 .taken)))
 
 returns-2 : tie.Need-returns-2 Inv-loop μ-loop
 returns-2 c =
     let l = c .before in
-    let s = l .before .before .before .before .before .before .before .before in
-    az-passes (s .args .job .now) (s .args .randomness .now) (s .args .transcript .now) (s .args .p) (s .args .q) (s .args .scratch .now) (s .pre .0) (s .pre .1) (l .loop .k) (omega arith) (l .loop .inv .1)
+    let s = l .before .before .before .before .before .before .before in
+    az-passes (s .args .job .now) (s .args .transcript .now) (s .args .p) (s .args .q) (s .args .scratch .now) (s .pre .0) (s .pre .1) (challenges-in (s .args .scratch .now) (s .args .q)) (l .loop .k) (omega arith) (l .loop .inv .1)
 
 pub check-az-spec : {M : Type 1} → statement M
 check-az-spec =

@@ -4,38 +4,37 @@ use mathlib.Core.Bool.{cond}
 use mathlib.Core.List.{[]}
 use native.Mathlib.Omega.{arith}
 use Rattle.definitions.specs.Answer.{fine, failed}
-use Rattle.protocol.specs.Parameters.{parameters}
-use Rattle.protocol.specs.Views.{public, message}
-use Rattle.protocol.specs.Verifier.{check-26}
-use Rattle.verifier_common.proofs.Sent.{reckoned, received, h-within}
+use Rattle.relation.specs.Parameters.{parametersOf}
+use Rattle.verifier_common.proofs.Sent.{h-within}
+use Rattle.verifier_relations.specs.Weighed.{challenges-in, lines-in, phi-of}
 use Rattle.verifier_relations.proofs.Sides.{lines-requires, weighted-requires, phi-answer}
 use borrow.Author.Needs.{needs}
 use Rattle.verifier_relations.proofs.relations.check_phi.Statement.{statement}
 use Rattle.verifier_relations.proofs.relations.check_phi.Tie as tie
 
 of-transcript-requires : tie.Need-of-transcript-requires
-of-transcript-requires c κs = (reckoned (c .before .before .before .before .pre .0 .posed), omega arith)
+of-transcript-requires c κs = (c .before .before .pre .0 .sized, omega arith)
 
 of-transcript-requires-2 : tie.Need-of-transcript-requires-2
-of-transcript-requires-2 c κs = (reckoned (c .before .before .before .before .before .pre .0 .posed), omega arith)
+of-transcript-requires-2 c κs = (c .before .before .before .pre .0 .sized, omega arith)
 
 sum-of-lines-requires : tie.Need-sum-of-lines-requires
 sum-of-lines-requires c κs =
-    let s = c .before .before .before .before .before .before in
-    lines-requires _ _ _ _ _ _ (s .pre .0) (s .pre .1) _ (c .before .of-transcript .ensures)
+    let s = c .before .before .before .before in
+    lines-requires (s .args .transcript .now) (s .args .p) (s .args .q) (s .args .scratch .now) (s .pre .0) _ (s .pre .1) (s .pre .2) (c .before .of-transcript .ensures)
 
 sum-of-weighted-requires : tie.Need-sum-of-weighted-requires
 sum-of-weighted-requires c κs =
-    let s = c .before .before .before .before .before .before .before in
-    weighted-requires _ _ _ _ _ _ (s .pre .0) (s .pre .1) _ (h-within _ _ (received (s .pre .0 .posed)) _ (c .before .of-transcript2 .ensures))
+    let s = c .before .before .before .before .before in
+    weighted-requires (s .args .transcript .now) (s .args .p) (s .args .q) (s .args .scratch .now) (s .pre .0) _ (s .pre .1) (h-within _ _ (s .pre .0) _ (c .before .of-transcript2 .ensures))
 
 -- the check by the boolean's value
 answer : (c : tie.After-same)
-    → let s = c .before .before .before .before .before .before .before .before .before .before .args in
-    cond (c .same .result) fine (failed 26 []) ≡ check-26 (public (s .job .now) (s .randomness .now)) (message (parameters (s .job .now)) (s .transcript .now))
+    → let s = c .before .before .before .before .before .before .before .before .args in
+    cond (c .same .result) fine (failed 26 []) ≡ phi-of (parametersOf (s .p)) (s .transcript .now) (challenges-in (s .scratch .now) (s .q)) (lines-in (parametersOf (s .p)) (s .scratch .now) (s .q))
 answer c =
-    let s = c .before .before .before .before .before .before .before .before .before .before in
-    phi-answer (s .args .job .now) (s .args .randomness .now) (s .args .transcript .now) (s .args .p) (s .args .q) (s .args .scratch .now) (s .pre .0) (s .pre .1) (s .pre .2 .challenges) _ _ _ _ _ (c .same .result) (s .pre .2 .lines)
+    let s = c .before .before .before .before .before .before .before .before in
+    phi-answer (s .args .transcript .now) (s .args .p) (s .args .q) (s .args .scratch .now) (s .pre .0) _ _ _ _ _ (c .same .result)
     (c .before .before .before .before .before .of-transcript .ensures) (c .before .before .before .before .of-transcript2 .ensures)
     (c .before .before .before .sum-of-lines .ensures) (c .before .before .sum-of-weighted .ensures) (c .before .add .ensures) (c .same .ensures)
 

@@ -1,0 +1,106 @@
+// h_ij = ⟨φ_i, s_j⟩ + ⟨φ_j, s_i⟩ by kept transforms: the scratch keeps the vectors s_j, each φ_i is transformed once, all ⟨φ_i, s_j⟩ are stored, and
+// the two of each cell are added.
+use kept_vectors;
+use ntt::table;
+use rq_matrix;
+ghost use mathlib.Core.Path.{_≡_};
+ghost use Prim.Native.Nat.{_+_, _*_, _≤_, _<_};
+ghost use lib.ListN.{length};
+ghost use Rattle.lists.specs.Table.{table};
+ghost use Rattle.lists.specs.Part.{splice};
+ghost use Rattle.protocol.specs.Parameters.{triangular};
+ghost use Rattle.protocol.specs.Formulas.{flat, rows, triangle};
+ghost use Rattle.ntt.specs.Roots.{twiddleTable};
+ghost use Rattle.kept_vectors.specs.Keeps.{kept-words, kept-row, AllValues};
+ghost use Rattle.kept_h.specs.KeptLines.{kept-line, both-ways, with-h, LineRoom, LinesRoom, HalvesRoom, HRoom};
+
+// Row i of all inner products: the vector at `from`, transformed into the buffer, with the kept vectors.
+pub fn line(
+    scratch: &mut [u32],
+    from: usize,
+    n: usize,
+    count: usize,
+    w: &[u32],
+    buffer: &mut [u32],
+    at: usize,
+    out_at: usize,
+)
+    requires { ⌜ (now w ≡ twiddleTable) × AllValues (now scratch) at (count * n) × LineRoom (now scratch) from n count (now buffer) at «out_at» ⌝ }
+    ensures { λ _. ⌜ now (scratch .exit) ≡ splice (now (scratch .entry)) «out_at» (flat (table count (kept-row (kept-words (now (scratch .entry)) from n) (now (scratch .entry)) at n))) ⌝ }
+    ensures { λ _. ⌜ now (buffer .exit) ≡ splice (now (buffer .entry)) 0 (kept-words (now (scratch .entry)) from n) ⌝ }
+{
+    kept_vectors::keep(scratch, from, n, w, buffer, 0);
+    kept_vectors::row(buffer, n, count, w, scratch, at, out_at);
+}
+
+// All of them, of r vectors.
+pub fn lines(scratch: &mut [u32], from: usize, r: usize, n: usize, at: usize, out_at: usize)
+    requires { ⌜ AllValues (now scratch) at (r * n) × LinesRoom (now scratch) from r n at «out_at» ⌝ }
+    ensures { λ _. ⌜ now (scratch .exit) ≡ splice (now (scratch .entry)) «out_at» (flat (rows r r (kept-line (now (scratch .entry)) from at n))) ⌝ }
+{
+    let w = table::twiddles();
+    let mut buffer = [0u32; 12288];
+    let mut start = from;
+    let mut place = out_at;
+    let mut i = 0;
+    while i < r {
+        line(scratch, start, n, r, &w, &mut buffer, at, place);
+        start += 64 * n;
+        place += 64 * r;
+        i += 1;
+    }
+}
+
+// Row i of h: each cell and its mirror image in the square added.
+pub fn h_row(scratch: &mut [u32], square: usize, r: usize, i: usize, out_at: usize)
+    requires { ⌜ HalvesRoom (now scratch) square r (i + 1) «out_at» × (i < r) ⌝ }
+    ensures { λ _. ⌜ now (scratch .exit) ≡ splice (now (scratch .entry)) «out_at» (flat (table (i + 1) (both-ways (now (scratch .entry)) square r i))) ⌝ }
+{
+    let mut across = rq_matrix::vector_at(square, r, i);
+    let mut down = square + 64 * i;
+    let mut place = out_at;
+    let mut j = 0;
+    while j <= i {
+        let sum = words::load(scratch, across).add(words::load(scratch, down));
+        words::store(scratch, place, sum);
+        across += 64;
+        down += 64 * r;
+        place += 64;
+        j += 1;
+    }
+}
+
+// All rows.
+pub fn fold(scratch: &mut [u32], square: usize, r: usize, out_at: usize)
+    requires { ⌜ HalvesRoom (now scratch) square r (triangular r) «out_at» ⌝ }
+    ensures { λ _. ⌜ now (scratch .exit) ≡ splice (now (scratch .entry)) «out_at» (flat (triangle r (both-ways (now (scratch .entry)) square r))) ⌝ }
+{
+    let mut place = out_at;
+    let mut i = 0;
+    while i < r {
+        h_row(scratch, square, r, i, place);
+        i += 1;
+        place += 64 * i;
+    }
+}
+
+// h of the vectors φ_i in the scratch and the vectors s_i in another slice, with room for the kept vectors from `at` on and for the square behind them.
+pub fn compute_h(
+    s: &[u32],
+    s_at: usize,
+    r: usize,
+    n: usize,
+    scratch: &mut [u32],
+    at: usize,
+    square: usize,
+    phi_at: usize,
+    out_at: usize,
+)
+    requires { ⌜ («s_at» + 64 * (r * n) ≤ length (now s)) × HRoom (now scratch) r n at square «phi_at» «out_at» ⌝ }
+    ensures { λ _. ⌜ now (scratch .exit) ≡ with-h (now (scratch .entry)) «phi_at» (now (s .entry)) «s_at» r n at square «out_at» ⌝ }
+{
+    let w = table::twiddles();
+    kept_vectors::keep(s, s_at, r * n, &w, scratch, at);
+    lines(scratch, phi_at, r, n, at, square);
+    fold(scratch, square, r, out_at);
+}

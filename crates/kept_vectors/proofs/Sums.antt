@@ -1,0 +1,119 @@
+-- The sums of products of values: one product more, and what they come to.
+use mathlib.Core.Path.{_≡_, refl, sym, ap, ap₂, _∙_}
+use mathlib.Core.List.{List}
+use Prim.Native.Nat.{ℕ, zero, suc, _+_, _-_, _*_, _%_, _≤_, _<_, _^_}
+use native.Mathlib.Nat as Nat
+use native.Mathlib.Decide.{decLt}
+use native.Mathlib.Omega.{arith}
+use lib.ListN.{length, getD, replicate, length-replicate, getD-replicate}
+use Rattle.lists.specs.Table.{table}
+use Rattle.lists.specs.Part.{part}
+use Rattle.lists.specs.Sum.{Σ}
+use Rattle.lists.proofs.Table.{length-table, getD-table, table-ext, is-table}
+use Rattle.lists.proofs.Sum.{Σ-suc, Σ-ext, Σ-bound}
+use Rattle.algebra.specs.Ops.{sum, dot}
+use Rattle.algebra.proofs.Sum.{sum-ext}
+use Rattle.definitions.specs.Zq.{Q, zsub}
+use Rattle.definitions.specs.Rq.{coeff, low, high, rmul}
+use Rattle.definitions.specs.Ring.{RqOps, words, element}
+use Rattle.definitions.proofs.Bridge.{words-sum, words-element, element-rmul, rmul-element}
+use Rattle.fast_product.proofs.Residue.{product-small}
+use Rattle.inner_product.specs.Run.{run}
+use Rattle.kept_vectors.specs.Keeps.{SumsRoom, values-added, value-sums, Values}
+
+-- no product yet
+pub sums-none : (x : List ℕ) (x-at : ℕ) (y : List ℕ) (y-at : ℕ) → replicate 64 0 ≡ value-sums x x-at y y-at 0
+unfolding value-sums Σ
+sums-none x x-at y y-at = let z : ℕ = 0 in is-table 64 (replicate 64 z) (λ k. z) z (length-replicate 64 z) (λ k l. getD-replicate 64 k z z l)
+
+-- 64 of them
+pub length-sums : (x : List ℕ) (x-at : ℕ) (y : List ℕ) (y-at n : ℕ) → length (value-sums x x-at y y-at n) ≡ 64
+unfolding value-sums
+length-sums x x-at y y-at n = length-table 64 (λ k. Σ n (λ m. getD x (x-at + 192 * m + k) 0 * getD y (y-at + 192 * m + k) 0))
+
+module _ (x : List ℕ) (x-at : ℕ) (y : List ℕ) (y-at m : ℕ) where
+  -- sum k
+  abbrev term : ℕ → ℕ → ℕ
+  term k i = getD x (x-at + 192 * i + k) 0 * getD y (y-at + 192 * i + k) 0
+
+  pub sum-at : (k : ℕ) → k < 64 → getD (value-sums x x-at y y-at m) k 0 ≡ Σ m (term k)
+  unfolding value-sums
+  sum-at k h = getD-table 64 (λ k. Σ m (term k)) k 0 h
+
+  -- one more product
+  pub sums-next : (sums next : List ℕ) (i j : ℕ) → sums ≡ value-sums x x-at y y-at m → i ≡ x-at + 192 * m → j ≡ y-at + 192 * m → next ≡ values-added sums x i y j
+      → next ≡ value-sums x x-at y y-at (m + 1)
+  unfolding value-sums values-added
+  sums-next sums next i j s p q e =
+      e
+      ∙ table-ext 64 (λ k. getD sums k 0 + getD x (i + k) 0 * getD y (j + k) 0) (λ k. Σ (m + 1) (term k))
+      (λ k h. ap₂ (λ a b. a + b) (ap (λ l. getD l k 0) s ∙ sum-at k h) (ap₂ (λ a b. getD x (a + k) 0 * getD y (b + k) 0) p q) ∙ sym (Σ-suc m (term k)))
+
+  -- for which there is room
+  pub sums-room : (n : ℕ) → Values x x-at n → Values y y-at n → n ≤ 64 → m < n → (sums : List ℕ) (i j : ℕ) → sums ≡ value-sums x x-at y y-at m → i ≡ x-at + 192 * m → j ≡ y-at + 192 * m
+      → SumsRoom sums x i y j
+  sums-room n vx vy few h sums i j s p q k l =
+      let small : (o : ℕ) → o < n → term k o ≤ 18032502047663104 = λ o b. product-small (getD x (x-at + 192 * o + k) 0) (getD y (y-at + 192 * o + k) 0) (vx .small o k b l) (vy .small o k b l) in
+      let total : Σ m (term k) ≤ m * 18032502047663104 = Σ-bound m 18032502047663104 (term k) (λ o b. small o (omega arith)) in
+      let sum : getD sums k 0 ≡ Σ m (term k) = ap (λ a. getD a k 0) s ∙ sum-at k l in
+      let last : getD x (i + k) 0 * getD y (j + k) 0 ≡ term k m = ap₂ (λ a b. getD x (a + k) 0 * getD y (b + k) 0) p q in
+      omega (arith, small m h)
+
+-- two numbers taken off modulo Q, one after the other or together
+taken-off : (c r t : ℕ) → r < 4294967295 → t < 4294967295 → (c + (4294967295 - r) + (4294967295 - t)) % 4294967295 ≡ (c + (4294967295 - (r + t) % 4294967295)) % 4294967295
+taken-off c r t hr ht = go (decLt (r + t) 4294967295)
+  where
+    go : Dec (r + t < 4294967295) → (c + (4294967295 - r) + (4294967295 - t)) % 4294967295 ≡ (c + (4294967295 - (r + t) % 4294967295)) % 4294967295
+    go (yes l) =
+        let e : (r + t) % 4294967295 ≡ r + t = omega arith in
+        let f : c + (4294967295 - r) + (4294967295 - t) ≡ c + (4294967295 - (r + t)) + 4294967295 = omega arith in
+        ap (λ x. x % 4294967295) f ∙ Nat.add-mod-right (c + (4294967295 - (r + t))) 4294967295 ∙ ap (λ x. (c + (4294967295 - x)) % 4294967295) (sym e)
+    go (no l) =
+        let e : (r + t) % 4294967295 ≡ r + t - 4294967295 = omega arith in
+        let f : c + (4294967295 - r) + (4294967295 - t) ≡ c + (4294967295 - (r + t - 4294967295)) = omega arith in
+        ap (λ x. x % 4294967295) f ∙ ap (λ x. (c + (4294967295 - x)) % 4294967295) (sym e)
+
+-- differences modulo Q add up
+differences : (n : ℕ) (f g : ℕ → ℕ) → Σ n (λ m. zsub (f m) (g m)) % Q ≡ zsub (Σ n f) (Σ n g)
+unfolding Σ
+differences zero f g = refl
+differences (suc n) f g = step (Σ n (λ m. zsub (f m) (g m))) (Σ n f) (Σ n g) (f n) (g n) (differences n f g)
+  where
+    joined : (s y x : ℕ) → s % 4294967295 ≡ y % 4294967295 → (s + x % 4294967295) % 4294967295 ≡ (y + x) % 4294967295
+    joined s y x e = omega arith
+
+    step : (s l h a b : ℕ) → s % 4294967295 ≡ (l + (4294967295 - h % 4294967295)) % 4294967295
+        → (s + (a + (4294967295 - b % 4294967295)) % 4294967295) % 4294967295 ≡ (l + a + (4294967295 - (h + b) % 4294967295)) % 4294967295
+    step s l h a b e =
+        let order : l + (4294967295 - h % 4294967295) + (a + (4294967295 - b % 4294967295)) ≡ l + a + (4294967295 - h % 4294967295) + (4294967295 - b % 4294967295) = omega arith in
+        let sum : (h % 4294967295 + b % 4294967295) % 4294967295 ≡ (h + b) % 4294967295 = omega arith in
+        joined s (l + (4294967295 - h % 4294967295)) (a + (4294967295 - b % 4294967295)) e
+        ∙ ap (λ x. x % 4294967295) order
+        ∙ taken-off (l + a) (h % 4294967295) (b % 4294967295) (omega arith) (omega arith)
+        ∙ ap (λ x. (l + a + (4294967295 - x)) % 4294967295) sum
+
+-- both sums of each coefficient of n products, reduced once, are the inner product's words
+pub products-words : (x : List ℕ) (x-at : ℕ) (y : List ℕ) (y-at n : ℕ)
+    → table 64 (λ k. zsub (Σ n (λ m. low (part x (x-at + 64 * m) 64) (part y (y-at + 64 * m) 64) k)) (Σ n (λ m. high (part x (x-at + 64 * m) 64) (part y (y-at + 64 * m) 64) k)))
+    ≡ words (dot RqOps n (run x x-at 64) (run y y-at 64))
+unfolding dot
+products-words x x-at y y-at n =
+    sym
+    (ap words (sum-ext RqOps n (λ m. RqOps .mul (run x x-at 64 m) (run y y-at 64 m)) (λ m. element (product m)) (λ m l. sym (element-rmul (part x (x-at + 64 * m) 64) (part y (y-at + 64 * m) 64))))
+    ∙ words-sum n (λ m. element (product m))
+    ∙ table-ext 64 (λ k. Σ n (λ m. coeff (words (element (product m))) k) % Q) (λ k. zsub (Σ n (lows k)) (Σ n (highs k)))
+    (λ k h. ap (λ s. s % Q) (Σ-ext n (λ m. coeff (words (element (product m))) k) (λ m. zsub (lows k m) (highs k m)) (λ m l. one k h m)) ∙ differences n (lows k) (highs k)))
+  where
+    product : ℕ → List ℕ
+    product m = rmul (part x (x-at + 64 * m) 64) (part y (y-at + 64 * m) 64)
+
+    lows : ℕ → ℕ → ℕ
+    lows k m = low (part x (x-at + 64 * m) 64) (part y (y-at + 64 * m) 64) k
+
+    highs : ℕ → ℕ → ℕ
+    highs k m = high (part x (x-at + 64 * m) 64) (part y (y-at + 64 * m) 64) k
+
+    one : (k : ℕ) → k < 64 → (m : ℕ) → coeff (words (element (product m))) k ≡ zsub (lows k m) (highs k m)
+    one k h m =
+        ap (λ l. coeff l k) (words-element (product m) (rmul-element (part x (x-at + 64 * m) 64) (part y (y-at + 64 * m) 64)))
+        ∙ (unfold rmul in getD-table 64 (λ k. zsub (low (part x (x-at + 64 * m) 64) (part y (y-at + 64 * m) 64) k) (high (part x (x-at + 64 * m) 64) (part y (y-at + 64 * m) 64) k)) k 0 h)

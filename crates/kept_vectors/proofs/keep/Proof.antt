@@ -1,0 +1,66 @@
+-- `keep` meets its contract. The invariant: the values of the first m elements are stored.
+use mathlib.Core.Path.{_≡_, refl, sym, ap, subst, _∙_}
+use Prim.Native.Nat.{_+_, _-_, _*_, _≤_}
+use native.Mathlib.Omega.{arith}
+use borrow.Author.Needs.{needs}
+use lib.ListN.{length, getD}
+use Rattle.lists.specs.Part.{part, splice}
+use Rattle.lists.proofs.Splice.{getD-part}
+use Rattle.rq_matrix.proofs.Fill.{length-filled}
+use Rattle.kept_vectors.specs.Keeps.{kept-words}
+use Rattle.kept_vectors.proofs.Stored.{kept-none, kept-next, kept-stored}
+use Rattle.kept_vectors.proofs.keep.Statement.{statement}
+use Rattle.kept_vectors.proofs.keep.Tie as tie
+
+abbrev Inv-loop : tie.InvT-loop
+Inv-loop from from-at n w out₀ at i₀ place₀ m₀ out i place m =
+    (m ≤ n) × (i ≡ from-at + 64 * m) × (place ≡ at + 192 * m) × (out ≡ splice out₀ at (kept-words from from-at m)) × (length out ≡ length out₀)
+
+abbrev μ-loop : tie.MeasureT-loop
+μ-loop from from-at n w out₀ at i₀ place₀ m₀ out i place m = n - m
+
+loop-holds : tie.Need-loop-holds Inv-loop μ-loop
+loop-holds c = (omega arith, omega arith, omega arith, kept-none _ _ _ _, refl)
+
+store-values-requires : tie.Need-store-values-requires Inv-loop μ-loop
+store-values-requires c κs = (c .before .before .before .before .before .before .before .before .pre .0, omega arith)
+
+loop-again : tie.Need-loop-again Inv-loop μ-loop
+loop-again c =
+    let s = c .before .before .before .before .before .before .before .before .before .before .before .args in
+    let l = c .before .before .before .before .before .before .before .loop in
+    let e = c .before .before .store-values .ensures in (
+      omega arith,
+      omega arith,
+      omega arith,
+      kept-next (s .from .now) (s .from-at) (s .out .now) (l .out) _ _ (s .at) (l .m) (l .i) (l .place) (l .inv .3) (l .inv .1) (l .inv .2) (c .before .before .before .before .before .load .ensures) e,
+      length-filled _ _ _ _ e ∙ l .inv .4,
+    )
+
+returns : tie.Need-returns Inv-loop μ-loop
+returns c =
+    let s = c .before .before .before .before .before .args in
+    let l = c .before .loop in
+    let n : l .m ≡ s .n = omega arith in
+    let e = l .inv .3 ∙ ap (λ k. splice (s .out .now) (s .at) (kept-words (s .from .now) (s .from-at) k)) n in (
+      e,
+      kept-stored (s .from .now) (s .from-at) (s .out .now) _ (s .at) (s .n) e (omega arith)
+          (λ m k h. omega (arith, getD-part 0 (s .from .now) (s .from-at + 64 * m) 64 k h, c .before .before .before .before .shared-slice-known .given (s .from-at + 64 * m + k))),
+    )
+
+pub keep-spec : {M : Type 1} → statement M
+keep-spec =
+    tie.close
+    (tie.spec
+    Inv-loop
+    μ-loop
+    loop-holds
+    (λ c κs. omega arith)
+    store-values-requires
+    (λ c. omega arith)
+    (λ c. omega arith)
+    (λ c. omega arith)
+    (λ c. omega arith)
+    loop-again
+    (λ c. omega arith)
+    returns)

@@ -1,0 +1,68 @@
+-- What 24 to 26 answer of challenges and lines that are handed in: the code takes them from their regions of the scratch.
+use mathlib.Core.List.{List, []}
+use Prim.Native.Nat.{ℕ, _+_, _*_, _≤_}
+use lib.ListN.{length}
+use Rattle.definitions.specs.Answer.{Answer, failed}
+use Rattle.definitions.specs.Rq.{Element}
+use Rattle.inner_product.specs.Run.{run}
+use Rattle.protocol.specs.Checks.{require}
+use Rattle.protocol.specs.Parameters.{Parameters, parameters}
+use Rattle.protocol.specs.Views.{Public, Message, public, message}
+use Rattle.protocol.specs.Formulas.{_⊗_, sum, dot, pairs}
+use Rattle.protocol.specs.Verifier.{same, twice, check-24, check-25}
+use Rattle.regions.specs.declared.Regions.{Regions}
+use Rattle.relation.specs.declared.env_params.EnvironmentParameters.{EnvironmentParameters}
+use Rattle.rq_matrix.specs.Region.{vector}
+use Rattle.verifier_common.specs.Answers.{bare}
+
+-- the public values with challenges handed in
+abbrev pub with-challenges : Public → (ℕ → Element) → Public
+with-challenges X c = record {
+  P = X .P;
+  a′ = X .a′;
+  φ′ = X .φ′;
+  b₀ = X .b₀;
+  a = X .a;
+  φ = X .φ;
+  b = X .b;
+  A = X .A;
+  B = X .B;
+  C = X .C;
+  D = X .D;
+  Π = X .Π;
+  psi = X .psi;
+  omega = X .omega;
+  alpha = X .alpha;
+  beta = X .beta;
+  c = c;
+}
+
+-- the challenges' region, and element m of line i in its region
+abbrev pub challenges-in : List ℕ → Regions → ℕ → Element
+challenges-in S q = run S (q .challenges) 64
+
+abbrev pub lines-in : Parameters → List ℕ → Regions → ℕ → ℕ → Element
+lines-in P S q = vector S (q .phi) (P .n)
+
+-- the challenges' region lies within the scratch
+abbrev pub ChallengesWithin : EnvironmentParameters → Regions → List ℕ → Type 0
+ChallengesWithin p q S = q .challenges + 64 * p .multiplicity ≤ length S
+
+-- so does that of the lines
+abbrev pub LinesWithin : EnvironmentParameters → Regions → List ℕ → Type 0
+LinesWithin p q S = q .phi + 64 * (p .multiplicity * p .rank) ≤ length S
+
+-- "24 A·z is not Σ t_i·c_i."
+abbrev pub az-of : (J T : List ℕ) → (ℕ → Element) → Answer
+az-of J T c = check-24 (with-challenges (public J []) c) (message (parameters J) T)
+
+module _ (P : Parameters) (T : List ℕ) (c : ℕ → Element) where
+  -- "25 ⟨z,z⟩ is not Σ g_ij·c_i·c_j."
+  abbrev pub z-inner-of : Answer
+  z-inner-of = check-25 (with-challenges (bare P) c) (message P T)
+
+  -- "26 twice Σ⟨φ_i,z⟩·c_i is not Σ h_ij·c_i·c_j."
+  abbrev pub phi-of : (ℕ → ℕ → Element) → Answer
+  phi-of φ =
+      let M = message P T in
+      require (same (twice (sum (P .r) (λ i. dot (P .n) (φ i) (M .z) ⊗ c i))) (pairs (P .r) (λ i j. M .h i j ⊗ c i ⊗ c j))) (failed 26 [])
