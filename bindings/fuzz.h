@@ -18,6 +18,10 @@ enum {
     LOWS,
     HIGHS,
     DIGITS,
+    PROJECTION,
+    VECTORS,
+    FIRST_P,
+    SECOND_P,
     INPUTS,
     SCRATCH = INPUTS,
     OUTPUT,
@@ -97,6 +101,11 @@ labrador_parameters parameters_in_hand(void);
 const char *judge_refusal_of(const labrador_parameters *p, const answer *a);
 const char *judge_refusal(const answer *a);
 size_t about(size_t need);
+size_t scratch_need(const labrador_parameters *p);
+int above(int s, uint64_t place, uint32_t most);
+
+/* fuzz_sheds.c */
+extern uint32_t run_first, run_end;
 
 /* fuzz_load.c */
 extern labrador_parameters load_parameters;

@@ -34,6 +34,12 @@ CALL(round_2, 40, draw_round_2, PROVER(labrador_round_2), judge_made, 1, 2, 3, 4
 CALL(round_3, 40, draw_round_3, PROVER(labrador_round_3), judge_made, 1, 2, 3, 4, 5, 6, 7, 8, 11, 12, 13, 14, 15)
 CALL(round_4, 40, draw_round_4, PROVER(labrador_round_4), judge_made, 1, 2, 3, 4, 5, 6, 7, 8, 11, 12, 13, 14, 15, 16)
 CALL(round_5, 40, draw_round_5, PROVER(labrador_round_5), judge_made, 1, 2, 3, 4, 5, 6, 7, 8, 11, 12, 13, 14, 15, 16)
+CALL(shed_projection, 40, draw_shed_projection,
+     of_answer(labrador_shed_projection(WORDS(JOB), run_first, run_end, WORDS(PROJECTION), WORDS(VECTORS), WORDS(SCRATCH), WORDS(OUTPUT))),
+     judge_shed_projection, 1, 2, 3, 4, 5, 6, 7, 8, 11, 12, 34)
+CALL(shed_rows, 40, draw_shed_rows, of_answer(labrador_shed_rows(WORDS(JOB), run_first, run_end, WORDS(VECTORS), WORDS(SCRATCH), WORDS(OUTPUT))),
+     judge_shed_rows, 1, 2, 3, 4, 5, 6, 11, 12, 13, 34)
+CALL(add_projections, 20, draw_two_p, of_answer(labrador_add_projections(WORDS(FIRST_P), WORDS(SECOND_P), WORDS(OUTPUT))), judge_sum, 2, 9, 10)
 CALL(verify, 120, draw_verify, of_verdict(labrador_verify(WORDS(JOB), WORDS(RANDOMNESS), WORDS(TRANSCRIPT), WORDS(SCRATCH))), judge_verdict,
      1, 3, 4, 5, 6, 7, 8, 9, 10, 14, 15, 16, 21, 22, 23, 24, 25, 26, 27, 28, 29)
 CALL(mistyped, 60, draw_mistyped,

@@ -4,8 +4,10 @@
 #include "fuzz.h"
 
 slice slices[SLICES];
-const char *const slice_names[SLICES] = {"job",    "randomness", "witness",    "transcript",   "lows",           "highs",
-                                         "digits", "scratch",    "the output", "the load's job", "the load's witness", "the load's randomness"};
+const char *const slice_names[SLICES] = {
+    "job",     "randomness",  "witness",      "transcript", "lows",       "highs",          "digits",             "projection",
+    "vectors", "the first p", "the second p", "scratch",    "the output", "the load's job", "the load's witness", "the load's randomness",
+};
 uint32_t operands[128];
 
 static uint32_t staged[INPUTS][MOST];

@@ -18,7 +18,7 @@ labrador_parameters parameters_in_hand(void) {
 /* The least L: 128 divided by log_q, rounded up. */
 static size_t least_equations(const labrador_parameters *p) { return p->log_q ? (127 + (size_t)p->log_q) / p->log_q : 0; }
 
-static size_t scratch_need(const labrador_parameters *p) {
+size_t scratch_need(const labrador_parameters *p) {
     size_t n = p->n, r = p->r, T = r * (r + 1) / 2;
     return 64 * (((size_t)p->L + 2) * (r * n + T) + r * p->kappa + n + 64);
 }
@@ -118,7 +118,7 @@ void draw_mistyped(void) {
 }
 
 /* The word at a place of a slice is above `most`. */
-static int above(int s, uint64_t place, uint32_t most) { return place < slices[s].length && slices[s].words[place] > most; }
+int above(int s, uint64_t place, uint32_t most) { return place < slices[s].length && slices[s].words[place] > most; }
 
 static int place_is_right(const labrador_parameters *p, const answer *a) {
     switch (a->number) {

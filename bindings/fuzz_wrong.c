@@ -1,5 +1,5 @@
-/* Wrong libraries, one for each number in WRONG, that the calls under guard pages must find out. Linked before labrador_prove and
-   labrador_verify by `-Wl,--wrap`. */
+/* Wrong libraries, one for each number in WRONG, that the calls under guard pages must find out. Linked before the calls that they wrap by
+   `-Wl,--wrap`. */
 #include <stdint.h>
 #include <stdlib.h>
 
@@ -45,4 +45,38 @@ labrador_verdict __wrap_labrador_verify(const uint32_t *job, size_t job_length, 
     if (wrong() == 15 && v.number == 9) v.place = transcript_length + 1;
     if (wrong() == 16 && v.number == 28) v.cells_left = 1;
     return v;
+}
+
+typedef labrador_answer run_projection(const uint32_t *, size_t, uint32_t, uint32_t, const uint32_t *, size_t, const uint32_t *, size_t, uint32_t *,
+                                       size_t, uint32_t *, size_t);
+typedef labrador_answer run_rows(const uint32_t *, size_t, uint32_t, uint32_t, const uint32_t *, size_t, uint32_t *, size_t, uint32_t *, size_t);
+typedef labrador_answer adding(const uint32_t *, size_t, const uint32_t *, size_t, uint32_t *, size_t);
+run_projection __real_labrador_shed_projection, __wrap_labrador_shed_projection;
+run_rows __real_labrador_shed_rows, __wrap_labrador_shed_rows;
+adding __real_labrador_add_projections, __wrap_labrador_add_projections;
+
+labrador_answer __wrap_labrador_shed_projection(const uint32_t *job, size_t job_length, uint32_t first, uint32_t end, const uint32_t *projection,
+                                                size_t projection_length, const uint32_t *vectors, size_t vectors_length, uint32_t *scratch,
+                                                size_t scratch_length, uint32_t *output, size_t output_length) {
+    labrador_answer a = __real_labrador_shed_projection(job, job_length, first, end, projection, projection_length, vectors, vectors_length, scratch,
+                                                        scratch_length, output, output_length);
+    if (wrong() == 17 && a.number == 34) a.place = end;
+    return a;
+}
+
+labrador_answer __wrap_labrador_shed_rows(const uint32_t *job, size_t job_length, uint32_t first, uint32_t end, const uint32_t *vectors,
+                                          size_t vectors_length, uint32_t *scratch, size_t scratch_length, uint32_t *output, size_t output_length) {
+    labrador_answer a =
+        __real_labrador_shed_rows(job, job_length, first, end, vectors, vectors_length, scratch, scratch_length, output, output_length);
+    if (wrong() == 18 && a.number == 13) output[0] = 64 * job[3] * (end - first);
+    if (wrong() == 19 && a.number == 13) a.place -= first;
+    return a;
+}
+
+labrador_answer __wrap_labrador_add_projections(const uint32_t *p, size_t p_length, const uint32_t *other, size_t other_length, uint32_t *output,
+                                                size_t output_length) {
+    labrador_answer a = __real_labrador_add_projections(p, p_length, other, other_length, output, output_length);
+    if (wrong() == 20 && a.number == 0 && p[256] > other[256]) output[256] = p[256] + other[256];
+    if (wrong() == 21 && a.number == 9 && p_length == 257) a.place += 257;
+    return a;
 }

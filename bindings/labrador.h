@@ -215,6 +215,25 @@ LABRADOR_PROVER(labrador_round_3);
 LABRADOR_PROVER(labrador_round_4);
 LABRADOR_PROVER(labrador_round_5);
 
+/* A run of witness vectors, from index first up to but not including end, counted from 0: what one shed's machine is handed and gives. Its projection
+   words, its vectors, its p and its rows of t are one section each, after its count: 16384 * n * (end - first), 64 * n * (end - first), 256 and
+   64 * kappa * (end - first) words. The p of runs that part 0 to r, added in any order, are the second round's output; their rows without the
+   counts, laid next to each other by rising index, are section t. Refused: the job's refusals; 34 a run whose end is at or below first or past r
+   (place: first); 7 and 8 of the projection words; 11 and 12 of the vectors; 1, 2. Scratch and output are those of the calls on whole slices. */
+
+/* The run's p. It never gives 13. */
+labrador_answer labrador_shed_projection(const uint32_t *job, size_t job_length, uint32_t first, uint32_t end, const uint32_t *projection,
+                                         size_t projection_length, const uint32_t *vectors, size_t vectors_length, uint32_t *scratch,
+                                         size_t scratch_length, uint32_t *output, size_t output_length);
+
+/* The run's rows of t, or 13 (place: the index over the whole job of the run's first vector whose norm is above A's bound); the count is zero then too. */
+labrador_answer labrador_shed_rows(const uint32_t *job, size_t job_length, uint32_t first, uint32_t end, const uint32_t *vectors,
+                                   size_t vectors_length, uint32_t *scratch, size_t scratch_length, uint32_t *output, size_t output_length);
+
+/* The sum of two p, each of 257 words with its count. Refused by 9 and 10 of the first, then of the second (the place is in that one), then by 2. */
+labrador_answer labrador_add_projections(const uint32_t *p, size_t p_length, const uint32_t *other, size_t other_length, uint32_t *output,
+                                         size_t output_length);
+
 /* The verdict on a transcript. */
 labrador_verdict labrador_verify(const uint32_t *job, size_t job_length, const uint32_t *randomness, size_t randomness_length,
                                  const uint32_t *transcript, size_t transcript_length, uint32_t *scratch,

@@ -934,6 +934,181 @@ static void test_recorded_mistyped(void) {
     }
 }
 
+/* Projection worked by shed: a load of four vectors, each run's words taken out of the whole call's. */
+enum { RUN = 4 * 16384 + 2 };
+static uint32_t run_projection[RUN], run_vectors[WITNESS], run_p[4][257 + 4], run_rows[OUTPUT], added[257 + 4];
+
+/* The run's projection words and vectors, each a section of its own. */
+static void cut_run(uint32_t n, uint32_t first, uint32_t end) {
+    run_projection[0] = 16384 * n * (end - first);
+    run_vectors[0] = 64 * n * (end - first);
+    memcpy(run_projection + 1, randomness + 1 + 16384 * n * first, run_projection[0] * sizeof(uint32_t));
+    memcpy(run_vectors + 1, witness + 1 + 64 * n * first, run_vectors[0] * sizeof(uint32_t));
+}
+
+static void mark(uint32_t *words, size_t length) {
+    for (size_t k = 0; k < length; k++) words[k] = MARK;
+}
+
+static labrador_answer projection_of(uint32_t first, uint32_t end, size_t scratch_length, uint32_t *into, size_t length) {
+    return labrador_shed_projection(job, job_length, first, end, run_projection, 1 + run_projection[0], run_vectors, 1 + run_vectors[0], scratch,
+                                    scratch_length, into, length);
+}
+
+static labrador_answer rows_of(uint32_t first, uint32_t end, size_t scratch_length, uint32_t *into, size_t length) {
+    return labrador_shed_rows(job, job_length, first, end, run_vectors, 1 + run_vectors[0], scratch, scratch_length, into, length);
+}
+
+static labrador_answer add_p(const uint32_t *p, size_t p_length, const uint32_t *other, size_t other_length, size_t length) {
+    return labrador_add_projections(p, p_length, other, other_length, added, length);
+}
+
+static int is_answer(labrador_answer a, uint32_t number, uint64_t place) { return a.number == number && a.place == place; }
+
+/* The runs' p, added from each of them on, upward or downward, as the first or the second of two. */
+static void test_sums(int runs, const uint32_t *p) {
+    for (int from = 0; from < runs; from++) {
+        memcpy(added, run_p[from], sizeof added);
+        for (int k = 1; k < runs; k++) {
+            uint32_t before[257 + 4];
+            memcpy(before, added, sizeof before);
+            const uint32_t *next_p = run_p[(from + (from % 2 ? k : runs - k)) % runs];
+            mark(added, 261);
+            CHECK(is_answer(k % 2 ? add_p(before, 257, next_p, 257, 257) : add_p(next_p, 257, before, 257, 261), 0, 0));
+            CHECK(added[257] == MARK && added[260] == MARK);
+        }
+        CHECK(same(added, p, 257));
+    }
+}
+
+/* One split of four vectors, whose inner ends are the bits of a number: the runs' p and rows with the whole call's p and t, which stand in the output. */
+static void test_split(uint32_t split, size_t scratch_need) {
+    const uint32_t *p = output + 65, *t = output + 65 + 257 + 257 + 65 + 65;
+    uint32_t first = 0;
+    int runs = 0;
+    size_t laid = 1;
+    run_rows[0] = t[0];
+    for (uint32_t end = 1; end <= 4; end++) {
+        if (end < 4 && (split >> end & 1) == 0) continue;
+        cut_run(1, first, end);
+        mark(scratch, SCRATCH);
+        mark(run_p[runs], 261);
+        CHECK(is_answer(projection_of(first, end, scratch_need + 1, run_p[runs], 261), 0, 0));
+        CHECK(run_p[runs][0] == 256 && run_p[runs][257] == MARK && all_zero(scratch, scratch_need) && scratch[scratch_need] == MARK);
+        size_t length = 1 + 256 * (size_t)(end - first);
+        uint32_t count_and_rows[1 + 1024 + 1];
+        mark(count_and_rows, 1026);
+        mark(scratch, scratch_need);
+        CHECK(is_answer(rows_of(first, end, scratch_need, count_and_rows, length), 0, 0));
+        CHECK(count_and_rows[0] == length - 1 && count_and_rows[length] == MARK && all_zero(scratch, scratch_need));
+        memcpy(run_rows + laid, count_and_rows + 1, (length - 1) * sizeof(uint32_t));
+        laid += length - 1;
+        first = end;
+        runs++;
+    }
+    CHECK(laid == 1025 && same(run_rows, t, 1025));
+    test_sums(runs, p);
+}
+
+/* Refusals in their order, of the run from 1 to 3. */
+static void test_run_refusals(size_t scratch_need) {
+    const uint32_t outside[6][2] = {{0, 0}, {2, 1}, {0, 5}, {4, 5}, {Q, 0}, {Q, Q}};
+    cut_run(1, 1, 3);
+    mark(scratch, SCRATCH);
+    mark(run_rows, OUTPUT);
+    for (int k = 0; k < 6; k++) {
+        CHECK(is_answer(projection_of(outside[k][0], outside[k][1], 0, run_rows, 0), 34, outside[k][0]));
+        CHECK(is_answer(rows_of(outside[k][0], outside[k][1], 0, run_rows, 0), 34, outside[k][0]));
+        labrador_answer b = labrador_shed_projection(job, job_length, outside[k][0], outside[k][1], run_projection, 0, run_vectors, 0, scratch, 0,
+                                                     run_rows, 0);
+        CHECK(is_answer(b, 34, outside[k][0]));
+    }
+    job[1] = 65;
+    CHECK(is_answer(projection_of(Q, 0, 0, run_rows, 0), 4, 1) && is_answer(rows_of(Q, 0, 0, run_rows, 0), 4, 1));
+    job[1] = 1;
+    CHECK(is_answer(projection_of(1, 2, 0, run_rows, 0), 7, 0) && is_answer(rows_of(1, 2, 0, run_rows, 0), 11, 0));
+    run_projection[2 * 16384] = Q;
+    run_vectors[128] = Q;
+    CHECK(is_answer(projection_of(1, 3, 0, run_rows, 0), 8, 2 * 16384));
+    run_projection[2 * 16384] = 0;
+    CHECK(is_answer(projection_of(1, 3, 0, run_rows, 0), 12, 128) && is_answer(rows_of(1, 3, 0, run_rows, 0), 12, 128));
+    run_vectors[128] = 0;
+    labrador_answer a = labrador_shed_rows(job, job_length, 1, 3, run_vectors, 128, scratch, 0, run_rows, 0);
+    CHECK(is_answer(a, 11, 128));
+    CHECK(is_answer(projection_of(1, 3, scratch_need - 1, run_rows, 0), 1, scratch_need));
+    CHECK(is_answer(rows_of(1, 3, scratch_need - 1, run_rows, 0), 1, scratch_need));
+    CHECK(is_answer(projection_of(1, 3, scratch_need, run_rows, 256), 2, 257) && is_answer(rows_of(1, 3, scratch_need, run_rows, 512), 2, 513));
+    CHECK(scratch[0] == MARK && scratch[scratch_need - 1] == MARK && run_rows[0] == MARK && run_rows[512] == MARK);
+    /* the run's second vector is the job's third; p is made all the same */
+    for (int k = 65; k <= 128; k++) run_vectors[k] = 2147483648u;
+    set_bound(64);
+    CHECK(is_answer(rows_of(1, 3, scratch_need, run_rows, 514), 13, 2) && all_zero(run_rows, 513) && run_rows[513] == MARK);
+    CHECK(all_zero(scratch, scratch_need) && scratch[scratch_need] == MARK);
+    CHECK(is_answer(projection_of(1, 3, scratch_need, run_rows, 257), 0, 0) && run_rows[0] == 256);
+}
+
+static void test_unfit_sums(void) {
+    uint32_t p[258] = {256, 1, Q - 1}, other[258] = {256, 2, 2};
+    mark(added, 261);
+    CHECK(is_answer(add_p(p, 256, other, 0, 0), 9, 256) && is_answer(add_p(p, 258, other, 0, 0), 9, 257));
+    CHECK(is_answer(add_p(p, 257, other, 0, 0), 9, 0) && is_answer(add_p(p, 257, other, 1, 0), 9, 1));
+    p[3] = Q;
+    CHECK(is_answer(add_p(p, 257, other, 0, 0), 10, 3));
+    p[3] = 0;
+    other[256] = Q;
+    CHECK(is_answer(add_p(p, 257, other, 257, 0), 10, 256));
+    other[256] = 0;
+    CHECK(is_answer(add_p(p, 257, other, 257, 256), 2, 257) && added[0] == MARK && added[256] == MARK);
+    CHECK(is_answer(add_p(p, 257, other, 257, 257), 0, 0));
+    CHECK(added[0] == 256 && added[1] == 3 && added[2] == 1 && all_zero(added + 3, 254) && added[257] == MARK);
+}
+
+static void test_sheds(void) {
+    make_load((labrador_parameters){1, 4, 4, 1, 1, 1, 1, 32, 256, 4, 4, 4});
+    size_t scratch_need = labrador_scratch_need(job, job_length).words;
+    labrador_answer a = labrador_prove(job, job_length, randomness, randomness_length, witness, witness_length, scratch, scratch_need, output, OUTPUT);
+    CHECK(a.number == 0);
+    for (uint32_t split = 0; split < 16; split += 2) test_split(split, scratch_need);
+    test_run_refusals(scratch_need);
+    test_unfit_sums();
+}
+
+/* Runs as document 02's model answers (`harness shed-sums` of oracle/ prints these rows): n, r, kappa and seed of a load, first and end; the rows' number and
+   place, and the words of p and of the rows in one number each. */
+static const struct {
+    uint32_t n, r, kappa, seed, first, end, number;
+    uint64_t place, p, rows;
+} recorded_sheds[12] = {
+    {1, 4, 1, 0, 0, 1, 0, 0, 0xa05253fd10b24982u, 0x832d86600a4225c9u},
+    {2, 3, 2, 1, 1, 2, 0, 0, 0x4d734d27da0b6f2eu, 0xd2fae2a3d83dbed1u},
+    {1, 4, 3, 2, 2, 3, 0, 0, 0x42c81bb4e104eff4u, 0x5bf092af4ae56c56u},
+    {2, 3, 4, 3, 0, 2, 0, 0, 0x3c3c1278c55da8f6u, 0x3c176fd00dfd9b14u},
+    {1, 4, 5, 4, 0, 2, 0, 0, 0xa2792ef4b2dcd6dfu, 0x97a54366558d8788u},
+    {2, 3, 6, 5, 2, 3, 0, 0, 0x3f396cdf10f2e397u, 0x39f5596cc9a7b9e2u},
+    {1, 4, 7, 6, 2, 3, 0, 0, 0xd330bca37045b310u, 0x9e1a304ac4faa600u},
+    {2, 3, 8, 7, 1, 2, 0, 0, 0x7e8d1fc3dfcf4ce8u, 0x266fe0255b24d879u},
+    {1, 4, 1, 8, 0, 3, 13, 1, 0x652ef5396a01d0f0u, 0x4776f9dd4df814dfu},
+    {2, 3, 2, 9, 0, 1, 13, 0, 0x794d0e24b82a1787u, 0x0227ee4e5846f5dfu},
+    {1, 4, 3, 10, 2, 4, 13, 2, 0x875086356bf931e5u, 0x82b6f486d54571dfu},
+    {2, 3, 4, 11, 2, 3, 13, 2, 0xdb65e9003602751du, 0x86062d4c200833dfu},
+};
+
+static void test_recorded_sheds(void) {
+    for (int k = 0; k < 12; k++) {
+        const uint32_t n = recorded_sheds[k].n, r = recorded_sheds[k].r, kappa = recorded_sheds[k].kappa;
+        const uint32_t first = recorded_sheds[k].first, end = recorded_sheds[k].end;
+        const labrador_parameters sizes = {n, r, kappa, 1, 1, 1, 1, 32, 256, 4, 4, 4};
+        job_length = labrador_load_needs(sizes).job;
+        CHECK(labrador_load(sizes, recorded_sheds[k].seed, job, JOB, witness, WITNESS, randomness, RANDOMNESS).number == 0);
+        if (k >= 8) set_bound(42 * n);
+        size_t scratch_need = labrador_scratch_need(job, job_length).words, rows = 1 + 64 * (size_t)kappa * (end - first);
+        cut_run(n, first, end);
+        CHECK(is_answer(projection_of(first, end, scratch_need, run_p[0], 257), 0, 0) && sum_of(run_p[0], 257) == recorded_sheds[k].p);
+        CHECK(is_answer(rows_of(first, end, scratch_need, run_rows, rows), recorded_sheds[k].number, recorded_sheds[k].place));
+        CHECK(sum_of(run_rows, rows) == recorded_sheds[k].rows);
+    }
+}
+
 int main(void) {
     test_numbers();
     test_digits();
@@ -954,6 +1129,8 @@ int main(void) {
     test_recorded_ranges();
     test_mistyped();
     test_recorded_mistyped();
+    test_sheds();
+    test_recorded_sheds();
     if (failures > 0) {
         printf("%d of %d checks failed\n", failures, checks);
         return EXIT_FAILURE;

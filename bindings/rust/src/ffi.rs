@@ -199,6 +199,40 @@ extern "C" {
         scratch: *mut u32,
         scratch_length: usize,
     ) -> Verdict;
+    fn labrador_shed_projection(
+        job: *const u32,
+        job_length: usize,
+        first: u32,
+        end: u32,
+        projection: *const u32,
+        projection_length: usize,
+        vectors: *const u32,
+        vectors_length: usize,
+        scratch: *mut u32,
+        scratch_length: usize,
+        output: *mut u32,
+        output_length: usize,
+    ) -> Answer;
+    fn labrador_shed_rows(
+        job: *const u32,
+        job_length: usize,
+        first: u32,
+        end: u32,
+        vectors: *const u32,
+        vectors_length: usize,
+        scratch: *mut u32,
+        scratch_length: usize,
+        output: *mut u32,
+        output_length: usize,
+    ) -> Answer;
+    fn labrador_add_projections(
+        p: *const u32,
+        p_length: usize,
+        other: *const u32,
+        other_length: usize,
+        output: *mut u32,
+        output_length: usize,
+    ) -> Answer;
     fn labrador_mistyped(
         job: *const u32,
         job_length: usize,
@@ -327,6 +361,57 @@ pub fn mistyped(
             list.as_mut_ptr(),
             list.len(),
         )
+    }
+}
+
+/// The run from `first` up to `end`: its p, or its rows of t where no projection words are handed in.
+pub fn shed(
+    job: &[u32],
+    [first, end]: [u32; 2],
+    projection: Option<&[u32]>,
+    vectors: &[u32],
+    scratch: &mut [u32],
+    output: &mut [u32],
+) -> Answer {
+    // SAFETY: the pointers are those of slices, so none is null and that many words of each can be read, and what is only
+    // read may overlap; scratch and output are lent alone, so they can be written and overlap with nothing.
+    unsafe {
+        match projection {
+            Some(projection) => labrador_shed_projection(
+                job.as_ptr(),
+                job.len(),
+                first,
+                end,
+                projection.as_ptr(),
+                projection.len(),
+                vectors.as_ptr(),
+                vectors.len(),
+                scratch.as_mut_ptr(),
+                scratch.len(),
+                output.as_mut_ptr(),
+                output.len(),
+            ),
+            None => labrador_shed_rows(
+                job.as_ptr(),
+                job.len(),
+                first,
+                end,
+                vectors.as_ptr(),
+                vectors.len(),
+                scratch.as_mut_ptr(),
+                scratch.len(),
+                output.as_mut_ptr(),
+                output.len(),
+            ),
+        }
+    }
+}
+
+pub fn add_projections(p: &[u32], other: &[u32], output: &mut [u32]) -> Answer {
+    // SAFETY: the pointers are those of slices, so none is null and that many words of each can be read, and what is only
+    // read may overlap; the output is lent alone, so it can be written and overlaps with nothing.
+    unsafe {
+        labrador_add_projections(p.as_ptr(), p.len(), other.as_ptr(), other.len(), output.as_mut_ptr(), output.len())
     }
 }
 

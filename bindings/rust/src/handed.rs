@@ -5,6 +5,7 @@ use crate::place::{expected, Place};
 use crate::refusal::Refusal;
 use crate::section_one::SectionOne;
 use crate::sections::{words_of, Slice};
+use crate::sheds::Run;
 
 /// The slices and the lent lengths of a call; what it does not take is empty.
 #[derive(Clone, Copy, Default)]
@@ -14,6 +15,8 @@ pub(crate) struct Handed<'a> {
     /// The sections of the randomness that the call takes.
     pub randomness_sections: usize,
     pub witness: &'a [u32],
+    /// Of a call on a run: its projection words stand in the randomness's place, its vectors in the witness's.
+    pub run: Option<Run>,
     pub transcript: &'a [u32],
     pub scratch: usize,
     pub output: usize,
@@ -42,7 +45,8 @@ impl Handed<'_> {
             14 => Refusal::DigitsOfT,
             15 => Refusal::DigitsOfG,
             16 => Refusal::DigitsOfH,
-            _ => unreachable!("the calls on whole slices refuse with 1 to 16"),
+            34 => self.outside_run(),
+            _ => unreachable!("the calls on whole slices refuse with 1 to 16, and those on a run with 34"),
         }
     }
 
@@ -57,14 +61,27 @@ impl Handed<'_> {
             Slice::Witness => (self.witness, usize::MAX),
             Slice::Transcript => (self.transcript, usize::MAX),
         };
-        Place::of(slice, words, index, &expected(slice, self.job, sections))
+        let whole = expected(slice, self.job, sections);
+        let sections = match self.run {
+            Some(run) if slice != Slice::Job => run.sections(whole),
+            _ => whole,
+        };
+        Place::of(slice, words, index, &sections)
+    }
+
+    fn outside_run(&self) -> Refusal {
+        let run = self.run.expect("34 is of a call on a run");
+        Refusal::OutsideRun { run, vectors: self.section_one().parameters.r }
     }
 
     fn witness_norm(&self, vector: u64) -> Refusal {
         let one = self.section_one();
-        let words = words_of(Slice::Witness, &one.parameters, "witness", self.witness);
         let length = 64 * one.parameters.n as usize;
-        let begin = vector as usize * length;
+        let (words, first) = match self.run {
+            Some(run) => (&self.witness[1..], run.first),
+            None => (words_of(Slice::Witness, &one.parameters, "witness", self.witness), 0),
+        };
+        let begin = (vector as usize - first as usize) * length;
         let norm = norms::norm_of(&words[begin..begin + length]).unwrap_or_default();
         Refusal::WitnessNorm { vector, norm, bound: one.bound("bound_A") }
     }

@@ -39,6 +39,7 @@ pub mod review;
 mod rounds;
 pub mod section_one;
 pub mod sections;
+mod sheds;
 mod verdict;
 mod verifier;
 
@@ -54,5 +55,9 @@ pub use refusal::Refusal;
 pub use rounds::{round, round_into, Round};
 pub use section_one::Parameters;
 pub use sections::Slice;
+pub use sheds::{
+    add_projections, add_projections_into, shed_projection, shed_projection_into, shed_rows, shed_rows_into, Run,
+    RunParts, PROJECTION_NEED,
+};
 pub use verdict::{FailedCheck, Verdict};
 pub use verifier::{verify, verify_with};

@@ -49,6 +49,7 @@ pub(crate) fn call_prover(
         randomness,
         randomness_sections,
         witness,
+        run: None,
         transcript: &[],
         scratch: scratch.len(),
         output: output.len(),

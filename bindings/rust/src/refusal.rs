@@ -6,6 +6,7 @@ use std::fmt;
 use crate::meaning::{meaning, Meaning};
 use crate::place::Place;
 use crate::section_one::Parameters;
+use crate::sheds::Run;
 
 /// A refusal of a call, one case for each number of document 01's and document 02's lists.
 #[derive(Clone, Debug, PartialEq, Eq)]
@@ -50,6 +51,10 @@ pub enum Refusal {
     NotCheck22,
     /// 33: no constant alone mends check 22.
     NothingMends,
+    /// 34: a run that is empty or goes past the job's vectors.
+    OutsideRun { run: Run, vectors: u32 },
+    /// 9 or 10 of the call that adds two p: which of them, its length, and the word at the place.
+    Projection { number: u32, which: &'static str, place: u64, length: u64, found: Option<u32> },
     /// 36: the first pair whose low is above its high.
     Crossed { pair: u64, low: i64, high: i64 },
     /// 37: the first pair with a number beyond ±2147483647.
@@ -78,19 +83,23 @@ impl Refusal {
             Refusal::Operand { number, .. } => *number,
             Refusal::NotCheck22 => 32,
             Refusal::NothingMends => 33,
+            Refusal::OutsideRun { .. } => 34,
+            Refusal::Projection { number, .. } => *number,
             Refusal::Crossed { .. } => 36,
             Refusal::Beyond { .. } => 37,
         }
     }
 
-    /// The place as the call gives it: a word's index, a length needed, a vector's or a pair's index, or 0.
+    /// The place as the call gives it: a word's index, a length needed, a vector's, a run's or a pair's index, or 0.
     pub fn place(&self) -> u64 {
         match self {
             Refusal::Scratch { needed, .. } | Refusal::Output { needed, .. } => *needed,
             Refusal::WitnessNorm { vector, .. } => *vector,
             Refusal::DigitsOfT | Refusal::DigitsOfG | Refusal::DigitsOfH => 0,
             Refusal::NotCheck22 | Refusal::NothingMends => 0,
+            Refusal::OutsideRun { run, .. } => run.first.into(),
             Refusal::Operand { place, .. } | Refusal::RangesLength { place, .. } => *place,
+            Refusal::Projection { place, .. } => *place,
             Refusal::Crossed { pair, .. } | Refusal::Beyond { pair, .. } => *pair,
             _ => self.word().map_or(0, |place| place.index),
         }
@@ -142,6 +151,10 @@ impl Refusal {
             Refusal::RangesLength { list, found, expected, .. } => {
                 format!("there are {found} {list}, and 64·r·n is {expected}")
             }
+            Refusal::OutsideRun { run: Run { first, end }, vectors } => {
+                format!("the run goes from {first} up to {end}, and the job's vectors from 0 up to {vectors}")
+            }
+            Refusal::Projection { which, place, length, found, .. } => projection_fault(which, *place, *length, *found),
             Refusal::Crossed { pair, low, high } => format!("pair {pair} goes from {low} to {high}, which is below"),
             Refusal::Beyond { pair, low, high } => {
                 format!("pair {pair} goes from {low} to {high}, beyond ±2147483647")
@@ -187,6 +200,18 @@ fn operand_fault(number: u32, place: u64, found: u32) -> String {
         (31, _) => format!("the number of digits is {found}, not from 1 to 32"),
         (8, _) => format!("sign word {place} is {found}, neither 0 nor 1"),
         _ => format!("word {place} of the operands is {found}, not below Q"),
+    }
+}
+
+/// What is wrong with one of two p.
+fn projection_fault(which: &str, place: u64, length: u64, found: Option<u32>) -> String {
+    match found {
+        _ if place == 257 => format!("the {which} p goes on at word 257, behind its 256 entries"),
+        Some(word) if place > 0 => {
+            format!("word {place} of the {which} p is {word}, not below Q (entry {})", place - 1)
+        }
+        Some(word) => format!("word 0 of the {which} p is {word}, and its count is 256"),
+        None => format!("the {which} p ends after {length} words, and has 257 with its count"),
     }
 }
 

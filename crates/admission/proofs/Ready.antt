@@ -40,7 +40,7 @@ module _ (J : List ℕ) (e : job-refusal J ≡ fine) where
       sound J (then-fine-left (section-one J) (layout 3 J 31 ss) (then-fine-left (section-one J then layout 3 J 31 ss) (ranged 6 J 31 ss) e))
 
   -- and its sections
-  job-laid : Laid J 31 (job-sections (parameters J))
+  pub job-laid : Laid J 31 (job-sections (parameters J))
   unfolding job-refusal
   job-laid =
       let ss = job-sections (parameters J) in

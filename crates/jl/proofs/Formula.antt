@@ -58,15 +58,20 @@ module _ (J R W : List ℕ) where
       ∙ sym (mul-mod-second Q (entry (getD R (pi + ((i * 256 + j) * (64 * P .n) + m)) 0)) (getD W (s + i * (64 * P .n) + m) 0))
       ∙ ap (λ x. (entry (getD R (pi + ((i * 256 + j) * (64 * P .n) + m)) 0) * x) % Q) (sym (witness-coefficient i m)))
 
-  -- the run of all vectors at row j
-  pub p-row : (j : ℕ) → run-row R (start (randomness-sections (parameters J)) 0) W (start (witness-sections (parameters J)) 0) (parameters J .n) 0 (parameters J .r) j ≡ p (public J R) (witness (parameters J) W) j
-  unfolding P pi s run-row p
-  p-row j =
-      ap (λ k. Σ k (λ i. vector-row R pi W s (P .n) (0 + i) j) % Q) (sub-zero (P .r))
-      ∙ Σ-mod-ext (P .r) Q
+  -- the run of the first vectors, so many, at row j
+  pub run-of-first : (count j : ℕ) → run-row R (start (randomness-sections (parameters J)) 0) W (start (witness-sections (parameters J)) 0) (parameters J .n) 0 count j ≡ Σ count (λ i. projection (public J R) (witness (parameters J) W) i j) % Q
+  unfolding P pi s run-row
+  run-of-first count j =
+      ap (λ k. Σ k (λ i. vector-row R pi W s (P .n) (0 + i) j) % Q) (sub-zero count)
+      ∙ Σ-mod-ext count Q
       (λ i. vector-row R pi W s (P .n) (0 + i) j)
       (λ i. projection (public J R) (witness P W) i j)
       (λ i h. ap (λ k. vector-row R pi W s (P .n) k j % Q) (zero-add i) ∙ vector-is i j)
+
+  -- the run of all vectors at row j
+  pub p-row : (j : ℕ) → run-row R (start (randomness-sections (parameters J)) 0) W (start (witness-sections (parameters J)) 0) (parameters J .n) 0 (parameters J .r) j ≡ p (public J R) (witness (parameters J) W) j
+  unfolding p
+  p-row j = run-of-first (parameters J .r) j
 
   -- the run of all vectors is p
   pub run-is-p : run R (start (randomness-sections (parameters J)) 0) W (start (witness-sections (parameters J)) 0) (parameters J .n) 0 (parameters J .r) ≡ table 256 (p (public J R) (witness (parameters J) W))

@@ -8,3 +8,4 @@ pub mod needs;
 pub mod numbers;
 pub mod ranges_call;
 pub mod recomposed;
+pub mod run_calls;

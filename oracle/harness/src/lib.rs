@@ -11,6 +11,7 @@ pub mod recompose;
 pub mod record;
 pub mod replay;
 pub mod rust;
+pub mod sheds;
 pub mod slices;
 pub mod tally;
 pub mod unfit;

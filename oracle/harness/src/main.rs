@@ -1,8 +1,9 @@
 //! Runs the published Rust, the model of document 01 and the proved library on the same cases.
 //!
 //! `harness compare SEED COUNT [largest]` compares, on COUNT random instances beside the fixed families.
-//! `harness load-sums`, `harness range-sums` and `harness mistyped-sums` print the rows of whole test loads, of calls on ranges and of lists of
-//! mistyped constants that `bindings/test.c` has.
+//! `harness only STAGE SEED COUNT` compares one stage of the calls that the Rust does not have: recompose, ranges, mistyped or sheds.
+//! `harness load-sums`, `range-sums`, `mistyped-sums` and `shed-sums` print the rows of whole test loads, of calls on ranges, of lists of
+//! mistyped constants and of runs of witness vectors that `bindings/test.c` has.
 //! `harness record FOLDER` writes the recorded answers. `harness replay FOLDER` reads them back and compares them with
 //! the model, and with the library where it is linked.
 //! Each prints a tally, and fails where anything differs, an answer never occurs or a comparison is never made.
@@ -11,7 +12,8 @@ use harness::cases::Context;
 use harness::instances::{apart, one_kind, small, Instance};
 use harness::random::Random;
 use harness::record::Recorder;
-use harness::{loads, mistyped, ranges, recompose, replay, rust, slices, unfit, whole};
+use harness::tally::Tally;
+use harness::{loads, mistyped, ranges, recompose, replay, rust, sheds, slices, unfit, whole};
 use model::Call;
 use std::path::Path;
 use std::process::ExitCode;
@@ -23,6 +25,7 @@ fn main() -> ExitCode {
     let good = match words[..] {
         ["compare", seed, count] => compare(number(seed), number(count), false),
         ["compare", seed, count, "largest"] => compare(number(seed), number(count), true),
+        ["only", stage, seed, count] => only(stage, number(seed), number(count) as usize),
         ["load-sums"] => {
             loads::print_sums();
             true
@@ -35,9 +38,13 @@ fn main() -> ExitCode {
             mistyped::print_sums();
             true
         }
+        ["shed-sums"] => {
+            sheds::print_sums();
+            true
+        }
         ["record", folder] => record(Path::new(folder)),
         ["replay", folder] => replay::replay(Path::new(folder)),
-        _ => panic!("usage: harness compare SEED COUNT [largest] | load-sums | range-sums | mistyped-sums | record FOLDER | replay FOLDER"),
+        _ => panic!("usage: harness compare SEED COUNT [largest] | only STAGE SEED COUNT | load-sums | range-sums | mistyped-sums | shed-sums | record FOLDER | replay FOLDER"),
     };
     if good {
         ExitCode::SUCCESS
@@ -76,6 +83,8 @@ fn compare(seed: u64, count: u64, largest: bool) -> bool {
     context.tally.stage("ranges");
     mistyped::all(&mut context.tally, &mut Random::new(seed), 56.max(count as usize / 2));
     context.tally.stage("mistyped constants");
+    sheds::all(&mut context.tally, &mut Random::new(seed), 12.max(count as usize / 4));
+    context.tally.stage("projection worked by shed");
     loads::all(&mut context, &mut Random::new(seed), 300.max(count as usize));
     context.tally.stage("test loads");
     let base = whole::base(&mut random, whole::pair_parameters());
@@ -117,6 +126,21 @@ fn compare(seed: u64, count: u64, largest: bool) -> bool {
         context.tally.stage("the largest job");
     }
     context.tally.report()
+}
+
+/// One stage alone.
+fn only(stage: &str, seed: u64, count: usize) -> bool {
+    let mut tally = Tally::default();
+    let random = &mut Random::new(seed);
+    match stage {
+        "recompose" => recompose::all(&mut tally, random, count),
+        "ranges" => ranges::all(&mut tally, random, count),
+        "mistyped" => mistyped::all(&mut tally, random, count),
+        "sheds" => sheds::all(&mut tally, random, count),
+        _ => panic!("no stage {stage}"),
+    }
+    tally.stage(stage);
+    tally.report()
 }
 
 fn record(folder: &Path) -> bool {

@@ -7,6 +7,7 @@ pub mod load;
 pub mod mistyped;
 pub mod ranges;
 pub mod recompose;
+pub mod sheds;
 pub mod slices;
 
 /// The exported functions as C has them.

@@ -9,7 +9,7 @@ use crate::Answer;
 /// The first of the four conditions that fails, as 21, 22, 23 or 27 with its figures; else an acceptance with its number.
 pub fn first_breach(job: &Job, x: &Randomness, s: &[Vec<Element>]) -> Answer {
     let p = &job.parameters;
-    let of_projection = projection(x, s);
+    let of_projection = projection(&x.projection, s);
     let size = norm(&of_projection);
     if size > projection_limit(p) {
         return Answer::over(21, size, projection_limit(p));

@@ -65,12 +65,12 @@ pub fn garbage_g(s: &[Vec<Element>]) -> Vec<Element> {
     triangle(s.len(), |i, j| dot(&s[i], &s[j]))
 }
 
-/// p = Σ Π_i·s_i over coefficients.
-pub fn projection(x: &Randomness, s: &[Vec<Element>]) -> Vec<u32> {
+/// p = Σ Π_i·s_i over coefficients, of all vectors or of a run of them.
+pub fn projection(pi: &Projection, s: &[Vec<Element>]) -> Vec<u32> {
     (0..ROWS)
         .map(|j| {
             let mut sum: i128 = 0;
-            for (rows, s) in x.projection.iter().zip(s) {
+            for (rows, s) in pi.iter().zip(s) {
                 for (entry, word) in rows[j].iter().zip(s.iter().flatten()) {
                     sum += i128::from(*entry) * i128::from(*word);
                 }
@@ -193,7 +193,7 @@ pub fn transcript(job: &Job, x: &Randomness, s: &[Vec<Element>]) -> (Transcript,
     };
     let made = Transcript {
         u1: outer_u1(job, &t, &g),
-        p: projection(x, s),
+        p: projection(&x.projection, s),
         b2: rows.iter().map(|row| left_side(row, s, &g)).collect(),
         u2: outer_u2(job, &h),
         z: amortized(x, p.n, s),

@@ -11,6 +11,7 @@ pub mod mistyped;
 pub mod ranges;
 pub mod recompose;
 pub mod refusals;
+pub mod sheds;
 pub mod words;
 
 /// An answer in document 01's numbers: 0, or a refusal with its place, or a failed check with its values. An accepted

@@ -7,7 +7,7 @@ use crate::{Answer, Call};
 
 /// Walks sections against their counts: the place of the wrong count or the first surplus word, or the length where
 /// the slice ends early.
-fn layout(number: u32, words: &[u32], counts: &[usize]) -> Result<(), Answer> {
+pub(crate) fn layout(number: u32, words: &[u32], counts: &[usize]) -> Result<(), Answer> {
     let mut at = 0;
     for &count in counts {
         if at >= words.len() {
@@ -25,7 +25,7 @@ fn layout(number: u32, words: &[u32], counts: &[usize]) -> Result<(), Answer> {
     }
 }
 
-fn fine(answer: Answer) -> Result<(), Answer> {
+pub(crate) fn fine(answer: Answer) -> Result<(), Answer> {
     if answer.is_fine() {
         Ok(())
     } else {

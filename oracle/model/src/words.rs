@@ -246,10 +246,21 @@ impl Job {
     }
 }
 
+/// For each vector the rows of Π_i, each of n elements with coefficients −1, 0 and 1.
+pub type Projection = Vec<Vec<Vec<i64>>>;
+
+/// Reads projection words, "for each vector 256 rows of 64·n".
+pub fn read_projection(p: &Parameters, words: &[u32]) -> Projection {
+    let entries: Vec<i64> = words.iter().map(|&w| crate::leaves::entry(w)).collect();
+    parts(&entries, ROWS * DEGREE * p.n)
+        .iter()
+        .map(|rows| parts(rows, DEGREE * p.n))
+        .collect()
+}
+
 /// What the randomness says.
 pub struct Randomness {
-    /// For each vector the rows of Π_i, each of n elements with coefficients −1, 0 and 1.
-    pub projection: Vec<Vec<Vec<i64>>>,
+    pub projection: Projection,
     pub psi: Vec<Vec<u32>>,
     pub omega: Vec<Vec<u32>>,
     pub alpha: Vec<Element>,
@@ -261,12 +272,8 @@ impl Randomness {
     /// Reads randomness whose layout is right and has all seven sections.
     pub fn read(p: &Parameters, words: &[u32]) -> Self {
         let s = split(words);
-        let entries: Vec<i64> = s[0].iter().map(|&w| crate::leaves::entry(w)).collect();
         Randomness {
-            projection: parts(&entries, ROWS * DEGREE * p.n)
-                .iter()
-                .map(|rows| parts(rows, DEGREE * p.n))
-                .collect(),
+            projection: read_projection(p, &s[0]),
             psi: (0..p.aggregations)
                 .map(|k| s[1][k * p.constant..(k + 1) * p.constant].to_vec())
                 .collect(),

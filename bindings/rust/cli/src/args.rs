@@ -22,6 +22,12 @@ fn split(argument: &OsStr) -> (String, Option<OsString>) {
     }
 }
 
+/// A word's number.
+pub fn number(text: &OsStr, what: &str) -> Result<u32, End> {
+    let shown = text.to_string_lossy();
+    shown.parse().map_err(|_| usage(format!("{what} is a number from 0 to 4294967295, not {shown}")))
+}
+
 impl Args {
     pub fn parse(command: &Command, arguments: &[OsString]) -> Result<Args, End> {
         let mut args = Args { values: Vec::new(), flags: Vec::new(), rest: Vec::new() };
@@ -82,6 +88,14 @@ impl Args {
             Some(path) => Ok(path.to_path_buf()),
             None => Err(usage(format!("{} needs {name} FILE; {}", command.name, command.hint()))),
         }
+    }
+
+    /// The number that an option must give.
+    pub fn number(&self, command: &Command, name: &str) -> Result<u32, End> {
+        let Some(given) = self.value(name) else {
+            return Err(usage(format!("{} needs {name} NUMBER; {}", command.name, command.hint())));
+        };
+        number(given, name)
     }
 
     /// No arguments but options.

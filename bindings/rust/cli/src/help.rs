@@ -101,6 +101,55 @@ pub const VERIFY: Command = Command {
     example: "labrador verify --job a.job --randomness a.randomness --transcript a.transcript --report a.html",
 };
 
+const FIRST: Opt = opt("--first", "NUMBER", "the run's first vector, counted from 0");
+const END: Opt = opt("--end", "NUMBER", "the vector after the run's last");
+const PROJECTION: Opt = opt("--projection", "FILE", "the run's projection words");
+const VECTORS: Opt = opt("--vectors", "FILE", "the run's witness vectors; they are secret");
+
+pub const SHED_PARTS: Command = Command {
+    name: "shed-parts",
+    usage: "labrador shed-parts --job FILE --randomness FILE --witness FILE --first N --end N --projection FILE --vectors FILE",
+    about: "Takes a run of witness vectors and its projection words out of a whole witness and a whole randomness: what one shed's \
+            machine is handed.",
+    options: &[JOB, RANDOMNESS, WITNESS, FIRST, END, PROJECTION, VECTORS, FORCE, JSON, HELP],
+    example: "labrador shed-parts --job a.job --randomness a.randomness --witness a.witness --first 0 --end 2 --projection shed1/projection \
+              --vectors shed1/vectors",
+};
+
+pub const SHED_PROJECTION: Command = Command {
+    name: "shed-projection",
+    usage: "labrador shed-projection --job FILE --first N --end N --projection FILE --vectors FILE --p FILE",
+    about: "Makes the p of a run of witness vectors. The p of all runs, added in any order, are round 2's output.",
+    options: &[
+        JOB,
+        FIRST,
+        END,
+        PROJECTION,
+        VECTORS,
+        opt("--p", "FILE", "the run's p, for its owner alone: only the sum is sent"),
+        FORCE,
+        JSON,
+        HELP,
+    ],
+    example: "labrador shed-projection --job a.job --first 0 --end 2 --projection shed1/projection --vectors shed1/vectors --p shed1/p",
+};
+
+pub const SHED_ROWS: Command = Command {
+    name: "shed-rows",
+    usage: "labrador shed-rows --job FILE --first N --end N --vectors FILE --rows FILE",
+    about: "Makes the rows of t of a run of witness vectors. The rows of all runs, without their counts, by rising index, are section t.",
+    options: &[JOB, FIRST, END, VECTORS, opt("--rows", "FILE", "the run's rows of t"), FORCE, JSON, HELP],
+    example: "labrador shed-rows --job a.job --first 0 --end 2 --vectors shed1/vectors --rows shed1/rows",
+};
+
+pub const ADD_PROJECTIONS: Command = Command {
+    name: "add-projections",
+    usage: "labrador add-projections --p FILE P P…",
+    about: "Adds the p of two or more runs, in the order in which they are given; every order gives the same sum.",
+    options: &[opt("--p", "FILE", "the sum"), FORCE, JSON, HELP],
+    example: "labrador add-projections --p a.p shed1/p shed2/p",
+};
+
 pub const EXPLAIN: Command = Command {
     name: "explain",
     usage: "labrador explain [NUMBER]",
@@ -110,7 +159,8 @@ pub const EXPLAIN: Command = Command {
     example: "labrador explain 22",
 };
 
-pub const COMMANDS: [&Command; 6] = [&LOAD, &DESCRIBE, &REVIEW, &PROVE, &VERIFY, &EXPLAIN];
+pub const COMMANDS: [&Command; 10] =
+    [&LOAD, &DESCRIBE, &REVIEW, &PROVE, &VERIFY, &SHED_PARTS, &SHED_PROJECTION, &SHED_ROWS, &ADD_PROJECTIONS, &EXPLAIN];
 
 impl Command {
     pub fn hint(&self) -> String {

@@ -12,3 +12,4 @@ mod lent;
 mod mistyped;
 mod norms;
 mod review;
+mod sheds;

@@ -6,7 +6,7 @@ use std::path::Path;
 use labrador::section_one::PARAMETERS;
 use labrador::{load, Parameters};
 
-use crate::args::Args;
+use crate::args::{number, Args};
 use crate::end::{unfit, usage, End, Outcome, Status};
 use crate::files::bytes_of;
 use crate::help::Command;
@@ -21,11 +21,6 @@ pub fn parameters_help() -> String {
         out += &format!("  {given:<20} {} ({} to {})\n", parameter.meaning, limits.0, limits.1);
     }
     out + "  Where L is not given, it is 128 divided by log_q, rounded up.\n"
-}
-
-fn number(text: &OsStr, what: &str) -> Result<u32, End> {
-    let shown = text.to_string_lossy();
-    shown.parse().map_err(|_| usage(format!("{what} is a number from 0 to 4294967295, not {shown}")))
 }
 
 /// The parameters of `NAME=VALUE` arguments; an L that is not given is the least for log_q.

@@ -11,12 +11,24 @@ pub mod explain;
 pub mod load;
 pub mod prove;
 pub mod review;
+pub mod sheds;
 pub mod verify;
 
 type Run = fn(&Command, &Args) -> Outcome;
 
 fn found(name: &str) -> Option<(&'static Command, Run)> {
-    let runs: [Run; 6] = [load::run, describe::run, review::run, prove::run, verify::run, explain::run];
+    let runs: [Run; 10] = [
+        load::run,
+        describe::run,
+        review::run,
+        prove::run,
+        verify::run,
+        sheds::parts,
+        sheds::projection,
+        sheds::rows,
+        sheds::add,
+        explain::run,
+    ];
     help::COMMANDS.into_iter().zip(runs).find(|(command, _)| command.name == name)
 }
 

@@ -10,5 +10,6 @@ mod pages;
 mod readme;
 mod render;
 mod run;
+mod sheds;
 mod statuses;
 mod terminal;

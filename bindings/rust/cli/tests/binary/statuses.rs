@@ -145,6 +145,16 @@ fn wrong_calls_are_64() {
         "load n --job a --witness b --randomness c",
         "load --seed 4294967296 --job a --witness b --randomness c",
         "load --job a --witness b --randomness a",
+        "shed-rows --job a --first 0 --vectors b --rows c",
+        "shed-rows --job a --first 0 --end x --vectors b --rows c",
+        "shed-rows --job a --first -1 --end 2 --vectors b --rows c",
+        "shed-projection --job a --first 0 --end 1 --vectors b --p c",
+        "shed-projection --job a --first 0 --end 1 --projection b --vectors c --p b",
+        "shed-parts --job a --first 0 --end 1 --randomness b --witness c --projection d --vectors d",
+        "add-projections --p a",
+        "add-projections --p a b",
+        "add-projections a b",
+        "add-projections --p a a b",
     ];
     for call in calls {
         let ran = run(&desk, call);
@@ -174,7 +184,8 @@ fn unfit_parameters_are_2() {
 #[test]
 fn every_command_has_help_with_an_example() {
     let desk = Desk::new("help");
-    for command in ["load", "describe", "review", "prove", "verify", "explain"] {
+    let sheds = ["shed-parts", "shed-projection", "shed-rows", "add-projections"];
+    for command in ["load", "describe", "review", "prove", "verify", "explain"].into_iter().chain(sheds) {
         for call in [format!("{command} --help"), format!("help {command}")] {
             let help = run(&desk, &call);
             assert_eq!((help.status, help.line.as_str()), (0, ""));

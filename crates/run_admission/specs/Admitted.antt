@@ -1,0 +1,50 @@
+-- The answers of the admission of a run, and what holds of a call that is refused nothing before its work.
+use mathlib.Core.Path.{_≡_}
+use mathlib.Core.List.{List}
+use Prim.Native.Nat.{ℕ, _≤_, _<_}
+use Rattle.definitions.specs.Answer.{Answer, fine, refused, ofRefusal}
+use Rattle.protocol.specs.Parameters.{parameters}
+use Rattle.protocol.specs.Layout.{Section, span, job-sections, scratch-need}
+use Rattle.layout.specs.Laid.{Laid}
+use Rattle.relation.specs.declared.env_params.EnvironmentParameters.{EnvironmentParameters}
+use Rattle.relation.specs.Parameters.{parametersOf}
+use Rattle.relation.specs.SectionOne.{Sound}
+use Rattle.runs.specs.Runs.{Run, projection-section, vectors-section, p-section}
+use Rattle.run_admission.specs.declared.RunAdmitted.{RunAdmitted}
+use Rattle.run_admission.specs.declared.RunAdmitted.the-variants as A
+
+-- the number and place of what is refused: 34 at the run's first index
+abbrev pub ofRunAdmitted : RunAdmitted → Answer
+ofRunAdmitted (A.Refused r) = ofRefusal r
+ofRunAdmitted (A.Outside first) = refused 34 first
+ofRunAdmitted (A.Fit p) = fine
+
+-- a fact of the parameters of a call that is refused nothing
+abbrev pub At : RunAdmitted → (EnvironmentParameters → Type 0) → Type 0
+At (A.Refused r) F = Unit {0}
+At (A.Outside first) F = Unit {0}
+At (A.Fit p) F = F p
+
+-- a job that is refused nothing, and a run within it
+pub record InJob (J : List ℕ) (x : Run) (p : EnvironmentParameters) : Type 0 where
+  pub same : parametersOf p ≡ parameters J
+  pub sound : Sound J
+  pub job : Laid J 31 (job-sections (parameters J))
+  pub some : x .first < x .end
+  pub within : x .end ≤ parameters J .r
+
+-- what the work of a call on a run needs: its vectors, and an output that is long enough for the section that it makes
+pub record Given (J : List ℕ) (x : Run) (S : List ℕ) (made : List Section) (output : ℕ) (p : EnvironmentParameters) : Type 0 where
+  pub in-job : InJob J x p
+  pub vectors : Laid S 0 (vectors-section (parameters J) x)
+  pub output-fits : span made ≤ output
+
+-- and a scratch that is
+pub record Runnable (J : List ℕ) (x : Run) (S : List ℕ) (scratch : ℕ) (made : List Section) (output : ℕ) (p : EnvironmentParameters) : Type 0 where
+  pub given : Given J x S made output p
+  pub scratch-fits : scratch-need (parameters J) ≤ scratch
+
+-- and its projection words
+pub record Projectable (J : List ℕ) (x : Run) (Π S : List ℕ) (scratch output : ℕ) (p : EnvironmentParameters) : Type 0 where
+  pub runnable : Runnable J x S scratch p-section output p
+  pub projection : Laid Π 0 (projection-section (parameters J) x)

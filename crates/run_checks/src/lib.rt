@@ -1,0 +1,112 @@
+// The slices of the calls on runs, one section each (document 02, Item 10): 7 and 8, 11 and 12, 9 and 10; then the lent buffers, 1 and 2.
+use admission::answers::Checked;
+use admission::scratch;
+use definitions::answers::Refusal;
+use layout::sections::Sections;
+use layout::slices;
+use layout::slices::Examined;
+use relation::env_params::EnvironmentParameters;
+ghost use mathlib.Core.Path.{_≡_};
+ghost use mathlib.Core.List.{[], _∷_};
+ghost use Prim.Native.Nat.{_≤_};
+ghost use Rattle.protocol.specs.Layout.{canonical};
+ghost use Rattle.layout.specs.Sections.{listed};
+ghost use Rattle.relation.specs.Parameters.{parametersOf};
+ghost use Rattle.sizes.specs.Sizes.{Sized};
+ghost use Rattle.admission.specs.Admission.{ofChecked};
+ghost use Rattle.run_checks.specs.Found.{one-refusal, short-output, lent, given};
+
+// A section of so many canonical words.
+fn one_section(count: usize) -> Sections
+    ensures { λ s. ⌜ (listed s ≡ canonical count ∷ []) × (s .len ≤ 10) ⌝ }
+{
+    Sections {
+        counts: [count, 0, 0, 0, 0, 0, 0, 0, 0, 0],
+        greatest: [4294967294; 10],
+        len: 1,
+    }
+}
+
+// "7 and 8 on the run's projection words"
+fn check_projection(words: &[u32], count: usize) -> Checked
+    ensures { λ r. ⌜ ofChecked r ≡ one-refusal 7 8 count (now (words .entry)) ⌝ }
+{
+    match slices::examine(words, 0, one_section(count)) {
+        Examined::Layout(place) => Checked::Refused(Refusal::RandomnessLayout(place)),
+        Examined::Word(place) => Checked::Refused(Refusal::RandomnessWord(place)),
+        Examined::Fit => Checked::Fine,
+    }
+}
+
+// "11 and 12 on its vectors"
+fn check_vectors(words: &[u32], count: usize) -> Checked
+    ensures { λ r. ⌜ ofChecked r ≡ one-refusal 11 12 count (now (words .entry)) ⌝ }
+{
+    match slices::examine(words, 0, one_section(count)) {
+        Examined::Layout(place) => Checked::Refused(Refusal::WitnessLayout(place)),
+        Examined::Word(place) => Checked::Refused(Refusal::WitnessWord(place)),
+        Examined::Fit => Checked::Fine,
+    }
+}
+
+// "9 and 10" of a p.
+pub fn check_p(words: &[u32]) -> Checked
+    ensures { λ r. ⌜ ofChecked r ≡ one-refusal 9 10 256 (now (words .entry)) ⌝ }
+{
+    match slices::examine(words, 0, one_section(256)) {
+        Examined::Layout(place) => Checked::Refused(Refusal::TranscriptLayout(place)),
+        Examined::Word(place) => Checked::Refused(Refusal::TranscriptWord(place)),
+        Examined::Fit => Checked::Fine,
+    }
+}
+
+// 2: an output shorter than needed.
+pub fn check_output(need: usize, lent: usize) -> Checked
+    ensures { λ r. ⌜ ofChecked r ≡ short-output need lent ⌝ }
+{
+    if lent < need {
+        Checked::Refused(Refusal::OutputTooShort(need))
+    } else {
+        Checked::Fine
+    }
+}
+
+// "11 and 12 on its vectors, 1, 2": so many words of vectors, and the length that the output needs.
+pub fn check_lent(
+    p: EnvironmentParameters,
+    count: usize,
+    vectors: &[u32],
+    scratch: usize,
+    need: usize,
+    output: usize,
+) -> Checked
+    requires { ⌜ Sized (parametersOf p) ⌝ }
+    ensures { λ r. ⌜ ofChecked r ≡ lent (parametersOf p) count (now (vectors .entry)) scratch need output ⌝ }
+{
+    match check_vectors(vectors, count) {
+        Checked::Refused(refusal) => Checked::Refused(refusal),
+        Checked::Fine => match scratch::check(scratch, p) {
+            Checked::Refused(refusal) => Checked::Refused(refusal),
+            Checked::Fine => check_output(need, output),
+        },
+    }
+}
+
+// "7 and 8 on the run's projection words", then the others: the p of a run takes 257 words.
+pub fn check_given(
+    p: EnvironmentParameters,
+    matrices: usize,
+    projection: &[u32],
+    count: usize,
+    vectors: &[u32],
+    scratch: usize,
+    output: usize,
+) -> Checked
+    requires { ⌜ Sized (parametersOf p) ⌝ }
+    ensures { λ r. ⌜ ofChecked r ≡ given (parametersOf p) matrices (now (projection .entry)) count (now (vectors .entry)) scratch output ⌝ }
+{
+    match check_projection(projection, matrices) {
+        Checked::Refused(refusal) => Checked::Refused(refusal),
+        Checked::Fine => check_lent(p, count, vectors, scratch, 257, output),
+    }
+}

@@ -1,0 +1,101 @@
+-- What the call answers and leaves, refused or not.
+use mathlib.Core.Path.{_≡_, sym, ap, subst, _∙_}
+use mathlib.Core.List.{List, []}
+use Prim.Native.Nat.{ℕ, _+_, _*_, _≤_}
+use native.Mathlib.Omega.{arith}
+use lib.ListN.{length}
+use Rattle.lists.specs.Table.{table}
+use Rattle.lists.proofs.Table.{table-ext}
+use Rattle.definitions.specs.declared.answers.Refusal.{Refusal}
+use Rattle.definitions.specs.Answer.{Answer, fine, refused, result, ofRefusal}
+use Rattle.protocol.specs.Parameters.{parameters}
+use Rattle.protocol.specs.Layout.{span, start, scratch-need}
+use Rattle.protocol.specs.Prover.{zeroed}
+use Rattle.jl.specs.Run as Jl
+use Rattle.jl.specs.Run.{Within}
+use Rattle.jl.proofs.Formula.{run-of-first}
+use Rattle.relation.specs.declared.env_params.EnvironmentParameters.{EnvironmentParameters}
+use Rattle.relation.specs.Parameters.{parametersOf}
+use Rattle.admission.proofs.Fit.{refusal-none}
+use Rattle.runs.specs.Runs.{Run, size, p-section, stored, run-p, project-refusal, project-output, project-scratch}
+use Rattle.call_answers.specs.declared.verdicts.LabradorAnswer.{LabradorAnswer}
+use Rattle.call_answers.specs.Calls.{labradorAnswer}
+use Rattle.run_admission.specs.Admitted.{Projectable}
+
+module _ (J : List ℕ) (x : Run) (Π S scratch output : List ℕ) where
+  abbrev answer : Answer
+  answer = project-refusal J x Π S (length scratch) (length output)
+
+  abbrev made : List ℕ
+  made = stored p-section (table 256 (run-p J x Π S)) output
+
+  abbrev cleared : List ℕ
+  cleared = zeroed (scratch-need (parameters J)) scratch
+
+  -- a refusal of document 01's list leaves both buffers
+  module _ (r : Refusal) (e : ofRefusal r ≡ answer) where
+    pub refused-output : output ≡ project-output J x Π S scratch output
+    unfolding project-output
+    refused-output = refusal-none r made output ∙ ap (λ a. result a made output) e
+
+    pub refused-scratch : scratch ≡ project-scratch J x Π S scratch output
+    unfolding project-scratch
+    refused-scratch = refusal-none r cleared scratch ∙ ap (λ a. result a cleared scratch) e
+
+  -- and so does 34
+  module _ (place : ℕ) (e : refused 34 place ≡ answer) where
+    pub outside-output : output ≡ project-output J x Π S scratch output
+    unfolding project-output
+    outside-output = ap (λ a. result a made output) e
+
+    pub outside-scratch : scratch ≡ project-scratch J x Π S scratch output
+    unfolding project-scratch
+    outside-scratch = ap (λ a. result a cleared scratch) e
+
+  -- what the work needs of a call that is refused nothing, and what it leaves
+  module _ (p : EnvironmentParameters) (h : Projectable J x Π S (length scratch) (length output) p) where
+    same : parametersOf p ≡ parameters J
+    same = h .runnable .given .in-job .same
+
+    pub within : Within Π 1 S 1 (p .rank) (size x)
+    unfolding span
+    within =
+        let n : p .rank ≡ parameters J .n = ap (λ Q. Q .n) same in
+        subst (λ n. Within Π 1 S 1 n (size x)) (sym n)
+        (record {
+          matrices = matrices (parameters J .n) (size x) (length Π) (h .projection .whole);
+          vectors = vectors (parameters J .n) (size x) (length S) (h .runnable .given .vectors .whole);
+          narrow = omega (arith, h .runnable .given .in-job .sound .within .n .1);
+          few = omega (arith, h .runnable .given .in-job .within, h .runnable .given .in-job .sound .within .r .1);
+        })
+      where
+        matrices : (n count l : ℕ) → l ≡ 0 + (1 + 16384 * n * count + 0) → 1 + count * 256 * (64 * n) ≤ l
+        matrices n count l e = omega arith
+
+        vectors : (n count l : ℕ) → l ≡ 0 + (1 + 64 * (count * n) + 0) → 1 + count * (64 * n) ≤ l
+        vectors n count l e = omega arith
+
+    pub output-fits : 257 ≤ length output
+    unfolding span
+    output-fits = h .runnable .given .output-fits
+
+    pub scratch-fits : scratch-need (parametersOf p) ≤ length scratch
+    scratch-fits = subst (λ Q. scratch-need Q ≤ length scratch) (sym same) (h .runnable .scratch-fits)
+
+    module _ (e : fine ≡ answer) where
+      pub worked-output : (exit : List ℕ) → exit ≡ stored p-section (Jl.run Π 1 S 1 (p .rank) 0 (size x)) output → exit ≡ project-output J x Π S scratch output
+      unfolding project-output run-p start
+      worked-output exit f =
+          let n : p .rank ≡ parameters J .n = ap (λ Q. Q .n) same in
+          f
+          ∙ ap (λ n. stored p-section (Jl.run Π 1 S 1 n 0 (size x)) output) n
+          ∙ ap (λ ws. stored p-section ws output) (table-ext 256 (Jl.run-row Π 1 S 1 (parameters J .n) 0 (size x)) (run-p J x Π S) (λ j l. run-of-first J Π S (size x) j))
+          ∙ ap (λ a. result a made output) e
+
+      pub worked-scratch : (exit : List ℕ) → exit ≡ zeroed (scratch-need (parametersOf p)) scratch → exit ≡ project-scratch J x Π S scratch output
+      unfolding project-scratch
+      worked-scratch exit f = f ∙ ap (λ Q. zeroed (scratch-need Q) scratch) same ∙ ap (λ a. result a cleared scratch) e
+
+-- an answer of no refusal
+pub made-answer : (r : LabradorAnswer) → r .number ≡ 0 → r .place ≡ 0 → r ≡ labradorAnswer fine
+made-answer r a b i = record { number = a i; place = b i }

@@ -1,0 +1,82 @@
+// The call that gives the p of a run of witness vectors (document 02, Item 10), for every input.
+use call_answers::verdicts;
+use call_answers::verdicts::LabradorAnswer;
+use relation::env_params::EnvironmentParameters;
+use run_admission::RunAdmitted;
+use run_admission::admit_projection;
+use sizes::buffers;
+ghost use mathlib.Core.Path.{_≡_};
+ghost use Prim.Native.Nat.{_≤_};
+ghost use lib.ListN.{length};
+ghost use Rattle.protocol.specs.Layout.{scratch-need};
+ghost use Rattle.protocol.specs.Prover.{zeroed};
+ghost use Rattle.jl.specs.Run.{run as projected, Within};
+ghost use Rattle.relation.specs.Parameters.{parametersOf};
+ghost use Rattle.sizes.specs.Sizes.{Sized};
+ghost use Rattle.call_answers.specs.Calls.{labradorAnswer};
+ghost use Rattle.runs.specs.Runs.{run, p-section, stored, project-answer, project-output, project-scratch};
+
+// The section of p of so many vectors of n elements: the whole call's projection, of slices that start at the run's first vector.
+fn put_p(projection: &[u32], vectors: &[u32], n: usize, count: usize, output: &mut [u32])
+    requires { ⌜ Within (now projection) 1 (now vectors) 1 n count × (257 ≤ length (now output)) ⌝ }
+    ensures { λ _. ⌜ now (output .exit) ≡ stored p-section (projected (now (projection .entry)) 1 (now (vectors .entry)) 1 n 0 count) (now (output .entry)) ⌝ }
+{
+    output[0] = 256;
+    jl::projection::project_run(projection, 1, vectors, 1, n, 0, count, output, 1);
+}
+
+// The work: p's section, and "scratch is zero to the length needed".
+fn work(
+    p: EnvironmentParameters,
+    count: usize,
+    projection: &[u32],
+    vectors: &[u32],
+    scratch: &mut [u32],
+    output: &mut [u32],
+) -> LabradorAnswer
+    requires { ⌜ Within (now projection) 1 (now vectors) 1 (p .rank) count × (257 ≤ length (now output)) ⌝ }
+    requires { ⌜ Sized (parametersOf p) × (scratch-need (parametersOf p) ≤ length (now scratch)) ⌝ }
+    ensures { λ r. ⌜ (r .number ≡ 0) × (r .place ≡ 0) ⌝ }
+    ensures { λ r. ⌜ now (output .exit) ≡ stored p-section (projected (now (projection .entry)) 1 (now (vectors .entry)) 1 (p .rank) 0 count) (now (output .entry)) ⌝ }
+    ensures { λ r. ⌜ now (scratch .exit) ≡ zeroed (scratch-need (parametersOf p)) (now (scratch .entry)) ⌝ }
+{
+    put_p(projection, vectors, p.rank, count, output);
+    let need = buffers::scratch_length(p);
+    words::clear(scratch, need);
+    LabradorAnswer {
+        number: 0,
+        place: 0,
+    }
+}
+
+// "A call takes a run of witness vectors, from index first up to but not including end, with their projection words, and gives that run's p".
+pub fn project(
+    job: &[u32],
+    first: usize,
+    end: usize,
+    projection: &[u32],
+    vectors: &[u32],
+    scratch: &mut [u32],
+    output: &mut [u32],
+) -> LabradorAnswer
+    ensures { λ r. ⌜ r ≡ labradorAnswer (project-answer (now (job .entry)) (run first end) (now (projection .entry)) (now (vectors .entry)) (now (scratch .entry)) (now (output .entry))) ⌝ }
+    ensures { λ r. ⌜ now (output .exit) ≡ project-output (now (job .entry)) (run first end) (now (projection .entry)) (now (vectors .entry)) (now (scratch .entry)) (now (output .entry)) ⌝ }
+    ensures { λ r. ⌜ now (scratch .exit) ≡ project-scratch (now (job .entry)) (run first end) (now (projection .entry)) (now (vectors .entry)) (now (scratch .entry)) (now (output .entry)) ⌝ }
+{
+    match admit_projection(
+        job,
+        first,
+        end,
+        projection,
+        vectors,
+        scratch.len(),
+        output.len(),
+    ) {
+        RunAdmitted::Refused(refusal) => verdicts::refusal_of(refusal),
+        RunAdmitted::Outside(place) => LabradorAnswer {
+            number: 34,
+            place: place as u64,
+        },
+        RunAdmitted::Fit(p) => work(p, end - first, projection, vectors, scratch, output),
+    }
+}

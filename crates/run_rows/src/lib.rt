@@ -1,0 +1,99 @@
+// The call that gives the rows of t of a run of witness vectors (document 02, Item 10), for every input.
+use call_answers::numbers::number_of;
+use call_answers::verdicts;
+use call_answers::verdicts::LabradorAnswer;
+use commitments::ajtai_commitment;
+use commitments::common_instances;
+use definitions::answers::Proved;
+use relation::env_params::EnvironmentParameters;
+use run_admission::RunAdmitted;
+use run_admission::admit_rows;
+use sizes::buffers;
+use sizes::offsets;
+ghost use mathlib.Core.Path.{_≡_};
+ghost use Prim.Native.Nat.{_+_, _*_};
+ghost use lib.ListN.{length};
+ghost use Rattle.protocol.specs.Parameters.{parameters};
+ghost use Rattle.call_answers.specs.Calls.{labradorAnswer};
+ghost use Rattle.runs.specs.Runs.{run, rows-section, stored-rows, run-norm, rows-made, commit-rows, rows-output, rows-scratch};
+ghost use Rattle.run_admission.specs.Admitted.{Given};
+
+// The section of the rows of a run: the whole call's commitments, of a slice that starts at the run's first vector.
+fn put_rows(
+    job: &[u32],
+    p: EnvironmentParameters,
+    first: usize,
+    end: usize,
+    vectors: &[u32],
+    output: &mut [u32],
+)
+    requires { ⌜ Given (now job) (run first end) (now vectors) (rows-section (parameters (now job)) (run first end)) (length (now output)) p ⌝ }
+    ensures { λ _. ⌜ now (output .exit) ≡ stored-rows (now (job .entry)) (run first end) (now (vectors .entry)) (now (output .entry)) ⌝ }
+{
+    let a_at = offsets::of_job(p, 6);
+    let count = end - first;
+    let words = 64 * (count * p.kappa);
+    output[0] = words as u32;
+    ajtai_commitment::commit_all(job, a_at, p.kappa, p.rank, vectors, 1, count, output, 1);
+}
+
+// "for t also 13, its i counted over the whole job"; after it the output's needed part is zero.
+fn commit(
+    job: &[u32],
+    p: EnvironmentParameters,
+    first: usize,
+    end: usize,
+    vectors: &[u32],
+    output: &mut [u32],
+) -> LabradorAnswer
+    requires { ⌜ Given (now job) (run first end) (now vectors) (rows-section (parameters (now job)) (run first end)) (length (now output)) p ⌝ }
+    ensures { λ r. ⌜ r ≡ labradorAnswer (run-norm (now (job .entry)) (run first end) (now (vectors .entry))) ⌝ }
+    ensures { λ r. ⌜ now (output .exit) ≡ rows-made (now (job .entry)) (run first end) (now (vectors .entry)) (now (output .entry)) ⌝ }
+{
+    let count = end - first;
+    match common_instances::check_witness(vectors, 1, p.rank, count, p.bound_a) {
+        Proved::Made => {
+            put_rows(job, p, first, end, vectors, output);
+            LabradorAnswer {
+                number: 0,
+                place: 0,
+            }
+        }
+        Proved::Refused(refusal) => {
+            words::clear(output, 1 + 64 * (count * p.kappa));
+            let found = number_of(refusal);
+            LabradorAnswer {
+                number: found.number,
+                place: (first + found.place) as u64,
+            }
+        }
+    }
+}
+
+// "For t the runs' rows, laid next to each other by rising index, are the whole t.": a run's rows.
+pub fn rows(
+    job: &[u32],
+    first: usize,
+    end: usize,
+    vectors: &[u32],
+    scratch: &mut [u32],
+    output: &mut [u32],
+) -> LabradorAnswer
+    ensures { λ r. ⌜ r ≡ labradorAnswer (commit-rows (now (job .entry)) (run first end) (now (vectors .entry)) (length (now (scratch .entry))) (length (now (output .entry)))) ⌝ }
+    ensures { λ r. ⌜ now (output .exit) ≡ rows-output (now (job .entry)) (run first end) (now (vectors .entry)) (now (scratch .entry)) (now (output .entry)) ⌝ }
+    ensures { λ r. ⌜ now (scratch .exit) ≡ rows-scratch (now (job .entry)) (run first end) (now (vectors .entry)) (now (scratch .entry)) (now (output .entry)) ⌝ }
+{
+    match admit_rows(job, first, end, vectors, scratch.len(), output.len()) {
+        RunAdmitted::Refused(refusal) => verdicts::refusal_of(refusal),
+        RunAdmitted::Outside(place) => LabradorAnswer {
+            number: 34,
+            place: place as u64,
+        },
+        RunAdmitted::Fit(p) => {
+            let answer = commit(job, p, first, end, vectors, output);
+            let need = buffers::scratch_length(p);
+            words::clear(scratch, need);
+            answer
+        }
+    }
+}

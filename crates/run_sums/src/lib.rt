@@ -1,0 +1,56 @@
+// The call that adds two p (document 02, Item 10), for every input.
+use admission::answers::Checked;
+use call_answers::verdicts;
+use call_answers::verdicts::LabradorAnswer;
+use run_checks::check_output;
+use run_checks::check_p;
+use zq::zq::Zq;
+ghost use mathlib.Core.Path.{_≡_};
+ghost use Prim.Native.Nat.{_≤_};
+ghost use lib.ListN.{length};
+ghost use Rattle.admission.specs.Admission.{ofChecked};
+ghost use Rattle.call_answers.specs.Calls.{labradorAnswer};
+ghost use Rattle.runs.specs.Runs.{p-section, stored, p-sum, add-refusal, add-output};
+
+// "The adding call refuses by 9 and 10, the first p before the second, then by 2."
+fn check(p: &[u32], other: &[u32], output: usize) -> Checked
+    ensures { λ r. ⌜ ofChecked r ≡ add-refusal (now (p .entry)) (now (other .entry)) output ⌝ }
+{
+    match check_p(p) {
+        Checked::Refused(refusal) => Checked::Refused(refusal),
+        Checked::Fine => match check_p(other) {
+            Checked::Refused(refusal) => Checked::Refused(refusal),
+            Checked::Fine => check_output(257, output),
+        },
+    }
+}
+
+// The section of the sum, word by word.
+fn put_sum(p: &[u32], other: &[u32], output: &mut [u32])
+    requires { ⌜ (257 ≤ length (now p)) × (257 ≤ length (now other)) × (257 ≤ length (now output)) ⌝ }
+    ensures { λ _. ⌜ now (output .exit) ≡ stored p-section (p-sum (now (p .entry)) (now (other .entry))) (now (output .entry)) ⌝ }
+{
+    output[0] = 256;
+    let mut j = 0;
+    while j < 256 {
+        output[1 + j] = Zq(p[1 + j]).add(Zq(other[1 + j])).0;
+        j += 1;
+    }
+}
+
+// "another adds two such p"
+pub fn add(p: &[u32], other: &[u32], output: &mut [u32]) -> LabradorAnswer
+    ensures { λ r. ⌜ r ≡ labradorAnswer (add-refusal (now (p .entry)) (now (other .entry)) (length (now (output .entry)))) ⌝ }
+    ensures { λ r. ⌜ now (output .exit) ≡ add-output (now (p .entry)) (now (other .entry)) (now (output .entry)) ⌝ }
+{
+    match check(p, other, output.len()) {
+        Checked::Refused(refusal) => verdicts::refusal_of(refusal),
+        Checked::Fine => {
+            put_sum(p, other, output);
+            LabradorAnswer {
+                number: 0,
+                place: 0,
+            }
+        }
+    }
+}
