@@ -49,6 +49,17 @@ static answer of_verdict(labrador_verdict v) {
     return (answer){v.number, v.place, 6, {v.index, v.first_hi, v.first_lo, v.second_hi, v.second_lo, v.cells_left}};
 }
 
+/* eight values of each verdict, its number first */
+static answer of_verdicts(labrador_verdicts r) {
+    answer a = {r.number, r.place, 64, {0}};
+    for (int m = 0; m < 8; m++) {
+        const labrador_verdict *v = &r.verdicts[m];
+        const uint64_t values[8] = {v->number, v->place, v->index, v->first_hi, v->first_lo, v->second_hi, v->second_lo, v->cells_left};
+        memcpy(a.values + 8 * m, values, sizeof values);
+    }
+    return a;
+}
+
 static answer of_mistyped(labrador_mistyped_answer r) { return (answer){r.number, r.place, 1, {r.entries}}; }
 
 static answer of_ranges(labrador_ranges_answer r) {

@@ -107,6 +107,9 @@ int above(int s, uint64_t place, uint32_t most);
 /* fuzz_sheds.c */
 extern uint32_t run_first, run_end;
 
+/* fuzz_many.c */
+extern uint32_t many_count;
+
 /* fuzz_load.c */
 extern labrador_parameters load_parameters;
 extern uint32_t load_seed;

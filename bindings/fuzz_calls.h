@@ -42,6 +42,8 @@ CALL(shed_rows, 40, draw_shed_rows, of_answer(labrador_shed_rows(WORDS(JOB), run
 CALL(add_projections, 20, draw_two_p, of_answer(labrador_add_projections(WORDS(FIRST_P), WORDS(SECOND_P), WORDS(OUTPUT))), judge_sum, 2, 9, 10)
 CALL(verify, 120, draw_verify, of_verdict(labrador_verify(WORDS(JOB), WORDS(RANDOMNESS), WORDS(TRANSCRIPT), WORDS(SCRATCH))), judge_verdict,
      1, 3, 4, 5, 6, 7, 8, 9, 10, 14, 15, 16, 21, 22, 23, 24, 25, 26, 27, 28, 29)
+CALL(verify_many, 30, draw_many,
+     of_verdicts(labrador_verify_many(WORDS(JOB), many_count, WORDS(RANDOMNESS), WORDS(TRANSCRIPT), WORDS(SCRATCH))), judge_many, 1, 3, 4, 5, 6, 35)
 CALL(mistyped, 60, draw_mistyped,
      of_mistyped(labrador_mistyped(WORDS(JOB), WORDS(RANDOMNESS), WORDS(TRANSCRIPT), WORDS(SCRATCH), WORDS(OUTPUT))), judge_mistyped, 1, 2, 3, 4,
      5, 6, 7, 8, 9, 10, 14, 15, 16, 32, 33)

@@ -2,6 +2,7 @@
    `-Wl,--wrap`. */
 #include <stdint.h>
 #include <stdlib.h>
+#include <string.h>
 
 #include "fuzz.h"
 
@@ -37,13 +38,15 @@ labrador_verdict __wrap_labrador_verify(const uint32_t *job, size_t job_length, 
     uint32_t before = scratch_length > 0 ? *scratch : 0;
     labrador_verdict v =
         __real_labrador_verify(job, job_length, randomness, randomness_length, transcript, transcript_length, scratch, scratch_length);
-    if (wrong() == 10 && v.number == 21) v.number = 13;
-    if (wrong() == 11 && v.number == 10) v.place++;
-    if (wrong() == 12 && v.number == 0) v.first_lo = 1;
-    if (wrong() == 13 && v.number == 28 && before % 2 == 0) v.number = 0;
-    if (wrong() == 14 && v.number == 23) v.second_lo = v.first_lo, v.second_hi = v.first_hi;
-    if (wrong() == 15 && v.number == 9) v.place = transcript_length + 1;
-    if (wrong() == 16 && v.number == 28) v.cells_left = 1;
+    /* the call on many transcripts is held to this one */
+    int which = in_hand && strcmp(in_hand->name, "labrador_verify") != 0 ? 0 : wrong();
+    if (which == 10 && v.number == 21) v.number = 13;
+    if (which == 11 && v.number == 10) v.place++;
+    if (which == 12 && v.number == 0) v.first_lo = 1;
+    if (which == 13 && v.number == 28 && before % 2 == 0) v.number = 0;
+    if (which == 14 && v.number == 23) v.second_lo = v.first_lo, v.second_hi = v.first_hi;
+    if (which == 15 && v.number == 9) v.place = transcript_length + 1;
+    if (which == 16 && v.number == 28) v.cells_left = 1;
     return v;
 }
 
@@ -78,5 +81,20 @@ labrador_answer __wrap_labrador_add_projections(const uint32_t *p, size_t p_leng
     labrador_answer a = __real_labrador_add_projections(p, p_length, other, other_length, output, output_length);
     if (wrong() == 20 && a.number == 0 && p[256] > other[256]) output[256] = p[256] + other[256];
     if (wrong() == 21 && a.number == 9 && p_length == 257) a.place += 257;
+    return a;
+}
+
+typedef labrador_verdicts many(const uint32_t *, size_t, uint32_t, const uint32_t *, size_t, const uint32_t *, size_t, uint32_t *, size_t);
+many __real_labrador_verify_many, __wrap_labrador_verify_many;
+
+labrador_verdicts __wrap_labrador_verify_many(const uint32_t *job, size_t job_length, uint32_t count, const uint32_t *randomness,
+                                              size_t randomness_length, const uint32_t *transcripts, size_t transcripts_length, uint32_t *scratch,
+                                              size_t scratch_length) {
+    labrador_verdicts a = __real_labrador_verify_many(job, job_length, count, randomness, randomness_length, transcripts, transcripts_length, scratch,
+                                                      scratch_length);
+    if (a.number != 0) return a;
+    if (wrong() == 22) a.verdicts[7] = a.verdicts[0];
+    if (wrong() == 23 && count > 1 && a.verdicts[0].number == 9) a.verdicts[1] = a.verdicts[0];
+    if (wrong() == 24 && a.verdicts[0].number == 7 && a.verdicts[count - 1].number == 7) scratch[0] = 1;
     return a;
 }

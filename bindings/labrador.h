@@ -239,6 +239,26 @@ labrador_verdict labrador_verify(const uint32_t *job, size_t job_length, const u
                                  const uint32_t *transcript, size_t transcript_length, uint32_t *scratch,
                                  size_t scratch_length);
 
+/* The number of a verdict that is unused. */
+#define LABRADOR_UNUSED 4294967295u
+
+/* number 0: eight verdicts are given; those past the number of transcripts have the number LABRADOR_UNUSED and zeros. Else the refusal of the whole
+   call, and all eight are zeros. */
+typedef struct {
+    uint32_t number;
+    uint64_t place;
+    labrador_verdict verdicts[8];
+} labrador_verdicts;
+
+/* The verdicts on one to eight transcripts for one job, each that of labrador_verify on it with its own randomness. The transcripts lie end to end, each of
+   the length that the job fixes (labrador_output_need), and so does their randomness. A slice that ends early cuts short or empties the parts at
+   its end, and surplus words belong to the last part, so it is never refused as a whole: the parts are, each by 7 to 10 with places from its own start. The whole
+   call is refused by 35 for a count outside 1 to 8 (place 0), before any other test; then by the job's refusals; then by 1 for scratch shorter than
+   count * labrador_scratch_need words (place: that length). Where eight verdicts are given the scratch is zero to there, also where every transcript is
+   refused; a refusal of the whole call touches nothing. */
+labrador_verdicts labrador_verify_many(const uint32_t *job, size_t job_length, uint32_t count, const uint32_t *randomness, size_t randomness_length,
+                                       const uint32_t *transcripts, size_t transcripts_length, uint32_t *scratch, size_t scratch_length);
+
 /* number 0: entries of the list. Else a refusal, and entries is 0. */
 typedef struct {
     uint32_t number;

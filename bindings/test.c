@@ -1109,6 +1109,94 @@ static void test_recorded_sheds(void) {
     }
 }
 
+/* Many transcripts: a load of one vector, proved with the randomness of eight others. */
+enum { ONE_RANDOMNESS = 17843, ONE_TRANSCRIPT = 64 * (1 + 4 + 1 + 1 + 4 + 1 + 1) + 256 + 8 };
+static uint32_t many_randomness[8 * ONE_RANDOMNESS + 70], many_transcripts[8 * ONE_TRANSCRIPT + 70], other_job[JOB], other_witness[WITNESS];
+
+static labrador_verdicts verdicts(uint32_t count, size_t randomness_words, size_t transcript_words, size_t lent) {
+    mark(scratch, SCRATCH);
+    return labrador_verify_many(job, job_length, count, many_randomness, randomness_words, many_transcripts, transcript_words, scratch, lent);
+}
+
+static int same_verdict(labrador_verdict v, labrador_verdict w) {
+    return v.number == w.number && v.index == w.index && v.first_hi == w.first_hi && v.first_lo == w.first_lo && v.second_hi == w.second_hi &&
+           v.second_lo == w.second_lo && v.place == w.place && v.cells_left == w.cells_left;
+}
+
+/* The first verdicts are the single call's, with numbers that are known, and the others are unused. */
+static int are_verdicts(labrador_verdicts a, uint32_t count, const uint32_t *numbers) {
+    static uint32_t own[SCRATCH];
+    int ok = a.number == 0 && a.place == 0;
+    for (uint32_t m = 0; m < 8; m++) {
+        if (m >= count) {
+            ok = ok && is_verdict(a.verdicts[m], LABRADOR_UNUSED, 0);
+            continue;
+        }
+        labrador_verdict v = labrador_verify(job, job_length, many_randomness + m * ONE_RANDOMNESS, ONE_RANDOMNESS,
+                                             many_transcripts + m * ONE_TRANSCRIPT, ONE_TRANSCRIPT, own, SCRATCH);
+        ok = ok && same_verdict(a.verdicts[m], v) && v.number == numbers[m];
+    }
+    return ok;
+}
+
+static int is_refused_whole(labrador_verdicts a, uint32_t number, uint64_t place) {
+    int ok = a.number == number && a.place == place && scratch[0] == MARK;
+    for (int m = 0; m < 8; m++) ok = ok && is_verdict(a.verdicts[m], 0, 0);
+    return ok;
+}
+
+/* Slices that end early, go on, or are empty. */
+static void test_cut_transcripts(size_t need) {
+    const size_t R = ONE_RANDOMNESS, T = ONE_TRANSCRIPT;
+    labrador_verdicts a = verdicts(4, 4 * R, 2 * T + 5, 4 * need);
+    CHECK(is_verdict(a.verdicts[0], 0, 0) && is_verdict(a.verdicts[1], 0, 0));
+    CHECK(is_verdict(a.verdicts[2], 9, 5) && is_verdict(a.verdicts[3], 9, 0) && is_verdict(a.verdicts[4], LABRADOR_UNUSED, 0));
+    a = verdicts(3, R - 1, 3 * T, 3 * need);
+    CHECK(is_verdict(a.verdicts[0], 7, R - 1) && is_verdict(a.verdicts[1], 7, 0) && is_verdict(a.verdicts[2], 7, 0));
+    a = verdicts(2, 2 * R, 2 * T + 1, 2 * need);
+    CHECK(is_verdict(a.verdicts[0], 0, 0) && is_verdict(a.verdicts[1], 9, T));
+    a = verdicts(2, 3 * R, 2 * T, 2 * need);
+    CHECK(is_verdict(a.verdicts[0], 0, 0) && is_verdict(a.verdicts[1], 7, R));
+    a = verdicts(8, 0, 0, 8 * need);
+    for (int m = 0; m < 8; m++) CHECK(is_verdict(a.verdicts[m], 7, 0));
+    CHECK(a.number == 0 && all_zero(scratch, 8 * need) && scratch[8 * need] == MARK);
+}
+
+static void test_many(void) {
+    const labrador_parameters sizes = {1, 1, 4, 1, 1, 1, 1, 32, 256, 4, 4, 4};
+    const uint32_t accepted[8] = {0}, broken[8] = {0, 28, 0, 22, 8, 29, 9, 24};
+    make_load(sizes);
+    size_t need = labrador_scratch_need(job, job_length).words;
+    CHECK(randomness_length == ONE_RANDOMNESS && labrador_output_need(job, job_length).words == ONE_TRANSCRIPT);
+    for (uint32_t m = 0; m < 8; m++) {
+        uint32_t *R = many_randomness + m * ONE_RANDOMNESS, *T = many_transcripts + m * ONE_TRANSCRIPT;
+        CHECK(labrador_load(sizes, 100 + m, other_job, JOB, other_witness, WITNESS, R, ONE_RANDOMNESS).number == 0);
+        labrador_answer a = labrador_prove(job, job_length, R, ONE_RANDOMNESS, witness, witness_length, scratch, need, T, ONE_TRANSCRIPT);
+        CHECK(a.number == 0);
+    }
+    for (uint32_t count = 1; count <= 8; count++) {
+        CHECK(are_verdicts(verdicts(count, count * ONE_RANDOMNESS, count * ONE_TRANSCRIPT, count * need), count, accepted));
+        CHECK(all_zero(scratch, count * need) && scratch[count * need] == MARK);
+    }
+    const uint32_t outside[4] = {0, 9, 10, Q};
+    for (int k = 0; k < 4; k++) CHECK(is_refused_whole(verdicts(outside[k], 0, 0, 0), 35, 0));
+    CHECK(is_refused_whole(verdicts(8, 0, 0, 8 * need - 1), 1, 8 * need) && is_refused_whole(verdicts(1, 0, 0, need - 1), 1, need));
+    job[1] = 65;
+    CHECK(is_refused_whole(verdicts(8, 0, 0, 0), 4, 1) && is_refused_whole(verdicts(9, 0, 0, 0), 35, 0));
+    job[1] = 1;
+    test_cut_transcripts(need);
+    uint32_t *sent[8];
+    for (int m = 0; m < 8; m++) sent[m] = many_transcripts + m * ONE_TRANSCRIPT;
+    sent[1][1] = next(sent[1][1]);
+    sent[3][65 + 257 + 1 + 64] = next(sent[3][65 + 257 + 1 + 64]);
+    many_randomness[4 * ONE_RANDOMNESS + 1 + 16384 + 1] = Q;
+    sent[5][65 + 257 + 257 + 1] = next(sent[5][65 + 257 + 257 + 1]);
+    sent[6][65] = 255;
+    sent[7][65 + 257 + 257 + 65 + 65 + 1] = next(sent[7][65 + 257 + 257 + 65 + 65 + 1]);
+    CHECK(are_verdicts(verdicts(8, 8 * ONE_RANDOMNESS, 8 * ONE_TRANSCRIPT, 8 * need + 1), 8, broken));
+    CHECK(all_zero(scratch, 8 * need) && scratch[8 * need] == MARK);
+}
+
 int main(void) {
     test_numbers();
     test_digits();
@@ -1131,6 +1219,7 @@ int main(void) {
     test_recorded_mistyped();
     test_sheds();
     test_recorded_sheds();
+    test_many();
     if (failures > 0) {
         printf("%d of %d checks failed\n", failures, checks);
         return EXIT_FAILURE;

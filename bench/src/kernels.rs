@@ -2,6 +2,7 @@
 
 use crate::fast;
 use crate::loads;
+use crate::many;
 use harness::instances::{Instance, LOOSE};
 use harness::random::Random;
 use harness::rust;
@@ -190,7 +191,7 @@ fn parameters(n: usize, r: usize) -> Parameters {
 }
 
 /// Rounds of timing of a whole call: fewer where it takes longer.
-fn rounds(n: usize, r: usize) -> usize {
+pub fn rounds(n: usize, r: usize) -> usize {
     (2000 / (n * r)).clamp(2, 30)
 }
 
@@ -347,6 +348,8 @@ pub const KERNELS: &[Entry] = &[
     ("verify, n 16, r 4", |random| whole(random, Call::Verify, 16, 4)),
     ("prove, n 64, r 16", |random| whole(random, Call::Prove, 64, 16)),
     ("verify, n 64, r 16", |random| whole(random, Call::Verify, 64, 16)),
+    ("verify eight transcripts in one call, n 16, r 4, against our eight calls", |_| many::against_single(parameters(16, 4))),
+    ("verify eight transcripts in one call, n 64, r 16, against our eight calls", |_| many::against_single(parameters(64, 16))),
     ("round 1 (u1), n 16, r 4, against the whole prover", |random| whole(random, Call::Round(1), 16, 4)),
     ("round 2 (p), n 16, r 4, against the whole prover", |random| whole(random, Call::Round(2), 16, 4)),
     ("round 3 (b''), n 16, r 4, against the whole prover", |random| whole(random, Call::Round(3), 16, 4)),

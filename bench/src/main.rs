@@ -6,6 +6,7 @@
 mod fast;
 mod kernels;
 mod loads;
+mod many;
 mod table;
 
 fn main() {

@@ -100,6 +100,13 @@ pub struct Verdict {
 }
 
 #[repr(C)]
+pub struct Verdicts {
+    pub number: u32,
+    pub place: u64,
+    pub verdicts: [Verdict; 8],
+}
+
+#[repr(C)]
 pub struct MistypedAnswer {
     pub number: u32,
     pub place: u64,
@@ -199,6 +206,17 @@ extern "C" {
         scratch: *mut u32,
         scratch_length: usize,
     ) -> Verdict;
+    fn labrador_verify_many(
+        job: *const u32,
+        job_length: usize,
+        count: u32,
+        randomness: *const u32,
+        randomness_length: usize,
+        transcripts: *const u32,
+        transcripts_length: usize,
+        scratch: *mut u32,
+        scratch_length: usize,
+    ) -> Verdicts;
     fn labrador_shed_projection(
         job: *const u32,
         job_length: usize,
@@ -333,6 +351,24 @@ pub fn verify(job: &[u32], randomness: &[u32], transcript: &[u32], scratch: &mut
             randomness.len(),
             transcript.as_ptr(),
             transcript.len(),
+            scratch.as_mut_ptr(),
+            scratch.len(),
+        )
+    }
+}
+
+pub fn verify_many(job: &[u32], count: u32, randomness: &[u32], transcripts: &[u32], scratch: &mut [u32]) -> Verdicts {
+    // SAFETY: the pointers are those of slices, so none is null and that many words of each can be read, and what is only
+    // read may overlap; scratch is lent alone, so it can be written and overlaps with nothing.
+    unsafe {
+        labrador_verify_many(
+            job.as_ptr(),
+            job.len(),
+            count,
+            randomness.as_ptr(),
+            randomness.len(),
+            transcripts.as_ptr(),
+            transcripts.len(),
             scratch.as_mut_ptr(),
             scratch.len(),
         )

@@ -26,6 +26,7 @@ mod element;
 mod ffi;
 mod handed;
 mod load;
+mod many;
 pub mod meaning;
 mod mistyped;
 mod needs;
@@ -45,6 +46,7 @@ mod verifier;
 
 pub use element::{ChallengeWords, DigitRows, Element};
 pub use load::{load, load_into, load_needs, Load, LoadNeeds};
+pub use many::{verify_many, verify_many_with, Sent};
 pub use mistyped::{mistyped, mistyped_into, Mistyped};
 pub use needs::{output_need, scratch_need};
 pub use number::{parts_needed, projection_entry, recompose, Digits, Zq, Q};

@@ -53,6 +53,8 @@ pub enum Refusal {
     NothingMends,
     /// 34: a run that is empty or goes past the job's vectors.
     OutsideRun { run: Run, vectors: u32 },
+    /// 35: a number of transcripts outside 1 to 8.
+    TranscriptCount { count: u64 },
     /// 9 or 10 of the call that adds two p: which of them, its length, and the word at the place.
     Projection { number: u32, which: &'static str, place: u64, length: u64, found: Option<u32> },
     /// 36: the first pair whose low is above its high.
@@ -84,6 +86,7 @@ impl Refusal {
             Refusal::NotCheck22 => 32,
             Refusal::NothingMends => 33,
             Refusal::OutsideRun { .. } => 34,
+            Refusal::TranscriptCount { .. } => 35,
             Refusal::Projection { number, .. } => *number,
             Refusal::Crossed { .. } => 36,
             Refusal::Beyond { .. } => 37,
@@ -96,7 +99,7 @@ impl Refusal {
             Refusal::Scratch { needed, .. } | Refusal::Output { needed, .. } => *needed,
             Refusal::WitnessNorm { vector, .. } => *vector,
             Refusal::DigitsOfT | Refusal::DigitsOfG | Refusal::DigitsOfH => 0,
-            Refusal::NotCheck22 | Refusal::NothingMends => 0,
+            Refusal::NotCheck22 | Refusal::NothingMends | Refusal::TranscriptCount { .. } => 0,
             Refusal::OutsideRun { run, .. } => run.first.into(),
             Refusal::Operand { place, .. } | Refusal::RangesLength { place, .. } => *place,
             Refusal::Projection { place, .. } => *place,
@@ -154,6 +157,7 @@ impl Refusal {
             Refusal::OutsideRun { run: Run { first, end }, vectors } => {
                 format!("the run goes from {first} up to {end}, and the job's vectors from 0 up to {vectors}")
             }
+            Refusal::TranscriptCount { count } => format!("there are {count} transcripts, and a call takes 1 to 8"),
             Refusal::Projection { which, place, length, found, .. } => projection_fault(which, *place, *length, *found),
             Refusal::Crossed { pair, low, high } => format!("pair {pair} goes from {low} to {high}, which is below"),
             Refusal::Beyond { pair, low, high } => {

@@ -8,12 +8,16 @@ use crate::verdict::{FailedCheck, Verdict};
 /// The verdict on a transcript, by [`scratch_need`] words of lent scratch.
 pub fn verify_with(job: &[u32], randomness: &[u32], transcript: &[u32], scratch: &mut [u32]) -> Verdict {
     let answer = ffi::verify(job, randomness, transcript, scratch);
-    let handed =
-        Handed { job, randomness, randomness_sections: 7, transcript, scratch: scratch.len(), ..Handed::default() };
+    told(&answer, [job, randomness, transcript], scratch.len())
+}
+
+/// The verdict of an answer to these slices.
+pub(crate) fn told(answer: &ffi::Verdict, [job, randomness, transcript]: [&[u32]; 3], scratch: usize) -> Verdict {
+    let handed = Handed { job, randomness, randomness_sections: 7, transcript, scratch, ..Handed::default() };
     match answer.number {
         0 => Verdict::Accepted { cells_left: answer.cells_left },
         number @ 1..=16 => Verdict::Refused(handed.refusal(number, answer.place)),
-        _ => Verdict::Failed(failed(&answer)),
+        _ => Verdict::Failed(failed(answer)),
     }
 }
 

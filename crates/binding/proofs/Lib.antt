@@ -6,3 +6,4 @@ pub mod Binding
 pub mod Back
 pub mod Bound
 pub mod Calls
+pub mod Many

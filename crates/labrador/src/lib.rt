@@ -3,6 +3,7 @@ pub mod calls;
 pub mod digits;
 pub mod elements;
 pub mod loads;
+pub mod many_call;
 pub mod mistyped_call;
 pub mod needs;
 pub mod numbers;

@@ -1,16 +1,17 @@
 -- What an acceptance says: nothing is refused before the work, each check passes, and the acceptance has its number (document 02, Item 5). A refusal and a check are no acceptance.
-use mathlib.Core.Path.{_≡_, refl, sym}
+use mathlib.Core.Path.{_≡_, refl, sym, ap₂}
 use mathlib.Core.Bool.{Bool, true, false, cond}
 use mathlib.Core.List.{List, [], _∷_}
-use Prim.Native.Nat.{ℕ, zero, suc, _+_, _*_, _≤_}
+use Prim.Native.Nat.{ℕ, zero, suc, _+_, _*_, _≤_, _<_}
 use native.Mathlib.Decide.{decLe, ℕ-discrete}
+use native.Mathlib.Omega.{arith}
 use lib.Dec.{ltb, eqb}
 use lib.ListN.{length, getD, take}
 use borrow.Author.Tests.{ltb-false}
 use Rattle.lists.specs.Part.{part}
 use Rattle.lists.specs.Table.{table}
 use Rattle.definitions.specs.Norm.{norm}
-use Rattle.definitions.specs.Answer.{Answer, fine, accepted, refused, failed, below, _then_}
+use Rattle.definitions.specs.Answer.{Answer, fine, accepted, refused, failed, number, below, _then_}
 use Rattle.definitions.specs.Leaf.{limited}
 use Rattle.definitions.specs.Rq.{coeff}
 use Rattle.definitions.specs.Ring.{words}
@@ -21,34 +22,47 @@ use Rattle.protocol.specs.Views.{Public, Message, public, message}
 use Rattle.protocol.specs.Formulas.{_⊕_, _⊗_, sum, dot, pairs, norm-of, t-digits, g-digits, h-digits, a-sum, φ-sum, b-sum, cells-left-of, u₁-of, u₂-of}
 use Rattle.protocol.specs.Prover.{t-norm, g-norm, h-norm}
 use Rattle.protocol.specs.Verifier.{same, twice, check-21, check-22, check-23, check-24, check-25, check-26, check-27, check-28, check-29, checks, verify, verify-refusal}
-use Rattle.protocol.proofs.Fine.{accepted-not-fine, accepted-same, refused-not-fine, refused-not-accepted, failed-not-accepted, then-fine-left, then-fine-right, then-fine-each}
+use Rattle.protocol.specs.Many.{many-need, many-refusal}
+use Rattle.protocol.proofs.Fine.{accepted-not-fine, accepted-same, refused-not-fine, refused-not-accepted, failed-not-fine, failed-not-accepted, then-fine-left, then-fine-right, then-fine-each}
 
 -- no acceptance
 abbrev pub Unaccepted : Answer → Type 0
 Unaccepted a = (cells : ℕ) → a ≡ accepted cells → ⊥
 
-fine-no : Unaccepted fine
-fine-no cells e = accepted-not-fine cells (sym e)
+-- no acceptance, and fine where the number is 0
+pub record Told (a : Answer) : Type 0 where
+  pub unaccepted : Unaccepted a
+  pub numbered : number a ≡ 0 → a ≡ fine
 
-refused-no : (number place : ℕ) → Unaccepted (refused number place)
-refused-no number place cells e = refused-not-accepted number place cells e
+fine-no : Told fine
+fine-no = record { unaccepted = λ cells e. accepted-not-fine cells (sym e); numbered = λ e. refl }
 
-failed-no : (number : ℕ) (values : List ℕ) → Unaccepted (failed number values)
-failed-no number values cells e = failed-not-accepted number values cells e
+refused-no : (number place : ℕ) → 0 < number → Told (refused number place)
+refused-no number place h = record { unaccepted = refused-not-accepted number place; numbered = λ e. absurd (omega arith) }
 
--- of two answers that are none the first that is not fine is none
-then-no : (a b : Answer) → Unaccepted a → Unaccepted b → Unaccepted (a then b)
+failed-no : (number : ℕ) (values : List ℕ) → 0 < number → Told (failed number values)
+failed-no number values h = record { unaccepted = failed-not-accepted number values; numbered = λ e. absurd (omega arith) }
+
+-- of two such answers with the number 0 together the first is fine
+pub told-fine : (a b : Answer) → Told a → number (a then b) ≡ 0 → (a ≡ fine) × (number b ≡ 0)
+told-fine fine b x e = (refl, e)
+told-fine (accepted c) b x e = absurd (x .unaccepted c refl)
+told-fine (refused n p) b x e = absurd (refused-not-fine n p (x .numbered e))
+told-fine (failed n vs) b x e = absurd (failed-not-fine n vs (x .numbered e))
+
+-- of two such answers the first that is not fine is one
+then-no : (a b : Answer) → Told a → Told b → Told (a then b)
 then-no fine b x y = y
-then-no (accepted c) b x y = absurd (x c refl)
-then-no (refused n p) b x y = refused-no n p
-then-no (failed n vs) b x y = failed-no n vs
+then-no (accepted c) b x y = absurd (x .unaccepted c refl)
+then-no (refused n p) b x y = x
+then-no (failed n vs) b x y = x
 
 -- a test
-require-no {ℓ} : {A : Type ℓ} (d : Dec A) (answer : Answer) → Unaccepted answer → Unaccepted (require d answer)
+require-no {ℓ} : {A : Type ℓ} (d : Dec A) (answer : Answer) → Told answer → Told (require d answer)
 require-no (yes a) answer x = fine-no
 require-no (no n) answer x = x
 
-first-no : (n : ℕ) (f : ℕ → Answer) → ((k : ℕ) → Unaccepted (f k)) → Unaccepted (first n f)
+first-no : (n : ℕ) (f : ℕ → Answer) → ((k : ℕ) → Told (f k)) → Told (first n f)
 unfolding first
 first-no zero f x = fine-no
 first-no (suc n) f x = then-no (first n f) (f n) (first-no n f x) (x n)
@@ -64,57 +78,57 @@ after (failed n vs) b cells x e = absurd (failed-not-accepted n vs cells e)
 pub after-unaccepted : (a : Answer) (last cells : ℕ) → Unaccepted a → a then accepted last ≡ accepted cells → (a ≡ fine) × (last ≡ cells)
 after-unaccepted a last cells x e = let both = after a (accepted last) cells x e in (both .0, accepted-same last cells (both .1))
 
-cond-no : (t : Bool) (a b : Answer) → Unaccepted a → Unaccepted b → Unaccepted (cond t a b)
+cond-no : (t : Bool) (a b : Answer) → Told a → Told b → Told (cond t a b)
 cond-no true a b x y = x
 cond-no false a b x y = y
 
-limited-no : (least greatest place x : ℕ) → Unaccepted (limited least greatest place x)
+limited-no : (least greatest place x : ℕ) → Told (limited least greatest place x)
 limited-no least greatest place x =
-    cond-no (ltb x least) (refused 4 place) (cond (ltb greatest x) (refused 4 place) fine) (refused-no 4 place) (cond-no (ltb greatest x) (refused 4 place) fine (refused-no 4 place) fine-no)
+    cond-no (ltb x least) (refused 4 place) (cond (ltb greatest x) (refused 4 place) fine) (refused-no 4 place (omega arith)) (cond-no (ltb greatest x) (refused 4 place) fine (refused-no 4 place (omega arith)) fine-no)
 
-below-no : (limit number place : ℕ) (ws : List ℕ) → Unaccepted (below limit number place ws)
+below-no : (limit number place : ℕ) → 0 < number → (ws : List ℕ) → Told (below limit number place ws)
 unfolding below
-below-no limit number place [] = fine-no
-below-no limit number place (w ∷ ws) = cond-no (ltb w limit) (below limit number (place + 1) ws) (refused number place) (below-no limit number (place + 1) ws) (refused-no number place)
+below-no limit number place h [] = fine-no
+below-no limit number place h (w ∷ ws) = cond-no (ltb w limit) (below limit number (place + 1) ws) (refused number place) (below-no limit number (place + 1) h ws) (refused-no number place h)
 
-counted-no : (number : ℕ) (ws : List ℕ) (place : ℕ) (ss : List Section) → Unaccepted (counted number ws place ss)
+counted-no : (number : ℕ) → 0 < number → (ws : List ℕ) (place : ℕ) (ss : List Section) → Told (counted number ws place ss)
 unfolding counted
-counted-no number ws place [] = fine-no
-counted-no number ws place (s ∷ ss) =
+counted-no number h ws place [] = fine-no
+counted-no number h ws place (s ∷ ss) =
     let next = place + 1 + s .count in
     let long = require (decLe next (length ws)) (refused number (length ws)) in
     cond-no (ltb place (length ws))
     (cond (eqb (getD ws place 0) (s .count)) (long then counted number ws next ss) (refused number place))
     (refused number (length ws))
     (cond-no (eqb (getD ws place 0) (s .count)) (long then counted number ws next ss) (refused number place)
-    (then-no long (counted number ws next ss) (require-no (decLe next (length ws)) (refused number (length ws)) (refused-no number (length ws))) (counted-no number ws next ss))
-    (refused-no number place))
-    (refused-no number (length ws))
+    (then-no long (counted number ws next ss) (require-no (decLe next (length ws)) (refused number (length ws)) (refused-no number (length ws) h)) (counted-no number h ws next ss))
+    (refused-no number place h))
+    (refused-no number (length ws) h)
 
-layout-no : (number : ℕ) (ws : List ℕ) (place : ℕ) (ss : List Section) → Unaccepted (layout number ws place ss)
+layout-no : (number : ℕ) → 0 < number → (ws : List ℕ) (place : ℕ) (ss : List Section) → Told (layout number ws place ss)
 unfolding layout
-layout-no number ws place ss =
+layout-no number h ws place ss =
     let end = place + span ss in
-    then-no (counted number ws place ss) (require (decLe (length ws) end) (refused number end)) (counted-no number ws place ss)
-    (require-no (decLe (length ws) end) (refused number end) (refused-no number end))
+    then-no (counted number ws place ss) (require (decLe (length ws) end) (refused number end)) (counted-no number h ws place ss)
+    (require-no (decLe (length ws) end) (refused number end) (refused-no number end h))
 
-in-range-no : (range : Range) (number place : ℕ) (ws : List ℕ) → Unaccepted (in-range range number place ws)
-in-range-no free number place ws = fine-no
-in-range-no (under limit) number place ws = below-no limit number place ws
+in-range-no : (range : Range) (number place : ℕ) → 0 < number → (ws : List ℕ) → Told (in-range range number place ws)
+in-range-no free number place h ws = fine-no
+in-range-no (under limit) number place h ws = below-no limit number place h ws
 
-ranged-no : (number : ℕ) (ws : List ℕ) (place : ℕ) (ss : List Section) → Unaccepted (ranged number ws place ss)
+ranged-no : (number : ℕ) → 0 < number → (ws : List ℕ) (place : ℕ) (ss : List Section) → Told (ranged number ws place ss)
 unfolding ranged
-ranged-no number ws place [] = fine-no
-ranged-no number ws place (s ∷ ss) =
+ranged-no number h ws place [] = fine-no
+ranged-no number h ws place (s ∷ ss) =
     let own = part ws (place + 1) (s .count) in
-    then-no (in-range (s .range) number (place + 1) own) (ranged number ws (place + 1 + s .count) ss) (in-range-no (s .range) number (place + 1) own) (ranged-no number ws (place + 1 + s .count) ss)
+    then-no (in-range (s .range) number (place + 1) own) (ranged number ws (place + 1 + s .count) ss) (in-range-no (s .range) number (place + 1) h own) (ranged-no number h ws (place + 1 + s .count) ss)
 
 infixl 20 _and_
 -- two answers, one after the other
-_and_ : {a b : Answer} → Unaccepted a → Unaccepted b → Unaccepted (a then b)
+_and_ : {a b : Answer} → Told a → Told b → Told (a then b)
 _and_ {a} {b} x y = then-no a b x y
 
-limits-no : (P : Parameters) → Unaccepted (limits P)
+limits-no : (P : Parameters) → Told (limits P)
 unfolding limits
 limits-no P =
     limited-no 1 64 1 (P .n)
@@ -124,87 +138,99 @@ limits-no P =
     and limited-no 1 16 5 (P .κ₂)
     and limited-no 0 64 6 (P .K)
     and limited-no 0 64 7 (P .l)
-    and require-no (decLe 1 (P .K + P .l)) (refused 4 7) (refused-no 4 7)
+    and require-no (decLe 1 (P .K + P .l)) (refused 4 7) (refused-no 4 7 (omega arith))
     and limited-no 16 32 8 (P .log-q)
     and limited-no 2 4294967294 9 (P .b)
     and limited-no 1 32 10 (P .t₁)
     and limited-no 1 32 11 (P .t₂)
     and limited-no 1 32 12 (P .L)
 
-job-no : (J : List ℕ) → Unaccepted (job-refusal J)
+job-no : (J : List ℕ) → Told (job-refusal J)
 unfolding job-refusal enough-aggregations
 job-no J =
     let P = parameters J in
-    counted-no 3 J 0 first-section
+    counted-no 3 (omega arith) J 0 first-section
     and limits-no P
-    and require-no (decLe (rounded-up (P .log-q)) (P .L)) (refused 5 12) (refused-no 5 12)
-    and layout-no 3 J 31 (job-sections P)
-    and ranged-no 6 J 31 (job-sections P)
+    and require-no (decLe (rounded-up (P .log-q)) (P .L)) (refused 5 12) (refused-no 5 12 (omega arith))
+    and layout-no 3 (omega arith) J 31 (job-sections P)
+    and ranged-no 6 (omega arith) J 31 (job-sections P)
 
-refusal-no : (J R X : List ℕ) (lent : ℕ) → Unaccepted (verify-refusal J R X lent)
+refusal-no : (J R X : List ℕ) (lent : ℕ) → Told (verify-refusal J R X lent)
 unfolding verify-refusal randomness-refusal transcript-refusal
 refusal-no J R X lent =
     let P = parameters J in
     job-no J
-    and (layout-no 7 R 0 (take 7 (randomness-sections P)) and ranged-no 8 R 0 (take 7 (randomness-sections P)))
-    and (layout-no 9 X 0 (transcript-sections P) and ranged-no 10 X 0 (transcript-sections P))
-    and require-no (decLe (scratch-need P) lent) (refused 1 (scratch-need P)) (refused-no 1 (scratch-need P))
+    and (layout-no 7 (omega arith) R 0 (take 7 (randomness-sections P)) and ranged-no 8 (omega arith) R 0 (take 7 (randomness-sections P)))
+    and (layout-no 9 (omega arith) X 0 (transcript-sections P) and ranged-no 10 (omega arith) X 0 (transcript-sections P))
+    and require-no (decLe (scratch-need P) lent) (refused 1 (scratch-need P)) (refused-no 1 (scratch-need P) (omega arith))
+
+-- the refusals of a whole call on many transcripts
+pub many-no : (J : List ℕ) (count lent : ℕ) → Told (many-refusal J count lent)
+unfolding many-refusal
+many-no J count lent =
+    let need = many-need (parameters J) count in
+    require-no (decLe 1 count) (refused 35 0) (refused-no 35 0 (omega arith))
+    and require-no (decLe count 8) (refused 35 0) (refused-no 35 0 (omega arith))
+    and (job-no J and require-no (decLe need lent) (refused 1 need) (refused-no 1 need (omega arith)))
 
 module _ (X : Public) (M : Message) where
   open Public X using (P, A, c)
   open Parameters P using (n, r, κ, κ₁, κ₂, L, beta-sq, beta-prime-sq)
 
-  no-21 : Unaccepted (check-21 X M)
+  no-21 : Told (check-21 X M)
   unfolding check-21
-  no-21 = require-no (decLe (norm (table 256 (M .p))) (128 * beta-sq)) _ (failed-no 21 _)
+  no-21 = require-no (decLe (norm (table 256 (M .p))) (128 * beta-sq)) _ (failed-no 21 _ (omega arith))
 
-  no-22 : Unaccepted (check-22 X M)
+  no-22 : Told (check-22 X M)
   unfolding check-22
-  no-22 = first-no L _ (λ k. require-no (ℕ-discrete (coeff (words (M .b″ k)) 0) _) _ (failed-no 22 _))
+  no-22 = first-no L _ (λ k. require-no (ℕ-discrete (coeff (words (M .b″ k)) 0) _) _ (failed-no 22 _ (omega arith)))
 
-  no-23 : Unaccepted (check-23 X M)
+  no-23 : Told (check-23 X M)
   unfolding check-23
-  no-23 = require-no (decLe _ beta-prime-sq) _ (failed-no 23 _)
+  no-23 = require-no (decLe _ beta-prime-sq) _ (failed-no 23 _ (omega arith))
 
-  no-24 : Unaccepted (check-24 X M)
+  no-24 : Told (check-24 X M)
   unfolding check-24
-  no-24 = first-no κ _ (λ k. require-no (same (dot n (A k) (M .z)) (sum r (λ i. M .t i k ⊗ c i))) _ (failed-no 24 []))
+  no-24 = first-no κ _ (λ k. require-no (same (dot n (A k) (M .z)) (sum r (λ i. M .t i k ⊗ c i))) _ (failed-no 24 [] (omega arith)))
 
-  no-25 : Unaccepted (check-25 X M)
+  no-25 : Told (check-25 X M)
   unfolding check-25
-  no-25 = require-no (same (dot n (M .z) (M .z)) (pairs r (λ i j. M .g i j ⊗ c i ⊗ c j))) _ (failed-no 25 [])
+  no-25 = require-no (same (dot n (M .z) (M .z)) (pairs r (λ i j. M .g i j ⊗ c i ⊗ c j))) _ (failed-no 25 [] (omega arith))
 
-  no-26 : Unaccepted (check-26 X M)
+  no-26 : Told (check-26 X M)
   unfolding check-26
-  no-26 = require-no (same (twice (sum r (λ i. dot n (φ-sum X i) (M .z) ⊗ c i))) (pairs r (λ i j. M .h i j ⊗ c i ⊗ c j))) _ (failed-no 26 [])
+  no-26 = require-no (same (twice (sum r (λ i. dot n (φ-sum X i) (M .z) ⊗ c i))) (pairs r (λ i j. M .h i j ⊗ c i ⊗ c j))) _ (failed-no 26 [] (omega arith))
 
-  no-27 : Unaccepted (check-27 X M)
+  no-27 : Told (check-27 X M)
   unfolding check-27
-  no-27 = require-no (same (twice (pairs r (λ i j. a-sum X i j ⊗ M .g i j)) ⊕ sum r (λ i. M .h i i)) (twice (b-sum X (M .b″)))) _ (failed-no 27 [])
+  no-27 = require-no (same (twice (pairs r (λ i j. a-sum X i j ⊗ M .g i j)) ⊕ sum r (λ i. M .h i i)) (twice (b-sum X (M .b″)))) _ (failed-no 27 [] (omega arith))
 
-  no-28 : Unaccepted (check-28 X M)
+  no-28 : Told (check-28 X M)
   unfolding check-28
-  no-28 = first-no κ₁ _ (λ k. require-no (same (M .u₁ k) (u₁-of X (M .t) (M .g) k)) _ (failed-no 28 []))
+  no-28 = first-no κ₁ _ (λ k. require-no (same (M .u₁ k) (u₁-of X (M .t) (M .g) k)) _ (failed-no 28 [] (omega arith)))
 
-  no-29 : Unaccepted (check-29 X M)
+  no-29 : Told (check-29 X M)
   unfolding check-29
-  no-29 = first-no κ₂ _ (λ k. require-no (same (M .u₂ k) (u₂-of X (M .h) k)) _ (failed-no 29 []))
+  no-29 = first-no κ₂ _ (λ k. require-no (same (M .u₂ k) (u₂-of X (M .h) k)) _ (failed-no 29 [] (omega arith)))
 
-  no-14 : Unaccepted (t-norm X (M .t))
+  no-14 : Told (t-norm X (M .t))
   unfolding t-norm
-  no-14 = require-no (decLe (norm-of (t-digits X (M .t))) (P .bound-B)) _ (refused-no 14 0)
+  no-14 = require-no (decLe (norm-of (t-digits X (M .t))) (P .bound-B)) _ (refused-no 14 0 (omega arith))
 
-  no-15 : Unaccepted (g-norm X (M .g))
+  no-15 : Told (g-norm X (M .g))
   unfolding g-norm
-  no-15 = require-no (decLe (norm-of (g-digits X (M .g))) (P .bound-C)) _ (refused-no 15 0)
+  no-15 = require-no (decLe (norm-of (g-digits X (M .g))) (P .bound-C)) _ (refused-no 15 0 (omega arith))
 
-  no-16 : Unaccepted (h-norm X (M .h))
+  no-16 : Told (h-norm X (M .h))
   unfolding h-norm
-  no-16 = require-no (decLe (norm-of (h-digits X (M .h))) (P .bound-D)) _ (refused-no 16 0)
+  no-16 = require-no (decLe (norm-of (h-digits X (M .h))) (P .bound-D)) _ (refused-no 16 0 (omega arith))
 
   -- 21 to 23
+  told-norms : Told (check-21 X M then check-22 X M then check-23 X M)
+  told-norms = then-no (check-21 X M then check-22 X M) (check-23 X M) (then-no (check-21 X M) (check-22 X M) no-21 no-22) no-23
+
   pub norms-no : Unaccepted (check-21 X M then check-22 X M then check-23 X M)
-  norms-no = then-no (check-21 X M then check-22 X M) (check-23 X M) (then-no (check-21 X M) (check-22 X M) no-21 no-22) no-23
+  norms-no = told-norms .unaccepted
 
   -- all checks, in order
   abbrev pub up-to-27 : Answer
@@ -213,15 +239,15 @@ module _ (X : Public) (M : Message) where
   abbrev pub up-to-29 : Answer
   up-to-29 = up-to-27 then t-norm X (M .t) then g-norm X (M .g) then check-28 X M then h-norm X (M .h) then check-29 X M
 
-  no-up-to-27 : Unaccepted up-to-27
+  no-up-to-27 : Told up-to-27
   no-up-to-27 =
       let a = check-21 X M then check-22 X M then check-23 X M in
       let b = a then check-24 X M in
       let d = b then check-25 X M in
       let e = d then check-26 X M in
-      then-no e (check-27 X M) (then-no d (check-26 X M) (then-no b (check-25 X M) (then-no a (check-24 X M) norms-no no-24) no-25) no-26) no-27
+      then-no e (check-27 X M) (then-no d (check-26 X M) (then-no b (check-25 X M) (then-no a (check-24 X M) told-norms no-24) no-25) no-26) no-27
 
-  no-up-to-29 : Unaccepted up-to-29
+  no-up-to-29 : Told up-to-29
   no-up-to-29 =
       let a = up-to-27 then t-norm X (M .t) in
       let b = a then g-norm X (M .g) in
@@ -232,7 +258,7 @@ module _ (X : Public) (M : Message) where
   -- where the checks accept, each passes, and the number is that of the cells that are sent
   pub accepted-checks : (cells : ℕ) → checks X M ≡ accepted cells → (up-to-29 ≡ fine) × (cells-left-of X (M .t) (M .g) (M .h) ≡ cells)
   unfolding checks
-  accepted-checks cells e = after-unaccepted up-to-29 _ cells no-up-to-29 e
+  accepted-checks cells e = after-unaccepted up-to-29 _ cells (no-up-to-29 .unaccepted) e
 
   -- what holds where the checks accept: 23, 28 and 29, on which binding rests, and the number
   pub record Passed (cells : ℕ) : Type 0 where
@@ -267,7 +293,18 @@ module _ (X : Public) (M : Message) where
 pub accepted-passes : (J R X : List ℕ) (lent cells : ℕ) → verify J R X lent ≡ accepted cells → Passed (public J R) (message (parameters J) X) cells
 unfolding verify
 accepted-passes J R X lent cells e =
-    passed (public J R) (message (parameters J) X) cells (after (verify-refusal J R X lent) (checks (public J R) (message (parameters J) X)) cells (refusal-no J R X lent) e .1)
+    passed (public J R) (message (parameters J) X) cells (after (verify-refusal J R X lent) (checks (public J R) (message (parameters J) X)) cells (refusal-no J R X lent .unaccepted) e .1)
+
+-- a verdict with the number 0 is an acceptance
+pub zero-accepts : (J R X : List ℕ) (lent : ℕ) → number (verify J R X lent) ≡ 0 → (cells : ℕ) × (verify J R X lent ≡ accepted cells)
+unfolding verify checks
+zero-accepts J R X lent e =
+    let Y = public J R in
+    let M = message (parameters J) X in
+    let cells = cells-left-of Y (M .t) (M .g) (M .h) in
+    let one = told-fine (verify-refusal J R X lent) (checks Y M) (refusal-no J R X lent) e in
+    let two = told-fine (up-to-29 Y M) (accepted cells) (no-up-to-29 Y M) (one .1) in
+    (cells, ap₂ (λ a b. a then (b then accepted cells)) (one .0) (two .0))
 
 -- and its job is refused nothing
 accepted-job : (J R X : List ℕ) (lent cells : ℕ) → verify J R X lent ≡ accepted cells → job-refusal J ≡ fine
@@ -275,7 +312,7 @@ unfolding verify verify-refusal
 accepted-job J R X lent cells e =
     let P = parameters J in
     let slices = job-refusal J then randomness-refusal P 7 R then transcript-refusal P X in
-    let none = after (verify-refusal J R X lent) (checks (public J R) (message P X)) cells (refusal-no J R X lent) e .0 in
+    let none = after (verify-refusal J R X lent) (checks (public J R) (message P X)) cells (refusal-no J R X lent .unaccepted) e .0 in
     then-fine-left (job-refusal J) (randomness-refusal P 7 R) (then-fine-left (job-refusal J then randomness-refusal P 7 R) (transcript-refusal P X) (then-fine-left slices (scratch-refusal P lent) none))
 
 -- a number that is not refused is at least its least value

@@ -10,6 +10,7 @@ use Rattle.definitions.proofs.Table.{Row, _is_, Holds}
 use Rattle.protocol.specs.Parameters.{parameters, limits, enough-aggregations}
 use Rattle.protocol.specs.Layout.{span, sections, counted, layout, ranged, job-refusal, randomness-refusal, witness-refusal, transcript-refusal}
 use Rattle.protocol.specs.Prover.{round₁, prove-refusal}
+use Rattle.protocol.specs.Many.{cut, many-refusal}
 
 -- words that are all 0
 abbrev pub zeros : ℕ → List ℕ
@@ -99,9 +100,14 @@ examples =
     is (refused 11 0 ∷ refused 11 65 ∷ refused 12 64 ∷ []))
     -- scratch and output each one word short; output alone; neither
     ∷ ((first-round [] zero-witness 5183 64 ∷ first-round [] zero-witness 5184 64 ∷ first-round [] zero-witness 5184 65 ∷ []) is (refused 1 5184 ∷ refused 2 65 ∷ fine ∷ []))
+    -- many transcripts (document 02, Item 11): none and nine, of an empty job; eight, of an empty job
+    ∷ ((many-refusal [] 0 0 ∷ many-refusal [] 9 0 ∷ many-refusal [] 8 0 ∷ []) is (refused 35 0 ∷ refused 35 0 ∷ refused 3 0 ∷ []))
+    -- three parts of two words: a surplus word is the last one's; a slice that ends early cuts one short and empties the last
+    ∷ ((cut 2 3 (1 ∷ 2 ∷ 3 ∷ 4 ∷ 5 ∷ 6 ∷ 7 ∷ []) 1 ∷ cut 2 3 (1 ∷ 2 ∷ 3 ∷ 4 ∷ 5 ∷ 6 ∷ 7 ∷ []) 2 ∷ []) is ((3 ∷ 4 ∷ []) ∷ (5 ∷ 6 ∷ 7 ∷ []) ∷ []))
+    ∷ ((cut 2 3 (1 ∷ 2 ∷ 3 ∷ []) 1 ∷ cut 2 3 (1 ∷ 2 ∷ 3 ∷ []) 2 ∷ []) is ((3 ∷ []) ∷ [] ∷ []))
     ∷ []
 
 -- each row of the table holds
 pub examples-hold : Holds examples
-unfolding job-refusal randomness-refusal witness-refusal transcript-refusal prove-refusal counted limits enough-aggregations layout ranged span sections below decLe ℕ-discrete
-examples-hold = (refl, (refl, (refl, (refl, (refl, (refl, (refl, (refl, (refl, (refl, (refl, (refl, (refl, (refl, (refl, (refl, tt))))))))))))))))
+unfolding many-refusal cut job-refusal randomness-refusal witness-refusal transcript-refusal prove-refusal counted limits enough-aggregations layout ranged span sections below decLe ℕ-discrete
+examples-hold = (refl, (refl, (refl, (refl, (refl, (refl, (refl, (refl, (refl, (refl, (refl, (refl, (refl, (refl, (refl, (refl, (refl, (refl, (refl, tt)))))))))))))))))))

@@ -12,3 +12,4 @@ pub mod Kept
 pub mod Ranges
 pub mod Load
 pub mod Mistyped
+pub mod Many

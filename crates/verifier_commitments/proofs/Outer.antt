@@ -114,7 +114,7 @@ module _ (J X : List ℕ) (p : EnvironmentParameters) (s : Posed J X p) where
   pub u₂-within : (at : ℕ) → at ≡ transcript-at (parametersOf p) 3 → at + 64 * p .«kappa_2» ≤ length X
   u₂-within at e = transcript-room s 3 at (omega arith) e
 
-  u₂-canonical : (at : ℕ) → at ≡ transcript-at (parametersOf p) 3 → CanonicalFrom X at (64 * p .«kappa_2»)
+  pub u₂-canonical : (at : ℕ) → at ≡ transcript-at (parametersOf p) 3 → CanonicalFrom X at (64 * p .«kappa_2»)
   u₂-canonical at e =
       subst (λ a. CanonicalFrom X a (64 * p .«kappa_2»)) (sym e)
       (subst (λ Q. CanonicalFrom X (transcript-at Q 3) (64 * Q .κ₂)) (sym (s .same))
@@ -124,7 +124,7 @@ module _ (J X : List ℕ) (p : EnvironmentParameters) (s : Posed J X p) where
   pub u₁-within : (at : ℕ) → at ≡ transcript-at (parametersOf p) 0 → at + 64 * p .«kappa_1» ≤ length X
   u₁-within at e = transcript-room s 0 at (omega arith) e
 
-  u₁-canonical : (at : ℕ) → at ≡ transcript-at (parametersOf p) 0 → CanonicalFrom X at (64 * p .«kappa_1»)
+  pub u₁-canonical : (at : ℕ) → at ≡ transcript-at (parametersOf p) 0 → CanonicalFrom X at (64 * p .«kappa_1»)
   u₁-canonical at e =
       subst (λ a. CanonicalFrom X a (64 * p .«kappa_1»)) (sym e)
       (subst (λ Q. CanonicalFrom X (transcript-at Q 0) (64 * Q .κ₁)) (sym (s .same))

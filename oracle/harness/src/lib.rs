@@ -4,6 +4,7 @@ pub mod cases;
 pub mod instances;
 pub mod leaves;
 pub mod loads;
+pub mod many;
 pub mod mistyped;
 pub mod random;
 pub mod ranges;

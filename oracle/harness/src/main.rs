@@ -1,7 +1,7 @@
 //! Runs the published Rust, the model of document 01 and the proved library on the same cases.
 //!
 //! `harness compare SEED COUNT [largest]` compares, on COUNT random instances beside the fixed families.
-//! `harness only STAGE SEED COUNT` compares one stage of the calls that the Rust does not have: recompose, ranges, mistyped or sheds.
+//! `harness only STAGE SEED COUNT` compares one stage of the calls that the Rust does not have: recompose, ranges, mistyped, sheds or many.
 //! `harness load-sums`, `range-sums`, `mistyped-sums` and `shed-sums` print the rows of whole test loads, of calls on ranges, of lists of
 //! mistyped constants and of runs of witness vectors that `bindings/test.c` has.
 //! `harness record FOLDER` writes the recorded answers. `harness replay FOLDER` reads them back and compares them with
@@ -13,7 +13,7 @@ use harness::instances::{apart, one_kind, small, Instance};
 use harness::random::Random;
 use harness::record::Recorder;
 use harness::tally::Tally;
-use harness::{loads, mistyped, ranges, recompose, replay, rust, sheds, slices, unfit, whole};
+use harness::{loads, many, mistyped, ranges, recompose, replay, rust, sheds, slices, unfit, whole};
 use model::Call;
 use std::path::Path;
 use std::process::ExitCode;
@@ -85,6 +85,8 @@ fn compare(seed: u64, count: u64, largest: bool) -> bool {
     context.tally.stage("mistyped constants");
     sheds::all(&mut context.tally, &mut Random::new(seed), 12.max(count as usize / 4));
     context.tally.stage("projection worked by shed");
+    many::all(&mut context.tally, &mut Random::new(seed), 12.max(count as usize / 8));
+    context.tally.stage("many transcripts");
     loads::all(&mut context, &mut Random::new(seed), 300.max(count as usize));
     context.tally.stage("test loads");
     let base = whole::base(&mut random, whole::pair_parameters());
@@ -137,6 +139,7 @@ fn only(stage: &str, seed: u64, count: usize) -> bool {
         "ranges" => ranges::all(&mut tally, random, count),
         "mistyped" => mistyped::all(&mut tally, random, count),
         "sheds" => sheds::all(&mut tally, random, count),
+        "many" => many::all(&mut tally, random, count),
         _ => panic!("no stage {stage}"),
     }
     tally.stage(stage);

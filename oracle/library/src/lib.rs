@@ -4,6 +4,7 @@ use model::calls::{Leaf, LeafAnswer};
 use model::{Answer, Call};
 
 pub mod load;
+pub mod many;
 pub mod mistyped;
 pub mod ranges;
 pub mod recompose;
@@ -205,6 +206,19 @@ pub struct Handed<'a> {
     pub output: &'a mut [u32],
 }
 
+impl From<whole_calls::Verdict> for Answer {
+    fn from(a: whole_calls::Verdict) -> Answer {
+        Answer {
+            number: a.number,
+            place: a.place,
+            index: a.index,
+            first: u128::from(a.first_hi) << 64 | u128::from(a.first_lo),
+            second: u128::from(a.second_hi) << 64 | u128::from(a.second_lo),
+            cells_left: a.cells_left,
+        }
+    }
+}
+
 /// A call on whole slices.
 pub fn whole(call: Call, handed: Handed) -> Answer {
     use whole_calls::*;
@@ -236,14 +250,7 @@ pub fn whole(call: Call, handed: Handed) -> Answer {
                     scratch.len(),
                 )
             };
-            return Answer {
-                number: a.number,
-                place: a.place,
-                index: a.index,
-                first: u128::from(a.first_hi) << 64 | u128::from(a.first_lo),
-                second: u128::from(a.second_hi) << 64 | u128::from(a.second_lo),
-                cells_left: a.cells_left,
-            };
+            return Answer::from(a);
         }
     };
     let a = unsafe {

@@ -7,6 +7,7 @@ pub mod conditions;
 pub mod formulas;
 pub mod leaves;
 pub mod load;
+pub mod many;
 pub mod mistyped;
 pub mod ranges;
 pub mod recompose;

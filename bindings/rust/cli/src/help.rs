@@ -101,6 +101,15 @@ pub const VERIFY: Command = Command {
     example: "labrador verify --job a.job --randomness a.randomness --transcript a.transcript --report a.html",
 };
 
+pub const VERIFY_MANY: Command = Command {
+    name: "verify-many",
+    usage: "labrador verify-many --job FILE RANDOMNESS TRANSCRIPT [RANDOMNESS TRANSCRIPT]…",
+    about: "Judges one to eight transcripts for one job, each with its own randomness, and prints a line for each. The job is read once \
+            for all. Exit status 0 all accepted, 1 a failed check, 2 one is refused.",
+    options: &[JOB, JSON, HELP],
+    example: "labrador verify-many --job a.job north.randomness north.transcript south.randomness south.transcript",
+};
+
 const FIRST: Opt = opt("--first", "NUMBER", "the run's first vector, counted from 0");
 const END: Opt = opt("--end", "NUMBER", "the vector after the run's last");
 const PROJECTION: Opt = opt("--projection", "FILE", "the run's projection words");
@@ -159,8 +168,19 @@ pub const EXPLAIN: Command = Command {
     example: "labrador explain 22",
 };
 
-pub const COMMANDS: [&Command; 10] =
-    [&LOAD, &DESCRIBE, &REVIEW, &PROVE, &VERIFY, &SHED_PARTS, &SHED_PROJECTION, &SHED_ROWS, &ADD_PROJECTIONS, &EXPLAIN];
+pub const COMMANDS: [&Command; 11] = [
+    &LOAD,
+    &DESCRIBE,
+    &REVIEW,
+    &PROVE,
+    &VERIFY,
+    &VERIFY_MANY,
+    &SHED_PARTS,
+    &SHED_PROJECTION,
+    &SHED_ROWS,
+    &ADD_PROJECTIONS,
+    &EXPLAIN,
+];
 
 impl Command {
     pub fn hint(&self) -> String {

@@ -9,6 +9,7 @@ mod layout;
 mod leaves;
 mod left;
 mod lent;
+mod many;
 mod mistyped;
 mod norms;
 mod review;

@@ -9,6 +9,7 @@ use crate::help::{self, Command};
 pub mod describe;
 pub mod explain;
 pub mod load;
+pub mod many;
 pub mod prove;
 pub mod review;
 pub mod sheds;
@@ -17,12 +18,13 @@ pub mod verify;
 type Run = fn(&Command, &Args) -> Outcome;
 
 fn found(name: &str) -> Option<(&'static Command, Run)> {
-    let runs: [Run; 10] = [
+    let runs: [Run; 11] = [
         load::run,
         describe::run,
         review::run,
         prove::run,
         verify::run,
+        many::run,
         sheds::parts,
         sheds::projection,
         sheds::rows,

@@ -39,7 +39,8 @@ fn place_of(refusal: &Refusal) -> Vec<(&'static str, Json)> {
     fields
 }
 
-fn end_of(verdict: &Verdict, slices: [&[u32]; 3]) -> End {
+/// A verdict's status, and what it is for machines.
+pub fn told(verdict: &Verdict) -> (Status, Vec<(&'static str, Json)>) {
     let (status, kind, more) = match verdict {
         Verdict::Accepted { cells_left } => (Status::Fine, "accepted", vec![("cells_left", Json::Number(*cells_left))]),
         Verdict::Failed(check) => (Status::Failed, "failed", figures(check)),
@@ -47,11 +48,20 @@ fn end_of(verdict: &Verdict, slices: [&[u32]; 3]) -> End {
     };
     let number = Json::Number(verdict.number().into());
     let told = vec![("verdict", Json::text(kind)), ("number", number)];
-    let line = match verdict {
+    (status, [told, more].concat())
+}
+
+/// A verdict in words; a refused file that is fit as another slice is told.
+pub fn line(verdict: &Verdict, slices: [&[u32]; 3]) -> String {
+    match verdict {
         Verdict::Refused(refusal) => judge::told(refusal, [0, 1, 2].map(|k| (SLICES[k], slices[k]))),
         _ => verdict.to_string(),
-    };
-    End::new(status, line).with(told).with(more)
+    }
+}
+
+fn end_of(verdict: &Verdict, slices: [&[u32]; 3]) -> End {
+    let (status, fields) = told(verdict);
+    End::new(status, line(verdict, slices)).with(fields)
 }
 
 /// Writes the page; where it fails, the verdict is told with it.

@@ -5,6 +5,7 @@ mod common;
 
 mod bad_files;
 mod desk;
+mod many;
 mod outputs;
 mod pages;
 mod readme;

@@ -151,6 +151,10 @@ fn wrong_calls_are_64() {
         "shed-projection --job a --first 0 --end 1 --vectors b --p c",
         "shed-projection --job a --first 0 --end 1 --projection b --vectors c --p b",
         "shed-parts --job a --first 0 --end 1 --randomness b --witness c --projection d --vectors d",
+        "verify-many --job a",
+        "verify-many --job a b",
+        "verify-many --job a b c d",
+        "verify-many a b",
         "add-projections --p a",
         "add-projections --p a b",
         "add-projections a b",
@@ -185,7 +189,8 @@ fn unfit_parameters_are_2() {
 fn every_command_has_help_with_an_example() {
     let desk = Desk::new("help");
     let sheds = ["shed-parts", "shed-projection", "shed-rows", "add-projections"];
-    for command in ["load", "describe", "review", "prove", "verify", "explain"].into_iter().chain(sheds) {
+    for command in ["load", "describe", "review", "prove", "verify", "verify-many", "explain"].into_iter().chain(sheds)
+    {
         for call in [format!("{command} --help"), format!("help {command}")] {
             let help = run(&desk, &call);
             assert_eq!((help.status, help.line.as_str()), (0, ""));

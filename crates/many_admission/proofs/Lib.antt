@@ -1,0 +1,5 @@
+pub mod Need
+mod Refused
+pub mod Found
+pub mod Verdicts
+pub mod Passing

@@ -1,0 +1,49 @@
+-- What the tests of a call on many transcripts find, and what holds where the whole call is refused nothing.
+use mathlib.Core.Path.{_≡_}
+use mathlib.Core.Bool.{Bool, true, false}
+use mathlib.Core.List.{List}
+use Prim.Native.Nat.{ℕ, _≤_, _<_}
+use lib.ListN.{getD}
+use Rattle.definitions.specs.Answer.{Answer, fine, refused, ofRefusal}
+use Rattle.protocol.specs.Parameters.{Parameters, parameters}
+use Rattle.protocol.specs.Layout.{job-refusal}
+use Rattle.protocol.specs.Many.{many-need, part-refusal}
+use Rattle.relation.specs.declared.env_params.EnvironmentParameters.{EnvironmentParameters}
+use Rattle.relation.specs.Parameters.{parametersOf}
+use Rattle.admission.specs.declared.answers.Checked.{Checked}
+use Rattle.admission.specs.declared.answers.Checked.the-variants as C
+use Rattle.admission.specs.Admission.{ofChecked}
+use Rattle.many_admission.specs.declared.whole.ManyAdmitted.{ManyAdmitted}
+use Rattle.many_admission.specs.declared.whole.ManyAdmitted.the-variants as A
+
+-- "It refuses with 35, at place 0, a number of transcripts outside 1 to 8": the numbers and places of what is found
+abbrev pub ofManyAdmitted : ManyAdmitted → Answer
+ofManyAdmitted A.Count = refused 35 0
+ofManyAdmitted (A.Refused r) = ofRefusal r
+ofManyAdmitted (A.Fit p) = fine
+
+-- a call that is not refused as a whole: its parameters are the job's, and the scratch is long enough
+pub record Given (J : List ℕ) (count scratch : ℕ) (p : EnvironmentParameters) : Type 0 where
+  pub fit : job-refusal J ≡ fine
+  pub same : parametersOf p ≡ parameters J
+  pub few : count ≤ 8
+  pub room : many-need (parameters J) count ≤ scratch
+
+-- a fact of the parameters of such a call
+abbrev pub AtMany : ManyAdmitted → (EnvironmentParameters → Type 0) → Type 0
+AtMany A.Count F = Unit {0}
+AtMany (A.Refused r) F = Unit {0}
+AtMany (A.Fit p) F = F p
+
+-- what is found of transcript m, of so many
+abbrev pub found-of : List Checked → ℕ → Checked
+found-of found m = getD found m C.Fine
+
+-- each transcript is refused what it is refused by itself
+abbrev pub PartsFound : Parameters → (count : ℕ) → (R T : List ℕ) → List Checked → Type 0
+PartsFound P count R T found = (m : ℕ) → m < count → ofChecked (found-of found m) ≡ part-refusal P count R T m
+
+-- whether a transcript passes 7 to 10
+abbrev pub passing : Checked → Bool
+passing C.Fine = true
+passing (C.Refused r) = false

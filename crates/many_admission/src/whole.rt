@@ -1,0 +1,78 @@
+// The refusals of the whole call: 35, the job's, and 1.
+use admission::answers::Admitted;
+use admission::answers::Checked;
+use admission::job;
+use definitions::answers::Refusal;
+use relation::env_params::EnvironmentParameters;
+use sizes::buffers;
+ghost use mathlib.Core.Path.{_≡_};
+ghost use Prim.Native.Nat.{_≤_};
+ghost use Rattle.relation.specs.Parameters.{parametersOf};
+ghost use Rattle.sizes.specs.Sizes.{Sized};
+ghost use Rattle.definitions.specs.Answer.{_then_};
+ghost use Rattle.protocol.specs.Parameters.{parameters};
+ghost use Rattle.protocol.specs.Layout.{job-refusal};
+ghost use Rattle.admission.specs.Admission.{ofChecked, ofAdmitted, At};
+ghost use Rattle.protocol.specs.Many.{many-need, need-refusal, many-refusal};
+ghost use Rattle.many_admission.specs.Admitted.{ofManyAdmitted, AtMany, Given};
+
+// What the whole call is refused, or the parameters of a job that is refused nothing.
+pub enum ManyAdmitted {
+    Count,
+    Refused(Refusal),
+    Fit(EnvironmentParameters),
+}
+
+// "Scratch is the single need times that number".
+pub fn need(p: EnvironmentParameters, count: usize) -> usize
+    requires { ⌜ Sized (parametersOf p) × (count ≤ 8) ⌝ }
+    ensures { λ r. ⌜ r ≡ many-need (parametersOf p) count ⌝ }
+{
+    let one = buffers::scratch_length(p);
+    count * one
+}
+
+// 1, with the length that all need.
+fn check_scratch(lent: usize, p: EnvironmentParameters, count: usize) -> Checked
+    requires { ⌜ Sized (parametersOf p) × (count ≤ 8) ⌝ }
+    ensures { λ r. ⌜ ofChecked r ≡ need-refusal (parametersOf p) count lent ⌝ }
+{
+    let needed = need(p, count);
+    if lent < needed {
+        Checked::Refused(Refusal::ScratchTooShort(needed))
+    } else {
+        Checked::Fine
+    }
+}
+
+// "a refused job or short scratch, tested right after the job".
+fn admit_job(job: &[u32], count: usize, scratch: usize) -> Admitted
+    requires { ⌜ count ≤ 8 ⌝ }
+    ensures { λ r. ⌜ ofAdmitted r ≡ job-refusal (now (job .entry)) then need-refusal (parameters (now (job .entry))) count scratch ⌝ }
+    ensures { λ r. ⌜ At r (Given (now (job .entry)) count scratch) ⌝ }
+{
+    match job::check(job) {
+        Admitted::Refused(refusal) => Admitted::Refused(refusal),
+        Admitted::Fit(p) => match check_scratch(scratch, p, count) {
+            Checked::Refused(refusal) => Admitted::Refused(refusal),
+            Checked::Fine => Admitted::Fit(p),
+        },
+    }
+}
+
+// 35 "before any other test".
+pub fn admit(job: &[u32], count: u32, scratch: usize) -> ManyAdmitted
+    ensures { λ r. ⌜ ofManyAdmitted r ≡ many-refusal (now (job .entry)) count scratch ⌝ }
+    ensures { λ r. ⌜ AtMany r (Given (now (job .entry)) count scratch) ⌝ }
+{
+    if count < 1 {
+        return ManyAdmitted::Count;
+    }
+    if 8 < count {
+        return ManyAdmitted::Count;
+    }
+    match admit_job(job, count as usize, scratch) {
+        Admitted::Refused(refusal) => ManyAdmitted::Refused(refusal),
+        Admitted::Fit(p) => ManyAdmitted::Fit(p),
+    }
+}

@@ -1,0 +1,121 @@
+// The checks 24, 28 and 29 of one transcript, from the products of the rows that stand in its window of the scratch (document 02, Item 11).
+use definitions::answers::Checked;
+use definitions::answers::FailedCheck;
+use regions::Regions;
+use relation::env_params::EnvironmentParameters;
+use rq::rq::Rq;
+use rq_matrix;
+use sizes::buffers;
+use sizes::offsets;
+use verifier_common::equal;
+use words;
+ghost use mathlib.Core.Path.{_≡_};
+ghost use Prim.Native.Nat.{_+_, _*_, _≤_, _<_};
+ghost use lib.ListN.{length};
+ghost use Rattle.lists.specs.Part.{part};
+ghost use Rattle.definitions.specs.Answer.{ofChecked};
+ghost use Rattle.protocol.specs.Parameters.{parameters};
+ghost use Rattle.protocol.specs.Layout.{scratch-need};
+ghost use Rattle.protocol.specs.Many.{row-count, products-at, Rows-done};
+ghost use Rattle.relation.specs.Parameters.{parametersOf};
+ghost use Rattle.sizes.specs.Sizes.{Sized};
+ghost use Rattle.workspace.specs.Ready.{Ready};
+ghost use Rattle.verifier_common.specs.Work.{Posed};
+ghost use Rattle.verifier_common.specs.Answers.{u1-differs, u2-differs};
+ghost use Rattle.verifier_relations.specs.Weighed.{az-of, challenges-in};
+
+// The product of a row.
+fn product(window: &[u32], p: EnvironmentParameters, row: usize) -> Rq
+    requires { ⌜ Sized (parametersOf p) × (row < 64) × (scratch-need (parametersOf p) ≤ length (now window)) ⌝ }
+    ensures { λ r. ⌜ r .coeffs ≡ part (now (window .entry)) (products-at (parametersOf p) + 64 * row) 64 ⌝ }
+{
+    let at = buffers::scratch_length(p) - 4096;
+    words::load(window, at + 64 * row)
+}
+
+// "24 A·z is not Σ t_i·c_i.", of the challenges in their region.
+pub fn check_az(
+    job: &[u32],
+    transcript: &[u32],
+    p: EnvironmentParameters,
+    q: Regions,
+    window: &[u32],
+) -> Checked
+    requires { ⌜ Posed (now job) (now transcript) p × Ready (now job) p q (now window) ⌝ }
+    requires { ⌜ Rows-done (now job) (now transcript) (now window) (row-count (parameters (now job))) ⌝ }
+    ensures { λ v. ⌜ ofChecked v ≡ az-of (now (job .entry)) (now (transcript .entry)) (challenges-in (now (window .entry)) q) ⌝ }
+{
+    let t_at = offsets::of_transcript(p, 5);
+    let kappa = p.kappa;
+    let mut k = 0;
+    while k < kappa {
+        let left = product(window, p, k);
+        let right = rq_matrix::column_sum(
+            transcript,
+            t_at,
+            kappa,
+            k,
+            window,
+            q.challenges,
+            p.multiplicity,
+        );
+        if !equal::same(left, right) {
+            return Checked::Failed(FailedCheck::Az);
+        }
+        k += 1;
+    }
+    Checked::Passed
+}
+
+// "28 u1 differs": row k of B's product and of C's, added.
+pub fn check_u1(
+    job: &[u32],
+    transcript: &[u32],
+    p: EnvironmentParameters,
+    window: &[u32],
+) -> Checked
+    requires { ⌜ Posed (now job) (now transcript) p × (scratch-need (parameters (now job)) ≤ length (now window)) ⌝ }
+    requires { ⌜ Rows-done (now job) (now transcript) (now window) (row-count (parameters (now job))) ⌝ }
+    ensures { λ v. ⌜ ofChecked v ≡ u1-differs (now (job .entry)) (now (transcript .entry)) ⌝ }
+{
+    let u_at = offsets::of_transcript(p, 0);
+    let rows = p.kappa_1;
+    let b = p.kappa;
+    let c = b + rows;
+    let mut k = 0;
+    while k < rows {
+        let sent = words::load(transcript, u_at + 64 * k);
+        let left = product(window, p, b + k);
+        let right = product(window, p, c + k);
+        if !equal::same(sent, left.add(right)) {
+            return Checked::Failed(FailedCheck::OuterCommitU1);
+        }
+        k += 1;
+    }
+    Checked::Passed
+}
+
+// "29 u2 differs": the products of D's rows.
+pub fn check_u2(
+    job: &[u32],
+    transcript: &[u32],
+    p: EnvironmentParameters,
+    window: &[u32],
+) -> Checked
+    requires { ⌜ Posed (now job) (now transcript) p × (scratch-need (parameters (now job)) ≤ length (now window)) ⌝ }
+    requires { ⌜ Rows-done (now job) (now transcript) (now window) (row-count (parameters (now job))) ⌝ }
+    ensures { λ v. ⌜ ofChecked v ≡ u2-differs (now (job .entry)) (now (transcript .entry)) ⌝ }
+{
+    let u_at = offsets::of_transcript(p, 3);
+    let rows = p.kappa_2;
+    let d = p.kappa + p.kappa_1 + p.kappa_1;
+    let mut k = 0;
+    while k < rows {
+        let sent = words::load(transcript, u_at + 64 * k);
+        if !equal::same(sent, product(window, p, d + k)) {
+            return Checked::Failed(FailedCheck::OuterCommitU2);
+        }
+        k += 1;
+    }
+    Checked::Passed
+}

@@ -1,0 +1,124 @@
+// The checks of one transcript after the rows' products stand in its window of the scratch (document 02, Item 11).
+use definitions::answers::Checked;
+use definitions::answers::Verdict;
+use many_checks;
+use regions::Regions;
+use relation::env_params::EnvironmentParameters;
+use verifier_commitments::outer_commitments;
+use verifier_common::verdict;
+use verifier_norms::norm_checks;
+use verifier_relations::relations;
+use workspace;
+ghost use mathlib.Core.Path.{_≡_};
+ghost use lib.ListN.{length};
+ghost use Rattle.definitions.specs.Answer.{_then_, ofChecked, ofVerdict};
+ghost use Rattle.protocol.specs.Parameters.{parameters};
+ghost use Rattle.protocol.specs.Layout.{scratch-need};
+ghost use Rattle.protocol.specs.Mistyped.{verdict-of};
+ghost use Rattle.protocol.specs.Many.{row-count, Rows-done};
+ghost use Rattle.relation.specs.Parameters.{parametersOf};
+ghost use Rattle.admission.specs.Admission.{Verifiable};
+ghost use Rattle.workspace.specs.Ready.{Ready};
+ghost use Rattle.workspace.specs.Holds.{Kept};
+ghost use Rattle.verifier_common.specs.Work.{Sent, Received};
+ghost use Rattle.verifier_common.specs.Answers.{az, t-and-g-bounds, h-bound};
+ghost use Rattle.verifier_relations.specs.Held.{Challenged};
+ghost use Rattle.verifier_relations.specs.Order.{relations};
+ghost use Rattle.verifier.specs.Order.{rest};
+
+// 24 to 27, in order, with what is found of 24.
+fn check_relations(
+    job: &[u32],
+    randomness: &[u32],
+    transcript: &[u32],
+    p: EnvironmentParameters,
+    q: Regions,
+    window: &mut [u32],
+    opened: Checked,
+) -> Checked
+    requires { ⌜ Sent (now job) (now randomness) (now transcript) p × Ready (now job) p q (now window) × Challenged (now job) (now randomness) q (now window) ⌝ }
+    requires { ⌜ ofChecked opened ≡ az (now job) (now randomness) (now transcript) ⌝ }
+    ensures { λ v. ⌜ ofChecked v ≡ relations (now (job .entry)) (now (randomness .entry)) (now (transcript .entry)) ⌝ }
+    ensures { λ v. ⌜ Kept (scratch-need (parameters (now (job .entry)))) (now (window .entry)) (now (window .exit)) ⌝ }
+{
+    let Checked::Passed = opened else {
+        return opened;
+    };
+    let second = relations::check_z_inner(transcript, p, q, window);
+    let Checked::Passed = second else {
+        return second;
+    };
+    relations::check_aggregated(job, randomness, transcript, p, q, window)
+}
+
+// 14, 15, 28, 16 and 29, in order, with what is found of 28 and 29.
+fn check_commitments(
+    transcript: &[u32],
+    p: EnvironmentParameters,
+    u1: Checked,
+    u2: Checked,
+) -> Checked
+    requires { ⌜ Received (now transcript) p ⌝ }
+    ensures { λ v. ⌜ ofChecked v ≡ (t-and-g-bounds (parametersOf p) (now (transcript .entry)) then ofChecked u1) then (h-bound (parametersOf p) (now (transcript .entry)) then ofChecked u2) ⌝ }
+{
+    let bounds = outer_commitments::check_t_and_g(transcript, p);
+    let Checked::Passed = bounds else {
+        return bounds;
+    };
+    let Checked::Passed = u1 else {
+        return u1;
+    };
+    let bound = outer_commitments::check_h(transcript, p);
+    let Checked::Passed = bound else {
+        return bound;
+    };
+    u2
+}
+
+// The checks from 24 on, in order: 24, 28 and 29 from the products, before the scratch before them is used.
+fn check_rest(
+    job: &[u32],
+    randomness: &[u32],
+    transcript: &[u32],
+    p: EnvironmentParameters,
+    q: Regions,
+    window: &mut [u32],
+) -> Checked
+    requires { ⌜ Sent (now job) (now randomness) (now transcript) p × Ready (now job) p q (now window) ⌝ }
+    requires { ⌜ Rows-done (now job) (now transcript) (now window) (row-count (parameters (now job))) ⌝ }
+    ensures { λ v. ⌜ ofChecked v ≡ rest (now (job .entry)) (now (randomness .entry)) (now (transcript .entry)) ⌝ }
+    ensures { λ v. ⌜ Kept (scratch-need (parameters (now (job .entry)))) (now (window .entry)) (now (window .exit)) ⌝ }
+{
+    workspace::generate_challenges(randomness, p, q, window);
+    let opened = many_checks::check_az(job, transcript, p, q, window);
+    let u1 = many_checks::check_u1(job, transcript, p, window);
+    let u2 = many_checks::check_u2(job, transcript, p, window);
+    let first = check_relations(job, randomness, transcript, p, q, window, opened);
+    let Checked::Passed = first else {
+        return first;
+    };
+    check_commitments(transcript, p, u1, u2)
+}
+
+// All checks, in order; an acceptance has the number of cells with something left.
+pub fn judge(
+    job: &[u32],
+    randomness: &[u32],
+    transcript: &[u32],
+    p: EnvironmentParameters,
+    window: &mut [u32],
+) -> Verdict
+    requires { ⌜ Verifiable (now job) (now randomness) (now transcript) (length (now window)) p ⌝ }
+    requires { ⌜ length (now window) ≡ scratch-need (parameters (now job)) ⌝ }
+    requires { ⌜ Rows-done (now job) (now transcript) (now window) (row-count (parameters (now job))) ⌝ }
+    ensures { λ v. ⌜ ofVerdict v ≡ verdict-of (now (job .entry)) (now (randomness .entry)) (now (transcript .entry)) ⌝ }
+    ensures { λ v. ⌜ length (now (window .exit)) ≡ length (now (window .entry)) ⌝ }
+{
+    let q = regions::lay_out(p.rank, p.multiplicity, p.kappa, p.const_agg_length);
+    let first = norm_checks::check_norms(job, randomness, transcript, p);
+    let Verdict::Accepted(cells_left) = first else {
+        return first;
+    };
+    let rest = check_rest(job, randomness, transcript, p, q, window);
+    verdict::verdict_of(rest, cells_left)
+}

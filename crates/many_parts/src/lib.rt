@@ -1,0 +1,110 @@
+// Transcripts that lie end to end, and their randomness (document 02, Item 11): each part, and what it is refused by itself.
+use admission::answers::Checked;
+use admission::calls::Call;
+use admission::randomness;
+use admission::transcript;
+use layout::sections;
+use relation::env_params::EnvironmentParameters;
+use sizes::slices;
+ghost use mathlib.Core.Path.{_≡_};
+ghost use Prim.Native.Nat.{_≤_, _<_, _^_};
+ghost use Rattle.protocol.specs.Layout.{span, randomness-sections, transcript-sections, randomness-refusal, transcript-refusal};
+ghost use Rattle.protocol.specs.Many.{randomness-part, transcript-part, part-refusal};
+ghost use Rattle.relation.specs.Parameters.{parametersOf};
+ghost use Rattle.sizes.specs.Sizes.{Sized};
+ghost use Rattle.admission.specs.Admission.{ofChecked};
+ghost use Rattle.many_parts.specs.Bounds.{bounded};
+
+// A part of a slice, up to but not including `to`.
+pub struct Bounds {
+    pub from: usize,
+    pub to: usize,
+}
+
+// Part m of `count` in a slice of `handed` words: "a slice that ends early cuts short or empties those at its end, surplus words belong to the last".
+pub fn bounds_of(handed: usize, len: usize, count: usize, m: usize) -> Bounds
+    requires { ⌜ (m < count) × (count ≤ 8) × (len < 2 ^ 32) ⌝ }
+    ensures { λ r. ⌜ r ≡ bounded handed len count m ⌝ }
+{
+    let start = m * len;
+    if handed <= start {
+        return Bounds {
+            from: handed,
+            to: handed,
+        };
+    }
+    let end = start + len;
+    if m + 1 == count {
+        return Bounds {
+            from: start,
+            to: handed,
+        };
+    }
+    if handed <= end {
+        return Bounds {
+            from: start,
+            to: handed,
+        };
+    }
+    Bounds {
+        from: start,
+        to: end,
+    }
+}
+
+// The bounds of randomness m in a slice of `handed` words.
+pub fn randomness_bounds(handed: usize, p: EnvironmentParameters, count: usize, m: usize) -> Bounds
+    requires { ⌜ (m < count) × (count ≤ 8) × Sized (parametersOf p) ⌝ }
+    ensures { λ r. ⌜ r ≡ bounded handed (span (randomness-sections (parametersOf p))) count m ⌝ }
+{
+    let len = sections::span(slices::randomness_sections(p, 7), 0, 7);
+    bounds_of(handed, len, count, m)
+}
+
+// The bounds of transcript m in a slice of `handed` words.
+pub fn transcript_bounds(handed: usize, p: EnvironmentParameters, count: usize, m: usize) -> Bounds
+    requires { ⌜ (m < count) × (count ≤ 8) × Sized (parametersOf p) ⌝ }
+    ensures { λ r. ⌜ r ≡ bounded handed (span (transcript-sections (parametersOf p))) count m ⌝ }
+{
+    let len = sections::span(slices::transcript_sections(p), 0, 8);
+    bounds_of(handed, len, count, m)
+}
+
+// 7 and 8 of randomness m.
+fn check_randomness(words: &[u32], p: EnvironmentParameters, count: usize, m: usize) -> Checked
+    requires { ⌜ (m < count) × (count ≤ 8) × Sized (parametersOf p) ⌝ }
+    ensures { λ r. ⌜ ofChecked r ≡ randomness-refusal (parametersOf p) 7 (randomness-part (parametersOf p) count (now (words .entry)) m) ⌝ }
+{
+    let b = randomness_bounds(words.len(), p, count, m);
+    let from = b.from;
+    let to = b.to;
+    randomness::check(&words[from..to], p, Call::Whole)
+}
+
+// 9 and 10 of transcript m.
+fn check_transcript(words: &[u32], p: EnvironmentParameters, count: usize, m: usize) -> Checked
+    requires { ⌜ (m < count) × (count ≤ 8) × Sized (parametersOf p) ⌝ }
+    ensures { λ r. ⌜ ofChecked r ≡ transcript-refusal (parametersOf p) (transcript-part (parametersOf p) count (now (words .entry)) m) ⌝ }
+{
+    let b = transcript_bounds(words.len(), p, count, m);
+    let from = b.from;
+    let to = b.to;
+    transcript::check(&words[from..to], p)
+}
+
+// 7, 8, 9 and 10 of transcript m with its randomness: "places count from a transcript's own start".
+pub fn check_part(
+    randomness: &[u32],
+    transcripts: &[u32],
+    p: EnvironmentParameters,
+    count: usize,
+    m: usize,
+) -> Checked
+    requires { ⌜ (m < count) × (count ≤ 8) × Sized (parametersOf p) ⌝ }
+    ensures { λ r. ⌜ ofChecked r ≡ part-refusal (parametersOf p) count (now (randomness .entry)) (now (transcripts .entry)) m ⌝ }
+{
+    match check_randomness(randomness, p, count, m) {
+        Checked::Refused(refusal) => Checked::Refused(refusal),
+        Checked::Fine => check_transcript(transcripts, p, count, m),
+    }
+}

@@ -1,0 +1,209 @@
+// The product of one row of A, B, C or D with one transcript, stored in its place (document 02, Item 11).
+use commitments::outer_commitments;
+use commitments::outer_commitments::Digits;
+use inner_product;
+use many_digits;
+use relation::env_params::EnvironmentParameters;
+use sizes::offsets;
+use sizes::slices;
+use words;
+use zq::wide::wide;
+ghost use mathlib.Core.Path.{_≡_};
+ghost use mathlib.Core.Bool.{true};
+ghost use Prim.Native.Nat.{_+_, _*_, _≤_, _<_};
+ghost use lib.ListN.{length};
+ghost use Rattle.lists.specs.Part.{splice};
+ghost use Rattle.definitions.specs.Ring.{words};
+ghost use Rattle.protocol.specs.Parameters.{parameters};
+ghost use Rattle.protocol.specs.Many.{row-count, row-product};
+ghost use Rattle.commitments.specs.Cells.{width, Room, digits-product, Cells};
+ghost use Rattle.relation.specs.Parameters.{parametersOf};
+ghost use Rattle.verifier_common.specs.Work.{Posed};
+ghost use Rattle.many_row.specs.Row.{of-A, of-B, of-C, of-D};
+ghost use Rattle.many_row.specs.Held.{DigitsHeld, AllHeld};
+
+// Where the digits of t, g and h of a transcript stand in the scratch, if they are stored.
+pub struct Held {
+    pub stored: bool,
+    pub t: usize,
+    pub g: usize,
+    pub h: usize,
+}
+
+// The product of row k of a matrix with the digits of cells, which may be stored from `at` on.
+fn store_digits(
+    job: &[u32],
+    m_at: usize,
+    k: usize,
+    transcript: &[u32],
+    d: Digits,
+    base: u32,
+    scratch: &mut [u32],
+    place: usize,
+    stored: bool,
+    at: usize,
+)
+    requires { ⌜ Room (now job) «m_at» (k * width d + width d) × Cells (now transcript) d × (1 < base) × Room (now scratch) place 1 ⌝ }
+    requires { ⌜ (stored ≡ true → DigitsHeld (now scratch) at (now transcript) d base) ⌝ }
+    ensures { λ _. ⌜ now (scratch .exit) ≡ splice (now (scratch .entry)) place (words (digits-product (now (job .entry)) «m_at» (now (transcript .entry)) d base k)) ⌝ }
+{
+    let cells = d.cells;
+    let parts = d.parts;
+    let row = m_at + 64 * (k * (cells * parts));
+    if stored {
+        let half = wide(base / 2);
+        let product = many_digits::row_product(job, row, scratch, at, cells, parts, half);
+        words::store(scratch, place, product);
+    } else {
+        outer_commitments::compute_u2(job, row, 1, transcript, d, base, scratch, place);
+    }
+}
+
+// Row k of A with z.
+pub fn store_of_a(
+    job: &[u32],
+    p: EnvironmentParameters,
+    k: usize,
+    transcript: &[u32],
+    scratch: &mut [u32],
+    place: usize,
+)
+    requires { ⌜ Posed (now job) (now transcript) p × (k < p .kappa) × Room (now scratch) place 1 ⌝ }
+    ensures { λ _. ⌜ now (scratch .exit) ≡ splice (now (scratch .entry)) place (words (of-A (now (job .entry)) (now (transcript .entry)) k)) ⌝ }
+{
+    let n = p.rank;
+    let row = offsets::of_job(p, 6) + 64 * (k * n);
+    let z_at = offsets::of_transcript(p, 4);
+    let product = inner_product::inner_product(job, row, 64, transcript, z_at, 64, n);
+    words::store(scratch, place, product);
+}
+
+// Row k of B with the digits of t.
+pub fn store_of_b(
+    job: &[u32],
+    p: EnvironmentParameters,
+    k: usize,
+    transcript: &[u32],
+    scratch: &mut [u32],
+    place: usize,
+    held: Held,
+)
+    requires { ⌜ Posed (now job) (now transcript) p × (k < p .«kappa_1») × Room (now scratch) place 1 ⌝ }
+    requires { ⌜ (held .stored ≡ true → AllHeld (now job) (now transcript) (now scratch) held) ⌝ }
+    ensures { λ _. ⌜ now (scratch .exit) ≡ splice (now (scratch .entry)) place (words (of-B (now (job .entry)) (now (transcript .entry)) k)) ⌝ }
+{
+    let t = Digits {
+        at: offsets::of_transcript(p, 5),
+        cells: p.multiplicity * p.kappa,
+        parts: p.t_1,
+    };
+    let b_at = offsets::of_job(p, 7);
+    store_digits(
+        job,
+        b_at,
+        k,
+        transcript,
+        t,
+        p.b,
+        scratch,
+        place,
+        held.stored,
+        held.t,
+    );
+}
+
+// Row k of C with the digits of g.
+pub fn store_of_c(
+    job: &[u32],
+    p: EnvironmentParameters,
+    k: usize,
+    transcript: &[u32],
+    scratch: &mut [u32],
+    place: usize,
+    held: Held,
+)
+    requires { ⌜ Posed (now job) (now transcript) p × (k < p .«kappa_1») × Room (now scratch) place 1 ⌝ }
+    requires { ⌜ (held .stored ≡ true → AllHeld (now job) (now transcript) (now scratch) held) ⌝ }
+    ensures { λ _. ⌜ now (scratch .exit) ≡ splice (now (scratch .entry)) place (words (of-C (now (job .entry)) (now (transcript .entry)) k)) ⌝ }
+{
+    let g = Digits {
+        at: offsets::of_transcript(p, 6),
+        cells: slices::triangle(p.multiplicity),
+        parts: p.t_2,
+    };
+    let c_at = offsets::of_job(p, 8);
+    store_digits(
+        job,
+        c_at,
+        k,
+        transcript,
+        g,
+        p.b,
+        scratch,
+        place,
+        held.stored,
+        held.g,
+    );
+}
+
+// Row k of D with the digits of h.
+pub fn store_of_d(
+    job: &[u32],
+    p: EnvironmentParameters,
+    k: usize,
+    transcript: &[u32],
+    scratch: &mut [u32],
+    place: usize,
+    held: Held,
+)
+    requires { ⌜ Posed (now job) (now transcript) p × (k < p .«kappa_2») × Room (now scratch) place 1 ⌝ }
+    requires { ⌜ (held .stored ≡ true → AllHeld (now job) (now transcript) (now scratch) held) ⌝ }
+    ensures { λ _. ⌜ now (scratch .exit) ≡ splice (now (scratch .entry)) place (words (of-D (now (job .entry)) (now (transcript .entry)) k)) ⌝ }
+{
+    let h = Digits {
+        at: offsets::of_transcript(p, 7),
+        cells: slices::triangle(p.multiplicity),
+        parts: p.t_1,
+    };
+    let d_at = offsets::of_job(p, 9);
+    store_digits(
+        job,
+        d_at,
+        k,
+        transcript,
+        h,
+        p.b,
+        scratch,
+        place,
+        held.stored,
+        held.h,
+    );
+}
+
+// Row `row` of A, B, C and D, one after another.
+pub fn store_row(
+    job: &[u32],
+    p: EnvironmentParameters,
+    row: usize,
+    transcript: &[u32],
+    scratch: &mut [u32],
+    place: usize,
+    held: Held,
+)
+    requires { ⌜ Posed (now job) (now transcript) p × (row < row-count (parametersOf p)) × Room (now scratch) place 1 ⌝ }
+    requires { ⌜ (held .stored ≡ true → AllHeld (now job) (now transcript) (now scratch) held) ⌝ }
+    ensures { λ _. ⌜ now (scratch .exit) ≡ splice (now (scratch .entry)) place (words (row-product (now (job .entry)) (now (transcript .entry)) row)) ⌝ }
+{
+    let b = p.kappa;
+    let c = b + p.kappa_1;
+    let d = c + p.kappa_1;
+    if row < b {
+        store_of_a(job, p, row, transcript, scratch, place);
+    } else if row < c {
+        store_of_b(job, p, row - b, transcript, scratch, place, held);
+    } else if row < d {
+        store_of_c(job, p, row - c, transcript, scratch, place, held);
+    } else {
+        store_of_d(job, p, row - d, transcript, scratch, place, held);
+    }
+}

@@ -1,0 +1,136 @@
+// The rows of A, B, C and D one after another, each for every transcript that passes 7 to 10 before the next (document 02, Item 11).
+use many_parts;
+use many_row;
+use many_row::Held;
+use many_windows;
+use relation::env_params::EnvironmentParameters;
+use sizes::buffers;
+use words;
+ghost use mathlib.Core.Path.{_≡_};
+ghost use mathlib.Core.Bool.{true, false};
+ghost use Prim.Native.Nat.{_+_, _≤_, _<_};
+ghost use lib.ListN.{length, getD};
+ghost use Rattle.protocol.specs.Parameters.{parameters};
+ghost use Rattle.protocol.specs.Kept.{Kept};
+ghost use Rattle.protocol.specs.Many.{many-need, transcript-part, row-count, All-rows-done};
+ghost use Rattle.relation.specs.Parameters.{parametersOf};
+ghost use Rattle.commitments.specs.Cells.{Room};
+ghost use Rattle.verifier_common.specs.Work.{Posed};
+ghost use Rattle.many_row.specs.Held.{AllHeld};
+ghost use Rattle.many_windows.specs.Digits.{Stored-digits};
+ghost use Rattle.many_rows.specs.Rows.{Rowable, stored-for};
+
+// One row's product for transcript m, where it passes, in the window that starts at `start`.
+fn row_of_one(
+    job: &[u32],
+    p: EnvironmentParameters,
+    row: usize,
+    count: usize,
+    m: usize,
+    pass: bool,
+    transcripts: &[u32],
+    scratch: &mut [u32],
+    place: usize,
+    held: Held,
+)
+    requires { ⌜ (m < count) × (count ≤ 8) × (row < row-count (parametersOf p)) × Room (now scratch) place 1 ⌝ }
+    requires { ⌜ (pass ≡ true → Posed (now job) (transcript-part (parameters (now job)) count (now transcripts) m) p) ⌝ }
+    requires { ⌜ (pass ≡ true → held .stored ≡ true → AllHeld (now job) (transcript-part (parameters (now job)) count (now transcripts) m) (now scratch) held) ⌝ }
+    ensures { λ _. ⌜ now (scratch .exit) ≡ stored-for (now (job .entry)) (now (transcripts .entry)) count row m place pass (now (scratch .entry)) ⌝ }
+{
+    if pass {
+        let b = many_parts::transcript_bounds(transcripts.len(), p, count, m);
+        let from = b.from;
+        let to = b.to;
+        many_row::store_row(job, p, row, &transcripts[from..to], scratch, place, held);
+    }
+}
+
+// One row's products for every transcript that passes.
+fn row_of_all(
+    job: &[u32],
+    p: EnvironmentParameters,
+    row: usize,
+    count: usize,
+    passes: [bool; 8],
+    transcripts: &[u32],
+    scratch: &mut [u32],
+    stored: bool,
+)
+    requires { ⌜ Rowable (now job) (now transcripts) count (λ m. getD passes m false) (length (now scratch)) p × (row < row-count (parametersOf p)) ⌝ }
+    requires { ⌜ All-rows-done (now job) count (λ m. getD passes m false) (now transcripts) (now scratch) row ⌝ }
+    requires { ⌜ Stored-digits (now job) count (λ m. getD passes m false) (now transcripts) (now scratch) stored ⌝ }
+    ensures { λ _. ⌜ All-rows-done (now (job .entry)) count (λ m. getD passes m false) (now (transcripts .entry)) (now (scratch .exit)) (row + 1) ⌝ }
+    ensures { λ _. ⌜ Stored-digits (now (job .entry)) count (λ m. getD passes m false) (now (transcripts .entry)) (now (scratch .exit)) stored ⌝ }
+    ensures { λ _. ⌜ Kept (many-need (parameters (now (job .entry))) count) (now (scratch .entry)) (now (scratch .exit)) ⌝ }
+{
+    let need = buffers::scratch_length(p);
+    let mut m = 0;
+    let mut start = 0;
+    while m < count {
+        let pass = passes[m];
+        let place = start + need - 4096 + 64 * row;
+        let held = many_windows::places(p, start, stored);
+        row_of_one(
+            job,
+            p,
+            row,
+            count,
+            m,
+            pass,
+            transcripts,
+            scratch,
+            place,
+            held,
+        );
+        start += need;
+        m += 1;
+    }
+}
+
+// The rows one after another.
+fn all_rows(
+    job: &[u32],
+    p: EnvironmentParameters,
+    count: usize,
+    passes: [bool; 8],
+    transcripts: &[u32],
+    scratch: &mut [u32],
+    stored: bool,
+)
+    requires { ⌜ Rowable (now job) (now transcripts) count (λ m. getD passes m false) (length (now scratch)) p ⌝ }
+    requires { ⌜ All-rows-done (now job) count (λ m. getD passes m false) (now transcripts) (now scratch) 0 ⌝ }
+    requires { ⌜ Stored-digits (now job) count (λ m. getD passes m false) (now transcripts) (now scratch) stored ⌝ }
+    ensures { λ _. ⌜ All-rows-done (now (job .entry)) count (λ m. getD passes m false) (now (transcripts .entry)) (now (scratch .exit)) (row-count (parameters (now (job .entry)))) ⌝ }
+    ensures { λ _. ⌜ Kept (many-need (parameters (now (job .entry))) count) (now (scratch .entry)) (now (scratch .exit)) ⌝ }
+{
+    let rows = p.kappa + p.kappa_1 + p.kappa_1 + p.kappa_2;
+    let mut row = 0;
+    while row < rows {
+        row_of_all(job, p, row, count, passes, transcripts, scratch, stored);
+        row += 1;
+    }
+}
+
+// All rows, with the digits stored where they have room.
+pub fn row_products(
+    job: &[u32],
+    p: EnvironmentParameters,
+    count: usize,
+    passes: [bool; 8],
+    transcripts: &[u32],
+    scratch: &mut [u32],
+)
+    requires { ⌜ Rowable (now job) (now transcripts) count (λ m. getD passes m false) (length (now scratch)) p ⌝ }
+    ensures { λ _. ⌜ All-rows-done (now (job .entry)) count (λ m. getD passes m false) (now (transcripts .entry)) (now (scratch .exit)) (row-count (parameters (now (job .entry)))) ⌝ }
+    ensures { λ _. ⌜ Kept (many-need (parameters (now (job .entry))) count) (now (scratch .entry)) (now (scratch .exit)) ⌝ }
+{
+    let need = buffers::scratch_length(p);
+    words::clear(scratch, count * need);
+    if many_windows::fits(p) {
+        many_windows::digits_of_all(job, p, count, passes, transcripts, scratch);
+        all_rows(job, p, count, passes, transcripts, scratch, true);
+    } else {
+        all_rows(job, p, count, passes, transcripts, scratch, false);
+    }
+}

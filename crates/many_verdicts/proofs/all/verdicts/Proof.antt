@@ -1,0 +1,93 @@
+-- `verdicts` meets its contract. The invariant: the verdicts on the first m transcripts stand in their places, and the windows from m on are as they were.
+use mathlib.Core.Path.{_≡_, sym, ap, subst, _∙_}
+use mathlib.Core.List.{List}
+use Prim.Native.Nat.{ℕ, _+_, _-_, _*_, _≤_}
+use native.Mathlib.Nat.{mul-le-mul-right}
+use native.Mathlib.Omega.{arith}
+use borrow.Author.Needs.{needs}
+use Rattle.lists.specs.Table.{padded}
+use Rattle.lists.proofs.Padded.{padded-none, padded-next}
+use Rattle.protocol.specs.Parameters.{parameters}
+use Rattle.protocol.specs.Layout.{scratch-need}
+use Rattle.protocol.specs.Kept.{Kept}
+use Rattle.protocol.specs.Many.{many-need, part-verdict, transcript-part, Rows-done, row-count}
+use Rattle.call_answers.specs.declared.verdicts.LabradorVerdict.{LabradorVerdict}
+use Rattle.call_answers.specs.Calls.{labradorVerdict}
+use Rattle.workspace.proofs.Kept.{kept-refl, kept-trans, kept-weaken}
+use Rattle.many_verdicts.specs.Windows.{unused}
+use Rattle.many_verdicts.proofs.Windows.{same-window}
+use Rattle.many_verdicts.proofs.all.verdicts.Statement.{statement}
+use Rattle.many_verdicts.proofs.all.verdicts.Tie as tie
+
+-- the verdict on transcript m
+abbrev of-part : (J : List ℕ) (count : ℕ) (R T : List ℕ) → ℕ → LabradorVerdict
+of-part J count R T m = labradorVerdict (part-verdict J count R T m)
+
+abbrev Inv-loop : tie.InvT-loop
+Inv-loop job randomness transcripts p count scratch₀ found out₀ m₀ scratch out m =
+    (m ≤ count) × (out ≡ padded 8 m unused (of-part job count randomness transcripts)) × Kept (many-need (parameters job) m) scratch₀ scratch
+
+abbrev μ-loop : tie.MeasureT-loop
+μ-loop job randomness transcripts p count scratch₀ found out₀ m₀ scratch out m = count - m
+
+loop-holds : tie.Need-loop-holds Inv-loop μ-loop
+loop-holds c =
+    let a = c .before .before .before .before .before .args in
+    (omega arith, c .eight .ensures ∙ padded-none 8 unused (of-part (a .job .now) (a .count) (a .randomness .now) (a .transcripts .now)), kept-refl _ _)
+
+verdict-requires : tie.Need-verdict-requires Inv-loop μ-loop
+verdict-requires c κs =
+    let l = c .before .before .before .loop in
+    let s = c .before .before .before .before .before .before .before .before .before in
+    let a = s .args in
+    let P = parameters (a .job .now) in
+    let k = l .inv .2 in
+    let g = s .pre .0 .0 in (
+      (record { fit = g .fit; same = g .same; few = g .few; room = subst (λ n. many-need P (a .count) ≤ n) (sym (k .size)) (g .room) }, c .before .before .loop-test .taken),
+      (
+        s .pre .0 .1 (l .m) (c .before .before .loop-test .taken),
+        λ pass. subst (λ w. Rows-done (a .job .now) (transcript-part P (a .count) (a .transcripts .now) (l .m)) w (row-count P)) (sym (same-window (a .scratch .now) (l .scratch) (l .m) (scratch-need P) k)) (s .pre .1 (l .m) (c .before .before .loop-test .taken) pass),
+      ),
+    )
+
+loop-again : tie.Need-loop-again Inv-loop μ-loop
+loop-again c =
+    let l = c .before .before .before .before .before .before .loop in
+    let s = c .before .before .before .before .before .before .before .before .before .before .before .before in
+    let a = s .args in
+    let P = parameters (a .job .now) in
+    let e = c .before .before .verdict .ensures in
+    let more : l .m * scratch-need P ≤ (l .m + 1) * scratch-need P = mul-le-mul-right (scratch-need P) (omega arith) in (
+      omega arith,
+      padded-next 8 unused (of-part (a .job .now) (a .count) (a .randomness .now) (a .transcripts .now)) (l .out) (l .m) (c .before .before .verdict .result) (l .inv .1) (omega (arith, s .pre .0 .0 .few)) (e .0),
+      kept-trans (many-need P (l .m + 1)) (a .scratch .now) (l .scratch) _ (kept-weaken (many-need P (l .m)) (many-need P (l .m + 1)) (a .scratch .now) (l .scratch) more (l .inv .2)) (e .1),
+    )
+
+returns : tie.Need-returns Inv-loop μ-loop
+returns c =
+    let l = c .before .loop in
+    let a = c .before .before .before .before .before .before .before .args in
+    let P = parameters (a .job .now) in
+    let n : l .m ≡ a .count = omega arith in (
+      l .inv .1 ∙ ap (λ k. padded 8 k unused (of-part (a .job .now) (a .count) (a .randomness .now) (a .transcripts .now))) n,
+      subst (λ k. Kept (many-need P k) (a .scratch .now) (l .scratch)) n (l .inv .2),
+    )
+
+pub verdicts-spec : {M : Type 1} → statement M
+verdicts-spec =
+    tie.close
+    (tie.spec
+    Inv-loop
+    μ-loop
+    (λ c κs. search needs)
+    loop-holds
+    (λ c. omega arith)
+    (λ c. omega arith)
+    verdict-requires
+    (λ c. omega arith)
+    (λ c. omega arith)
+    (λ c. omega arith)
+    (λ c. omega arith)
+    loop-again
+    (λ c. c .before .loop .inv .2 .size)
+    returns)

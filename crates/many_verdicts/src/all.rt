@@ -1,0 +1,55 @@
+// The verdicts on all transcripts.
+use crate::part;
+use admission::answers::Checked;
+use call_answers::verdicts::LabradorVerdict;
+use relation::env_params::EnvironmentParameters;
+ghost use mathlib.Core.Path.{_≡_};
+ghost use lib.ListN.{length, replicate};
+ghost use Rattle.protocol.specs.Parameters.{parameters};
+ghost use Rattle.protocol.specs.Kept.{Kept};
+ghost use Rattle.protocol.specs.Many.{many-need};
+ghost use Rattle.call_answers.specs.Calls.{failedCheck};
+ghost use Rattle.many_admission.specs.Admitted.{Given, PartsFound};
+ghost use Rattle.many_verdicts.specs.Windows.{Rows-ready, verdicts-of};
+
+// Eight times a number and zeros.
+pub fn eight(number: u32) -> [LabradorVerdict; 8]
+    ensures { λ r. ⌜ r ≡ replicate 8 (failedCheck number 0 0 0) ⌝ }
+{
+    [LabradorVerdict {
+        number,
+        index: 0,
+        first_hi: 0,
+        first_lo: 0,
+        second_hi: 0,
+        second_lo: 0,
+        place: 0,
+        cells_left: 0,
+    }; 8]
+}
+
+// "gives eight verdicts, those past the number marked unused"
+pub fn verdicts(
+    job: &[u32],
+    randomness: &[u32],
+    transcripts: &[u32],
+    p: EnvironmentParameters,
+    count: usize,
+    found: [Checked; 8],
+    scratch: &mut [u32],
+) -> [LabradorVerdict; 8]
+    requires { ⌜ Given (now job) count (length (now scratch)) p × PartsFound (parameters (now job)) count (now randomness) (now transcripts) found ⌝ }
+    requires { ⌜ Rows-ready (now job) count (now randomness) (now transcripts) (now scratch) ⌝ }
+    ensures { λ r. ⌜ r ≡ verdicts-of (now (job .entry)) count (now (randomness .entry)) (now (transcripts .entry)) ⌝ }
+    ensures { λ r. ⌜ Kept (many-need (parameters (now (job .entry))) count) (now (scratch .entry)) (now (scratch .exit)) ⌝ }
+{
+    let mut out = eight(4294967295);
+    let mut m = 0;
+    while m < count {
+        let one = found[m];
+        let v = part::verdict(job, randomness, transcripts, p, count, m, one, scratch);
+        out[m] = v;
+        m += 1;
+    }
+    out
+}

@@ -1,0 +1,102 @@
+// The verdict on one transcript.
+use admission::answers::Checked;
+use call_answers::verdicts;
+use call_answers::verdicts::LabradorVerdict;
+use definitions::answers::Verdict;
+use many_judge::judge;
+use many_parts::randomness_bounds;
+use many_parts::transcript_bounds;
+use relation::env_params::EnvironmentParameters;
+use sizes::buffers;
+ghost use mathlib.Core.Path.{_≡_};
+ghost use Prim.Native.Nat.{_+_, _≤_, _<_};
+ghost use lib.ListN.{length};
+ghost use Rattle.definitions.specs.Answer.{fine, ofVerdict};
+ghost use Rattle.protocol.specs.Parameters.{parameters};
+ghost use Rattle.protocol.specs.Layout.{scratch-need};
+ghost use Rattle.protocol.specs.Kept.{Kept};
+ghost use Rattle.protocol.specs.Mistyped.{verdict-of};
+ghost use Rattle.protocol.specs.Many.{many-need, part-refusal, part-verdict, row-count, Rows-done, window};
+ghost use Rattle.admission.specs.Admission.{Verifiable, ofChecked};
+ghost use Rattle.call_answers.specs.Calls.{labradorVerdict};
+ghost use Rattle.many_admission.specs.Admitted.{Given};
+ghost use Rattle.many_verdicts.specs.Windows.{Part-ready, Ready-if-passing};
+
+// With the parts of transcript m lent on, and its window of the scratch.
+fn judge_window(
+    job: &[u32],
+    randomness: &[u32],
+    transcript: &[u32],
+    p: EnvironmentParameters,
+    m: usize,
+    scratch: &mut [u32],
+) -> Verdict
+    requires { ⌜ Verifiable (now job) (now randomness) (now transcript) (scratch-need (parameters (now job))) p ⌝ }
+    requires { ⌜ (m < 8) × (many-need (parameters (now job)) (m + 1) ≤ length (now scratch)) ⌝ }
+    requires { ⌜ Rows-done (now job) (now transcript) (window (parameters (now job)) (now scratch) m) (row-count (parameters (now job))) ⌝ }
+    ensures { λ v. ⌜ ofVerdict v ≡ verdict-of (now (job .entry)) (now (randomness .entry)) (now (transcript .entry)) ⌝ }
+    ensures { λ v. ⌜ Kept (many-need (parameters (now (job .entry))) (m + 1)) (now (scratch .entry)) (now (scratch .exit)) ⌝ }
+{
+    let need = buffers::scratch_length(p);
+    let from = m * need;
+    let to = from + need;
+    judge(job, randomness, transcript, p, &mut scratch[from..to])
+}
+
+// Of transcript m, which passes 7 to 10.
+fn judge_part(
+    job: &[u32],
+    randomness: &[u32],
+    transcripts: &[u32],
+    p: EnvironmentParameters,
+    count: usize,
+    m: usize,
+    scratch: &mut [u32],
+) -> Verdict
+    requires { ⌜ Given (now job) count (length (now scratch)) p × (m < count) ⌝ }
+    requires { ⌜ part-refusal (parameters (now job)) count (now randomness) (now transcripts) m ≡ fine ⌝ }
+    requires { ⌜ Part-ready (now job) count (now transcripts) m (now scratch) ⌝ }
+    ensures { λ v. ⌜ ofVerdict v ≡ part-verdict (now (job .entry)) count (now (randomness .entry)) (now (transcripts .entry)) m ⌝ }
+    ensures { λ v. ⌜ Kept (many-need (parameters (now (job .entry))) (m + 1)) (now (scratch .entry)) (now (scratch .exit)) ⌝ }
+{
+    let r = randomness_bounds(randomness.len(), p, count, m);
+    let r_from = r.from;
+    let r_to = r.to;
+    let t = transcript_bounds(transcripts.len(), p, count, m);
+    let t_from = t.from;
+    let t_to = t.to;
+    judge_window(
+        job,
+        &randomness[r_from..r_to],
+        &transcripts[t_from..t_to],
+        p,
+        m,
+        scratch,
+    )
+}
+
+// Of transcript m, by what is found of it: "A transcript that is refused doesn't alter the others".
+pub fn verdict(
+    job: &[u32],
+    randomness: &[u32],
+    transcripts: &[u32],
+    p: EnvironmentParameters,
+    count: usize,
+    m: usize,
+    found: Checked,
+    scratch: &mut [u32],
+) -> LabradorVerdict
+    requires { ⌜ Given (now job) count (length (now scratch)) p × (m < count) ⌝ }
+    requires { ⌜ ofChecked found ≡ part-refusal (parameters (now job)) count (now randomness) (now transcripts) m ⌝ }
+    requires { ⌜ Ready-if-passing (now job) count (now randomness) (now transcripts) m (now scratch) ⌝ }
+    ensures { λ v. ⌜ v ≡ labradorVerdict (part-verdict (now (job .entry)) count (now (randomness .entry)) (now (transcripts .entry)) m) ⌝ }
+    ensures { λ v. ⌜ Kept (many-need (parameters (now (job .entry))) (m + 1)) (now (scratch .entry)) (now (scratch .exit)) ⌝ }
+{
+    match found {
+        Checked::Refused(refusal) => verdicts::verdict_of(Verdict::Refused(refusal)),
+        Checked::Fine => {
+            let judged = judge_part(job, randomness, transcripts, p, count, m, scratch);
+            verdicts::verdict_of(judged)
+        }
+    }
+}

@@ -1,0 +1,126 @@
+// The digits of t, g and h of each transcript, stored at the start of its window of the scratch where they have room (document 02, Item 11).
+use commitments::outer_commitments::Digits;
+use many_digits;
+use many_parts;
+use many_row::Held;
+use relation::env_params::EnvironmentParameters;
+use sizes::buffers;
+use sizes::offsets;
+use sizes::slices;
+ghost use mathlib.Core.Path.{_≡_};
+ghost use mathlib.Core.Bool.{true, false};
+ghost use Prim.Native.Nat.{_*_, _≤_, _<_, _^_};
+ghost use lib.Dec.{leb};
+ghost use lib.ListN.{length, getD};
+ghost use Rattle.lists.specs.Part.{splice};
+ghost use Rattle.protocol.specs.Parameters.{parameters};
+ghost use Rattle.protocol.specs.Kept.{Kept};
+ghost use Rattle.protocol.specs.Many.{many-need, transcript-part, products-at, All-rows-done};
+ghost use Rattle.relation.specs.Parameters.{parametersOf};
+ghost use Rattle.commitments.specs.Cells.{Room};
+ghost use Rattle.sizes.specs.Sizes.{Sized};
+ghost use Rattle.verifier_common.specs.Work.{Posed, Received};
+ghost use Rattle.many_windows.specs.Rowable.{Rowable};
+ghost use Rattle.many_windows.specs.Digits.{digit-count, Fitting, window-digits, digits-for, Places, All-digits};
+
+// Whether the digits of a transcript have room in its window before the products.
+pub fn fits(p: EnvironmentParameters) -> bool
+    requires { ⌜ Sized (parametersOf p) ⌝ }
+    ensures { λ r. ⌜ r ≡ leb (64 * digit-count (parametersOf p)) (products-at (parametersOf p)) ⌝ }
+{
+    let t = p.multiplicity * p.kappa * p.t_1;
+    let cells = slices::triangle(p.multiplicity);
+    let gh = cells * p.t_2 + cells * p.t_1;
+    64 * (t + gh) <= buffers::scratch_length(p) - 4096
+}
+
+// The places of the digits in the window that starts at `start`.
+pub fn places(p: EnvironmentParameters, start: usize, stored: bool) -> Held
+    requires { ⌜ Sized (parametersOf p) × (start < 2 ^ 61) ⌝ }
+    ensures { λ h. ⌜ Places (parametersOf p) start stored h ⌝ }
+{
+    let t = p.multiplicity * p.kappa * p.t_1;
+    let g = slices::triangle(p.multiplicity) * p.t_2;
+    Held {
+        stored,
+        t: start,
+        g: start + 64 * t,
+        h: start + 64 * t + 64 * g,
+    }
+}
+
+// The digits of t, g and h of a transcript, stored at their places.
+fn store_window(transcript: &[u32], p: EnvironmentParameters, scratch: &mut [u32], start: usize)
+    requires { ⌜ Received (now transcript) p × Room (now scratch) start (digit-count (parametersOf p)) ⌝ }
+    ensures { λ _. ⌜ now (scratch .exit) ≡ splice (now (scratch .entry)) start (window-digits (parametersOf p) (now (transcript .entry))) ⌝ }
+{
+    let at = places(p, start, true);
+    let cells = slices::triangle(p.multiplicity);
+    let t = Digits {
+        at: offsets::of_transcript(p, 5),
+        cells: p.multiplicity * p.kappa,
+        parts: p.t_1,
+    };
+    let g = Digits {
+        at: offsets::of_transcript(p, 6),
+        cells,
+        parts: p.t_2,
+    };
+    let h = Digits {
+        at: offsets::of_transcript(p, 7),
+        cells,
+        parts: p.t_1,
+    };
+    many_digits::store_cells(transcript, t, p.b, scratch, at.t);
+    many_digits::store_cells(transcript, g, p.b, scratch, at.g);
+    many_digits::store_cells(transcript, h, p.b, scratch, at.h);
+}
+
+// The digits of transcript m, where it passes.
+fn digits_of_one(
+    job: &[u32],
+    p: EnvironmentParameters,
+    count: usize,
+    m: usize,
+    pass: bool,
+    transcripts: &[u32],
+    scratch: &mut [u32],
+    start: usize,
+)
+    requires { ⌜ (m < count) × (count ≤ 8) × Room (now scratch) start (digit-count (parametersOf p)) ⌝ }
+    requires { ⌜ (pass ≡ true → Posed (now job) (transcript-part (parameters (now job)) count (now transcripts) m) p) ⌝ }
+    ensures { λ _. ⌜ now (scratch .exit) ≡ digits-for (now (job .entry)) (now (transcripts .entry)) count m start pass (now (scratch .entry)) ⌝ }
+{
+    if pass {
+        let b = many_parts::transcript_bounds(transcripts.len(), p, count, m);
+        let from = b.from;
+        let to = b.to;
+        store_window(&transcripts[from..to], p, scratch, start);
+    }
+}
+
+// The digits of every transcript that passes, each at the start of its window.
+pub fn digits_of_all(
+    job: &[u32],
+    p: EnvironmentParameters,
+    count: usize,
+    passes: [bool; 8],
+    transcripts: &[u32],
+    scratch: &mut [u32],
+)
+    requires { ⌜ Rowable (now job) (now transcripts) count (λ m. getD passes m false) (length (now scratch)) p × Fitting (parametersOf p) ⌝ }
+    requires { ⌜ All-rows-done (now job) count (λ m. getD passes m false) (now transcripts) (now scratch) 0 ⌝ }
+    ensures { λ _. ⌜ All-rows-done (now (job .entry)) count (λ m. getD passes m false) (now (transcripts .entry)) (now (scratch .exit)) 0 ⌝ }
+    ensures { λ _. ⌜ All-digits (now (job .entry)) count (λ m. getD passes m false) (now (transcripts .entry)) (now (scratch .exit)) ⌝ }
+    ensures { λ _. ⌜ Kept (many-need (parameters (now (job .entry))) count) (now (scratch .entry)) (now (scratch .exit)) ⌝ }
+{
+    let need = buffers::scratch_length(p);
+    let mut m = 0;
+    let mut start = 0;
+    while m < count {
+        let pass = passes[m];
+        digits_of_one(job, p, count, m, pass, transcripts, scratch, start);
+        start += need;
+        m += 1;
+    }
+}

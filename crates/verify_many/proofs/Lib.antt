@@ -1,0 +1,3 @@
+mod Rows
+mod Whole
+pub mod Openings

@@ -1,0 +1,62 @@
+-- What two openings of one commitment give away (document 02, Item 13), over two of the eight verdicts that the call's contract ensures.
+use mathlib.Core.Path.{_≡_, refl, sym, ap, _∙_}
+use mathlib.Core.List.{List, [], _∷_}
+use Prim.Native.Nat.{ℕ, _<_}
+use native.Mathlib.Decide.{decLt}
+use native.Mathlib.Omega.{arith}
+use lib.ListN.{length, getD, replicate}
+use Rattle.lists.proofs.Padded.{padded-below, padded-past}
+use Rattle.definitions.specs.Answer.{Answer, fine, accepted, refused, failed, number, result}
+use Rattle.protocol.specs.Many.{part-verdict}
+use Rattle.protocol.proofs.Acceptance.{many-no}
+use Rattle.call_answers.specs.declared.verdicts.LabradorVerdict.{LabradorVerdict}
+use Rattle.call_answers.specs.Calls.{labradorVerdict, failedCheck}
+use Rattle.binding.specs.Openings.{opening-1, opening-2, Equal-u1, Equal-u2, Given-away-1, Given-away-2}
+use Rattle.binding.proofs.Many.{part, binding-1-of-parts, binding-2-of-parts}
+use Rattle.verify_many.specs.declared.answers.LabradorVerdicts.{LabradorVerdicts}
+use Rattle.many_verdicts.specs.Windows.{unused, verdicts-of}
+use Rattle.verify_many.specs.Answers.{manyVerdicts}
+
+-- a verdict's number
+same-number : (a : Answer) → labradorVerdict a .number ≡ number a
+same-number fine = refl
+same-number (accepted cells) = refl
+same-number (refused n p) = refl
+same-number (failed n []) = refl
+same-number (failed n (a ∷ [])) = refl
+same-number (failed n (a ∷ b ∷ [])) = refl
+same-number (failed n (k ∷ a ∷ b ∷ vs)) = refl
+
+-- verdict m of an answer
+abbrev pub verdict-at : LabradorVerdicts → ℕ → LabradorVerdict
+verdict-at x m = getD (x .verdicts) m unused
+
+-- eight verdicts are given
+module _ (J : List ℕ) (count : ℕ) (R T scratch : List ℕ) (x : LabradorVerdicts) (is : x ≡ manyVerdicts J count R T (length scratch)) (whole : x .number ≡ 0) where
+  verdicts-are : x .verdicts ≡ verdicts-of J count R T
+  verdicts-are =
+      let e = many-no J count (length scratch) .numbered (sym (ap (λ (x : LabradorVerdicts). x .number) is) ∙ whole) in
+      ap (λ (x : LabradorVerdicts). x .verdicts) is ∙ ap (λ a. result a (verdicts-of J count R T) (replicate 8 (failedCheck 0 0 0 0))) e
+
+  -- one of them with the number 0 is that of a transcript, with the number 0
+  zero-of : (m : ℕ) → m < 8 → verdict-at x m .number ≡ 0 → number (part-verdict J count R T m) ≡ 0
+  zero-of m h e = by (decLt m count)
+    where
+      at : (v : LabradorVerdict) → verdict-at x m ≡ v → v .number ≡ 0
+      at v same = sym (ap (λ (v : LabradorVerdict). v .number) same) ∙ e
+
+      by : Dec (m < count) → number (part-verdict J count R T m) ≡ 0
+      by (yes l) =
+          let f : ℕ → LabradorVerdict = λ m. labradorVerdict (part-verdict J count R T m) in
+          sym (same-number (part-verdict J count R T m)) ∙ at (f m) (ap (λ l. getD l m unused) verdicts-are ∙ padded-below 8 unused f count m h l)
+      by (no l) =
+          let f : ℕ → LabradorVerdict = λ m. labradorVerdict (part-verdict J count R T m) in
+          let z : _≡_ {A = ℕ} 4294967295 0 = at unused (ap (λ l. getD l m unused) verdicts-are ∙ padded-past 8 unused f count m h (omega arith)) in
+          absurd (omega arith)
+
+  module _ (i j : ℕ) (h : i < 8) (k : j < 8) (e : verdict-at x i .number ≡ 0) (f : verdict-at x j .number ≡ 0) where
+    pub binding-1-over-many : Equal-u1 J (part J count R T i) (part J count R T j) → (opening-1 J (part J count R T i) ≡ opening-1 J (part J count R T j) → ⊥) → Given-away-1 J (part J count R T i) (part J count R T j)
+    binding-1-over-many = binding-1-of-parts J count R T i j (zero-of i h e) (zero-of j k f)
+
+    pub binding-2-over-many : Equal-u2 J (part J count R T i) (part J count R T j) → (opening-2 J (part J count R T i) ≡ opening-2 J (part J count R T j) → ⊥) → Given-away-2 J (part J count R T i) (part J count R T j)
+    binding-2-over-many = binding-2-of-parts J count R T i j (zero-of i h e) (zero-of j k f)

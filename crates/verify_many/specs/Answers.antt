@@ -1,0 +1,22 @@
+-- The struct of the call on many transcripts as an answer (document 02, Item 11).
+use mathlib.Core.List.{List}
+use Prim.Native.Nat.{ℕ}
+use lib.ListN.{replicate}
+use Rattle.definitions.specs.Answer.{Answer, number, place, result}
+use Rattle.protocol.specs.Many.{many-refusal}
+use Rattle.call_answers.specs.declared.verdicts.LabradorVerdict.{LabradorVerdict}
+use Rattle.call_answers.specs.Calls.{failedCheck}
+use Rattle.many_verdicts.specs.Windows.{verdicts-of}
+use Rattle.verify_many.specs.declared.answers.LabradorVerdicts.{LabradorVerdicts}
+
+-- a number and a place, with nothing answered of the transcripts
+abbrev pub refusedVerdicts : (number place : ℕ) → LabradorVerdicts
+refusedVerdicts number place = record { number = number; place = place; verdicts = replicate 8 (failedCheck 0 0 0 0) }
+
+-- eight verdicts; "a refused job or short scratch […] is the answer to the whole call", with zeros
+abbrev pub labradorVerdicts : Answer → List LabradorVerdict → LabradorVerdicts
+labradorVerdicts a verdicts = record { number = number a; place = place a; verdicts = result a verdicts (replicate 8 (failedCheck 0 0 0 0)) }
+
+-- what the call answers
+abbrev pub manyVerdicts : (J : List ℕ) → (count : ℕ) → (R T : List ℕ) → (scratch : ℕ) → LabradorVerdicts
+manyVerdicts J count R T scratch = labradorVerdicts (many-refusal J count scratch) (verdicts-of J count R T)

@@ -1,0 +1,65 @@
+// The call for every input.
+use crate::answers;
+use crate::answers::LabradorVerdicts;
+use call_answers::verdicts::LabradorVerdict;
+use many_admission::parts;
+use many_admission::whole;
+use many_admission::whole::ManyAdmitted;
+use many_rows::row_products;
+use many_verdicts::all::verdicts;
+use relation::env_params::EnvironmentParameters;
+ghost use mathlib.Core.Path.{_≡_};
+ghost use lib.ListN.{length};
+ghost use Rattle.protocol.specs.Parameters.{parameters};
+ghost use Rattle.protocol.specs.Prover.{zeroed};
+ghost use Rattle.protocol.specs.Many.{many-need, many-scratch};
+ghost use Rattle.many_admission.specs.Admitted.{Given};
+ghost use Rattle.many_verdicts.specs.Windows.{verdicts-of};
+ghost use Rattle.verify_many.specs.Answers.{manyVerdicts};
+
+// The work of a call that is not refused as a whole: 7 to 10 of each transcript, the rows of A, B, C and D, each once for all, and the verdicts.
+fn work(
+    job: &[u32],
+    randomness: &[u32],
+    transcripts: &[u32],
+    p: EnvironmentParameters,
+    count: usize,
+    scratch: &mut [u32],
+) -> [LabradorVerdict; 8]
+    requires { ⌜ Given (now job) count (length (now scratch)) p ⌝ }
+    ensures { λ r. ⌜ r ≡ verdicts-of (now (job .entry)) count (now (randomness .entry)) (now (transcripts .entry)) ⌝ }
+    ensures { λ r. ⌜ now (scratch .exit) ≡ zeroed (many-need (parameters (now (job .entry))) count) (now (scratch .entry)) ⌝ }
+{
+    let found = parts::check_parts(randomness, transcripts, p, count);
+    let passes = parts::passing_parts(found);
+    row_products(job, p, count, passes, transcripts, scratch);
+    let out = verdicts(job, randomness, transcripts, p, count, found, scratch);
+    let need = whole::need(p, count);
+    words::clear(scratch, need);
+    out
+}
+
+// "One call takes them with their randomness and gives eight verdicts, those past the number marked unused."
+pub fn verify_many(
+    job: &[u32],
+    count: u32,
+    randomness: &[u32],
+    transcripts: &[u32],
+    scratch: &mut [u32],
+) -> LabradorVerdicts
+    ensures { λ r. ⌜ r ≡ manyVerdicts (now (job .entry)) count (now (randomness .entry)) (now (transcripts .entry)) (length (now (scratch .entry))) ⌝ }
+    ensures { λ r. ⌜ now (scratch .exit) ≡ many-scratch (now (job .entry)) count (now (scratch .entry)) ⌝ }
+{
+    match whole::admit(job, count, scratch.len()) {
+        ManyAdmitted::Count => answers::refused(35, 0),
+        ManyAdmitted::Refused(refusal) => answers::refusal_of(refusal),
+        ManyAdmitted::Fit(p) => {
+            let found = work(job, randomness, transcripts, p, count as usize, scratch);
+            LabradorVerdicts {
+                number: 0,
+                place: 0,
+                verdicts: found,
+            }
+        }
+    }
+}
