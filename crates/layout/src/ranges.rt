@@ -2,24 +2,24 @@
 use crate::counts::Found;
 use crate::sections::Sections;
 ghost use mathlib.Core.Path.{_≡_};
+ghost use mathlib.Core.Bool.{true};
 ghost use Prim.Native.Nat.{ℕ, _+_, _≤_, _<_};
 ghost use lib.ListN.{length, getD};
 ghost use Rattle.protocol.specs.Layout.{span, ranged};
 ghost use Rattle.layout.specs.Sections.{listed, ofFound, Passed};
 
-// No less than any of the 256 words from a place on. It looks at all of them, so it runs on several words at a time.
-fn bound(words: &[u32], at: usize) -> u32
+// Whether the 256 words from a place on are at most the greatest. It looks at all of them, so it runs on several words at a time.
+fn within(words: &[u32], at: usize, greatest: u32) -> bool
     requires { ⌜ at + 256 ≤ length (now words) ⌝ }
-    ensures { λ r. ⌜ ((k : ℕ) → k < 256 → getD (now (words .entry)) (at + k) 0 ≤ r) ⌝ }
+    ensures { λ r. ⌜ (r ≡ true → (k : ℕ) → k < 256 → getD (now (words .entry)) (at + k) 0 ≤ greatest) ⌝ }
 {
-    let mut most = 0;
+    let mut fit = true;
     for k in 0..256 {
-        let word = words[at + k];
-        if most < word {
-            most = word;
+        if greatest < words[at + k] {
+            fit = false;
         }
     }
-    most
+    fit
 }
 
 // How far the words from a place to an end are at most the greatest, in blocks of 256.
@@ -32,7 +32,7 @@ fn pass(words: &[u32], from: usize, end: usize, greatest: u32) -> usize
     }
     let mut at = from;
     while 256 <= end - at {
-        if greatest < bound(words, at) {
+        if !within(words, at, greatest) {
             return at;
         }
         at += 256;

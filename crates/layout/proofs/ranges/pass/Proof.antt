@@ -1,7 +1,8 @@
 -- `pass` meets its contract. The invariant: the words before `at` are at most the greatest.
 use Prim.Native.Nat.{_-_}
-use native.Mathlib.Nat.{le-refl, le-trans}
+use native.Mathlib.Nat.{le-refl}
 use native.Mathlib.Omega.{arith}
+use borrow.Author.Tests.{not-false}
 use Rattle.layout.specs.Sections.{Passed}
 use Rattle.layout.proofs.Search.{passed-none, passed-more}
 use Rattle.layout.proofs.ranges.pass.Statement.{statement}
@@ -25,7 +26,7 @@ returns-2 c = c .before .before .before .loop .inv
 loop-again : tie.Need-loop-again Inv-loop μ-loop
 loop-again c =
     let l = c .before .before .before .loop in
-    passed-more _ _ _ _ (l .at) 256 (l .inv) (omega arith) (λ k h. le-trans (c .before .bound .ensures k h) (c .if2 .left))
+    passed-more _ _ _ _ (l .at) 256 (l .inv) (omega arith) (c .before .within .ensures (not-false _ (c .if2 .left)))
 
 returns-3 : tie.Need-returns-3 Inv-loop μ-loop
 returns-3 c = c .before .loop .inv
