@@ -3,7 +3,7 @@ use mathlib.Core.Path.{_≡_, refl, sym, _∙_, ap}
 use mathlib.Core.Bool.{cond}
 use mathlib.Core.List.{List, [], _∷_, _++_, flatMap, append-nil}
 use Prim.Native.Nat.{ℕ, _+_, _-_, _*_, _%_, _≤_, _<_, _^_}
-use native.Mathlib.Nat.{zero-add}
+use native.Mathlib.Nat.{zero-add, add-sub-cancel-left}
 use native.Mathlib.Decide.{decLt}
 use native.Mathlib.Omega.{arith}
 use borrow.Author.Tests.{lt-ltb, le-ltb}
@@ -11,7 +11,7 @@ use lib.Dec.{ltb}
 use lib.ListN.{length, getD}
 use Rattle.lists.specs.Table.{table}
 use Rattle.lists.specs.Part.{part, splice}
-use Rattle.lists.proofs.Table.{length-table, getD-table, table-suc}
+use Rattle.lists.proofs.Table.{length-table, getD-table, table-suc, table-ext, table-split}
 use Rattle.lists.proofs.Part.{length-flatMap, part-flatMap}
 use Rattle.lists.proofs.Additive.{flatMap-append}
 use Rattle.lists.proofs.Splice.{splice-append, getD-part, part-splice-within, length-splice}
@@ -89,3 +89,17 @@ form-small a y at half e h canonical within j l =
     by (no high) =
         let second : extendedCoeff a j ≡ coeff a (j - 64) = ap (λ b. cond b (4294967295 - coeff a j) (coeff a (j - 64))) (le-ltb j 64 (omega arith)) in
         rw second (plain-small (coeff a (j - 64)) half (within (j - 64) (omega arith)) (canonical (j - 64) (omega arith)) (omega arith))
+
+-- the coefficients of −a shifted, and behind them those of a, are the form of a
+pub halves-form : (half : ℕ) (a b forms : List ℕ) (to : ℕ) → b ≡ table 64 (λ m. 4294967295 - getD a m 0)
+    → splice (splice forms to (table 64 (λ m. (getD b m 0 + half) % 4294967295))) (to + 64) (table 64 (λ m. (getD a m 0 + half) % 4294967295)) ≡ splice forms to (shifted half a)
+unfolding shifted
+halves-form half a b forms to e =
+    let f : ℕ → ℕ = shiftedCoeff half a in
+    let lower : List ℕ = table 64 (λ m. (getD b m 0 + half) % 4294967295) in
+    let upper : List ℕ = table 64 (λ m. (getD a m 0 + half) % 4294967295) in
+    let first : lower ≡ table 64 f = table-ext 64 _ f (λ m h. ap (λ v. (v + half) % 4294967295) (ap (λ w. getD w m 0) e ∙ getD-table 64 _ m 0 h ∙ simp (lt-ltb m 64 h))) in
+    let second : upper ≡ table 64 (λ m. f (64 + m)) = table-ext 64 _ _ (λ m h. ap (λ v. (v + half) % 4294967295) (simp (le-ltb (64 + m) 64 (omega arith), add-sub-cancel-left 64 m))) in
+    ap (λ n. splice (splice forms to lower) (to + n) upper) (sym (length-table 64 _))
+    ∙ splice-append forms to lower upper
+    ∙ ap (splice forms to) (ap (λ w. w ++ upper) first ∙ ap (λ w. table 64 f ++ w) second ∙ sym (table-split 64 64 f))

@@ -1,25 +1,44 @@
 // The form in which the products take the digits: the coefficients of −a, then those of a, as `rq::product` takes them, each with half the base added, so
 // that none is below zero.
 use rq::product;
+use zq::wide::wide;
+use zq::zq::Zq;
 ghost use mathlib.Core.Path.{_≡_};
 ghost use mathlib.Core.List.{flatMap};
-ghost use Prim.Native.Nat.{_+_, _*_, _%_, _≤_};
-ghost use lib.ListN.{length};
+ghost use Prim.Native.Nat.{_+_, _-_, _*_, _%_, _≤_};
+ghost use lib.ListN.{length, getD};
 ghost use Rattle.lists.specs.Table.{table};
 ghost use Rattle.lists.specs.Part.{part, splice};
 ghost use Rattle.definitions.specs.Zq.{Q};
 ghost use Rattle.digit_products.specs.Forms.{shifted};
 
-// A coefficient with half the base added modulo Q.
+// A coefficient with half the base added modulo Q, without a choice, so that it runs on several at a time.
 fn shift(x: u64, half: u64) -> u64
     requires { ⌜ (x ≤ Q) × (half ≤ 2147483648) ⌝ }
     ensures { λ r. ⌜ r ≡ (x + half) % Q ⌝ }
 {
     let sum = x + half;
-    if sum < product::MODULUS {
-        sum
-    } else {
-        sum - product::MODULUS
+    (sum + (sum + 1) / product::RADIX) % product::RADIX
+}
+
+// What each coefficient lacks of Q.
+fn complements(a: [u32; 64]) -> [u32; 64]
+    ensures { λ r. ⌜ r ≡ table 64 (λ m. Q - getD a m 0) ⌝ }
+{
+    let mut out = [0u32; 64];
+    for m in 0..64 {
+        out[m] = Zq::Q - a[m];
+    }
+    out
+}
+
+// 64 coefficients with half the base added modulo Q, stored from `to` on.
+fn store_shifted(a: [u32; 64], half: u64, forms: &mut [u64], to: usize)
+    requires { ⌜ (half ≤ 2147483648) × (to + 64 ≤ length (now forms)) ⌝ }
+    ensures { λ _. ⌜ now (forms .exit) ≡ splice (now (forms .entry)) to (table 64 (λ m. (getD a m 0 + half) % Q)) ⌝ }
+{
+    for m in 0..64 {
+        forms[to + m] = shift(wide(a[m]), half);
     }
 }
 
@@ -28,10 +47,9 @@ fn store_form(a: [u32; 64], half: u64, forms: &mut [u64], to: usize)
     requires { ⌜ (half ≤ 2147483648) × (to + 128 ≤ length (now forms)) ⌝ }
     ensures { λ _. ⌜ now (forms .exit) ≡ splice (now (forms .entry)) to (shifted half a) ⌝ }
 {
-    let y = product::extend(a);
-    for m in 0..128 {
-        forms[to + m] = shift(y[m], half);
-    }
+    let negated = complements(a);
+    store_shifted(negated, half, forms, to);
+    store_shifted(a, half, forms, to + 64);
 }
 
 // The forms of n elements, one after the other.
