@@ -9,7 +9,7 @@ ghost use Rattle.relation.specs.Parameters.{parametersOf};
 ghost use Rattle.sizes.specs.Sizes.{Sized};
 ghost use Rattle.many_admission.specs.Admitted.{PartsFound, found-of, passing};
 
-// "A transcript that is refused doesn't alter the others".
+// "A transcript that is refused doesn't alter the others". From the last to the first, so that the words that are worked on first were read last.
 pub fn check_parts(
     randomness: &[u32],
     transcripts: &[u32],
@@ -20,11 +20,11 @@ pub fn check_parts(
     ensures { λ r. ⌜ PartsFound (parametersOf p) count (now (randomness .entry)) (now (transcripts .entry)) r ⌝ }
 {
     let mut found = [Checked::Fine; 8];
-    let mut m = 0;
-    while m < count {
+    let mut m = count;
+    while 0 < m {
+        m -= 1;
         let v = check_part(randomness, transcripts, p, count, m);
         found[m] = v;
-        m += 1;
     }
     found
 }
