@@ -5,7 +5,8 @@ use digit_products::products;
 use rq::rq::Rq;
 use rq_vector::digits;
 ghost use mathlib.Core.Path.{_≡_};
-ghost use Prim.Native.Nat.{_*_, _<_};
+ghost use Prim.Native.Nat.{_*_, _≤_, _<_};
+ghost use lib.ListN.{length};
 ghost use Rattle.lists.specs.Part.{splice};
 ghost use Rattle.definitions.specs.Ring.{words};
 ghost use Rattle.inner_product.specs.Run.{run};
@@ -32,7 +33,40 @@ pub fn store_cells(from: &[u32], d: Digits, base: u32, to: &mut [u32], to_at: us
     }
 }
 
-// The product of the elements from `row` on with the digits of cells that are stored from `at` on.
+// The product of the elements from `row` on with the digits of cells that are stored from `at` on. The digits of one cell at a time are formed in what is lent.
+fn product_by_forms(
+    matrix: &[u32],
+    row: usize,
+    v: &[u32],
+    at: usize,
+    cells: usize,
+    parts: usize,
+    half: u64,
+    forms: &mut [u64],
+) -> Rq
+    requires { ⌜ Room (now matrix) row (cells * parts) × Room (now v) at (cells * parts) × Stored (now v) at cells parts half × (128 * parts ≤ length (now forms)) ⌝ }
+    ensures { λ r. ⌜ r .coeffs ≡ words (dot (cells * parts) (run (now (matrix .entry)) row 64) (run (now (v .entry)) at 64)) ⌝ }
+{
+    let block = 64 * parts;
+    let mut total = Rq::zero();
+    let mut column = row;
+    let mut from = at;
+    let mut c = 0;
+    while c < cells {
+        let to = from + block;
+        let digits = &v[from..to];
+        forms::store_forms(digits, parts, half, forms);
+        let product = products::inner_product(matrix, column, digits, forms, half, parts);
+        let next = total.add(product);
+        total = next;
+        column += block;
+        from = to;
+        c += 1;
+    }
+    total
+}
+
+// The same, with room for the forms of up to 4 parts, or of 32: what is lent is cleared first.
 pub fn row_product(
     matrix: &[u32],
     row: usize,
@@ -45,22 +79,11 @@ pub fn row_product(
     requires { ⌜ Room (now matrix) row (cells * parts) × Room (now v) at (cells * parts) × Stored (now v) at cells parts half ⌝ }
     ensures { λ r. ⌜ r .coeffs ≡ words (dot (cells * parts) (run (now (matrix .entry)) row 64) (run (now (v .entry)) at 64)) ⌝ }
 {
-    let block = 64 * parts;
-    let mut forms = [0u64; 4096];
-    let mut total = Rq::zero();
-    let mut column = row;
-    let mut from = at;
-    let mut c = 0;
-    while c < cells {
-        let to = from + block;
-        let digits = &v[from..to];
-        forms::store_forms(digits, parts, half, &mut forms);
-        let product = products::inner_product(matrix, column, digits, &forms, half, parts);
-        let next = total.add(product);
-        total = next;
-        column += block;
-        from = to;
-        c += 1;
+    if parts <= 4 {
+        let mut forms = [0u64; 512];
+        product_by_forms(matrix, row, v, at, cells, parts, half, &mut forms)
+    } else {
+        let mut forms = [0u64; 4096];
+        product_by_forms(matrix, row, v, at, cells, parts, half, &mut forms)
     }
-    total
 }
