@@ -59,7 +59,7 @@ witness-laid : (P : Parameters) (W : List ℕ) → witness-refusal P W ≡ fine 
 unfolding witness-refusal
 witness-laid P W e = slice-laid 11 12 W 0 (witness-sections P) (omega arith) e
 
-transcript-laid : (P : Parameters) (T : List ℕ) → transcript-refusal P T ≡ fine → Laid T 0 (transcript-sections P)
+pub transcript-laid : (P : Parameters) (T : List ℕ) → transcript-refusal P T ≡ fine → Laid T 0 (transcript-sections P)
 unfolding transcript-refusal
 transcript-laid P T e = slice-laid 9 10 T 0 (transcript-sections P) (omega arith) e
 

@@ -1,8 +1,8 @@
--- What is found of the transcripts, from the last to the first.
+-- What is found of the transcripts, one after the other.
 use mathlib.Core.Path.{_≡_, refl, sym, ap, _∙_}
 use mathlib.Core.Bool.{true, false}
 use mathlib.Core.List.{List}
-use Prim.Native.Nat.{ℕ, _+_, _≤_, _<_}
+use Prim.Native.Nat.{ℕ, _+_, _<_}
 use native.Mathlib.Decide.{ℕ-discrete}
 use native.Mathlib.Omega.{arith}
 use lib.ListN.{length, set}
@@ -14,15 +14,14 @@ use Rattle.admission.specs.Admission.{ofChecked}
 use Rattle.admission.proofs.Fit.{refusal-none}
 use Rattle.many_admission.specs.Admitted.{found-of, passing}
 
--- one more stored, before those that are
-pub stored : (found : List Checked) (m count : ℕ) (v : Checked) (f : ℕ → Answer) → m < length found
-    → ((k : ℕ) → m + 1 ≤ k → k < count → ofChecked (found-of found k) ≡ f k) → ofChecked v ≡ f m
-    → (k : ℕ) → m ≤ k → k < count → ofChecked (found-of (set found m v) k) ≡ f k
-stored found m count v f room after e k g h = by (ℕ-discrete k m)
+-- one more stored
+pub stored : (found : List Checked) (m : ℕ) (v : Checked) (f : ℕ → Answer) → m < length found → ((k : ℕ) → k < m → ofChecked (found-of found k) ≡ f k) → ofChecked v ≡ f m
+    → (k : ℕ) → k < m + 1 → ofChecked (found-of (set found m v) k) ≡ f k
+stored found m v f room before e k h = by (ℕ-discrete k m)
   where
     by : Dec (k ≡ m) → ofChecked (found-of (set found m v) k) ≡ f k
     by (yes same) = ap (λ j. ofChecked (found-of (set found m v) j)) same ∙ ap ofChecked (getD-set-same found m v C.Fine room) ∙ e ∙ ap f (sym same)
-    by (no other) = ap ofChecked (getD-set-other found m k v C.Fine other) ∙ after k (omega arith) h
+    by (no other) = ap ofChecked (getD-set-other found m k v C.Fine other) ∙ before k (omega arith)
 
 -- whether it passes is whether it is found to be fine
 pub passing-is : (x : Checked) → passing x ≡ result (ofChecked x) true false

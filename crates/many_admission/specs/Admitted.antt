@@ -6,8 +6,8 @@ use Prim.Native.Nat.{ℕ, _≤_, _<_}
 use lib.ListN.{getD}
 use Rattle.definitions.specs.Answer.{Answer, fine, refused, ofRefusal}
 use Rattle.protocol.specs.Parameters.{Parameters, parameters}
-use Rattle.protocol.specs.Layout.{job-refusal}
-use Rattle.protocol.specs.Many.{many-need, part-refusal}
+use Rattle.protocol.specs.Layout.{job-refusal, transcript-refusal}
+use Rattle.protocol.specs.Many.{many-need, transcript-part}
 use Rattle.relation.specs.declared.env_params.EnvironmentParameters.{EnvironmentParameters}
 use Rattle.relation.specs.Parameters.{parametersOf}
 use Rattle.admission.specs.declared.answers.Checked.{Checked}
@@ -39,11 +39,11 @@ AtMany (A.Fit p) F = F p
 abbrev pub found-of : List Checked → ℕ → Checked
 found-of found m = getD found m C.Fine
 
--- each transcript is refused what it is refused by itself
-abbrev pub PartsFound : Parameters → (count : ℕ) → (R T : List ℕ) → List Checked → Type 0
-PartsFound P count R T found = (m : ℕ) → m < count → ofChecked (found-of found m) ≡ part-refusal P count R T m
+-- each transcript is refused by 9 and 10 what it is refused by itself
+abbrev pub TranscriptsFound : Parameters → (count : ℕ) → (T : List ℕ) → List Checked → Type 0
+TranscriptsFound P count T found = (m : ℕ) → m < count → ofChecked (found-of found m) ≡ transcript-refusal P (transcript-part P count T m)
 
--- whether a transcript passes 7 to 10
+-- whether a transcript passes 9 and 10
 abbrev pub passing : Checked → Bool
 passing C.Fine = true
 passing (C.Refused r) = false

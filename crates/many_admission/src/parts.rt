@@ -1,35 +1,34 @@
-// The refusals of each transcript by itself.
+// The refusals of each transcript by its own words.
 use admission::answers::Checked;
-use many_parts::check_part;
+use many_parts::check_transcript;
 use relation::env_params::EnvironmentParameters;
 ghost use mathlib.Core.Path.{_≡_};
 ghost use Prim.Native.Nat.{_≤_};
 ghost use Rattle.lists.specs.Table.{table};
 ghost use Rattle.relation.specs.Parameters.{parametersOf};
 ghost use Rattle.sizes.specs.Sizes.{Sized};
-ghost use Rattle.many_admission.specs.Admitted.{PartsFound, found-of, passing};
+ghost use Rattle.many_admission.specs.Admitted.{TranscriptsFound, found-of, passing};
 
-// "A transcript that is refused doesn't alter the others". From the last to the first, so that the words that are worked on first were read last.
-pub fn check_parts(
-    randomness: &[u32],
+// 9 and 10 of each transcript: "A transcript that is refused doesn't alter the others".
+pub fn check_transcripts(
     transcripts: &[u32],
     p: EnvironmentParameters,
     count: usize,
 ) -> [Checked; 8]
     requires { ⌜ Sized (parametersOf p) × (count ≤ 8) ⌝ }
-    ensures { λ r. ⌜ PartsFound (parametersOf p) count (now (randomness .entry)) (now (transcripts .entry)) r ⌝ }
+    ensures { λ r. ⌜ TranscriptsFound (parametersOf p) count (now (transcripts .entry)) r ⌝ }
 {
     let mut found = [Checked::Fine; 8];
-    let mut m = count;
-    while 0 < m {
-        m -= 1;
-        let v = check_part(randomness, transcripts, p, count, m);
+    let mut m = 0;
+    while m < count {
+        let v = check_transcript(transcripts, p, count, m);
         found[m] = v;
+        m += 1;
     }
     found
 }
 
-// Whether a transcript passes 7 to 10.
+// Whether a transcript passes 9 and 10.
 fn passes(found: Checked) -> bool
     ensures { λ r. ⌜ r ≡ passing found ⌝ }
 {
@@ -39,7 +38,7 @@ fn passes(found: Checked) -> bool
     }
 }
 
-// Which transcripts pass 7 to 10.
+// Which transcripts pass 9 and 10.
 pub fn passing_parts(found: [Checked; 8]) -> [bool; 8]
     ensures { λ r. ⌜ r ≡ table 8 (λ m. passing (found-of found m)) ⌝ }
 {

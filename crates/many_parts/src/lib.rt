@@ -8,8 +8,9 @@ use relation::env_params::EnvironmentParameters;
 use sizes::slices;
 ghost use mathlib.Core.Path.{_≡_};
 ghost use Prim.Native.Nat.{_≤_, _<_, _^_};
+ghost use Rattle.definitions.specs.Answer.{_then_};
 ghost use Rattle.protocol.specs.Layout.{span, randomness-sections, transcript-sections, randomness-refusal, transcript-refusal};
-ghost use Rattle.protocol.specs.Many.{randomness-part, transcript-part, part-refusal};
+ghost use Rattle.protocol.specs.Many.{randomness-part, transcript-part};
 ghost use Rattle.relation.specs.Parameters.{parametersOf};
 ghost use Rattle.sizes.specs.Sizes.{Sized};
 ghost use Rattle.admission.specs.Admission.{ofChecked};
@@ -81,8 +82,8 @@ fn check_randomness(words: &[u32], p: EnvironmentParameters, count: usize, m: us
     randomness::check(&words[from..to], p, Call::Whole)
 }
 
-// 9 and 10 of transcript m.
-fn check_transcript(words: &[u32], p: EnvironmentParameters, count: usize, m: usize) -> Checked
+// 9 and 10 of transcript m: "places count from a transcript's own start".
+pub fn check_transcript(words: &[u32], p: EnvironmentParameters, count: usize, m: usize) -> Checked
     requires { ⌜ (m < count) × (count ≤ 8) × Sized (parametersOf p) ⌝ }
     ensures { λ r. ⌜ ofChecked r ≡ transcript-refusal (parametersOf p) (transcript-part (parametersOf p) count (now (words .entry)) m) ⌝ }
 {
@@ -92,19 +93,19 @@ fn check_transcript(words: &[u32], p: EnvironmentParameters, count: usize, m: us
     transcript::check(&words[from..to], p)
 }
 
-// 7, 8, 9 and 10 of transcript m with its randomness: "places count from a transcript's own start".
+// 7 and 8 of randomness m, then what is found of transcript m.
 pub fn check_part(
     randomness: &[u32],
-    transcripts: &[u32],
     p: EnvironmentParameters,
     count: usize,
     m: usize,
+    sent: Checked,
 ) -> Checked
     requires { ⌜ (m < count) × (count ≤ 8) × Sized (parametersOf p) ⌝ }
-    ensures { λ r. ⌜ ofChecked r ≡ part-refusal (parametersOf p) count (now (randomness .entry)) (now (transcripts .entry)) m ⌝ }
+    ensures { λ r. ⌜ ofChecked r ≡ randomness-refusal (parametersOf p) 7 (randomness-part (parametersOf p) count (now (randomness .entry)) m) then ofChecked sent ⌝ }
 {
     match check_randomness(randomness, p, count, m) {
         Checked::Refused(refusal) => Checked::Refused(refusal),
-        Checked::Fine => check_transcript(transcripts, p, count, m),
+        Checked::Fine => sent,
     }
 }

@@ -2,6 +2,7 @@
 use crate::part;
 use admission::answers::Checked;
 use call_answers::verdicts::LabradorVerdict;
+use many_parts::check_part;
 use relation::env_params::EnvironmentParameters;
 ghost use mathlib.Core.Path.{_≡_};
 ghost use lib.ListN.{length, replicate};
@@ -9,7 +10,7 @@ ghost use Rattle.protocol.specs.Parameters.{parameters};
 ghost use Rattle.protocol.specs.Kept.{Kept};
 ghost use Rattle.protocol.specs.Many.{many-need};
 ghost use Rattle.call_answers.specs.Calls.{failedCheck};
-ghost use Rattle.many_admission.specs.Admitted.{Given, PartsFound};
+ghost use Rattle.many_admission.specs.Admitted.{Given, TranscriptsFound};
 ghost use Rattle.many_verdicts.specs.Windows.{Rows-ready, verdicts-of};
 
 // Eight times a number and zeros.
@@ -28,7 +29,7 @@ pub fn eight(number: u32) -> [LabradorVerdict; 8]
     }; 8]
 }
 
-// "gives eight verdicts, those past the number marked unused"
+// "gives eight verdicts, those past the number marked unused". A transcript's randomness is tested right before it is worked on, while it is at hand.
 pub fn verdicts(
     job: &[u32],
     randomness: &[u32],
@@ -38,7 +39,7 @@ pub fn verdicts(
     found: [Checked; 8],
     scratch: &mut [u32],
 ) -> [LabradorVerdict; 8]
-    requires { ⌜ Given (now job) count (length (now scratch)) p × PartsFound (parameters (now job)) count (now randomness) (now transcripts) found ⌝ }
+    requires { ⌜ Given (now job) count (length (now scratch)) p × TranscriptsFound (parameters (now job)) count (now transcripts) found ⌝ }
     requires { ⌜ Rows-ready (now job) count (now randomness) (now transcripts) (now scratch) ⌝ }
     ensures { λ r. ⌜ r ≡ verdicts-of (now (job .entry)) count (now (randomness .entry)) (now (transcripts .entry)) ⌝ }
     ensures { λ r. ⌜ Kept (many-need (parameters (now (job .entry))) count) (now (scratch .entry)) (now (scratch .exit)) ⌝ }
@@ -46,7 +47,8 @@ pub fn verdicts(
     let mut out = eight(4294967295);
     let mut m = 0;
     while m < count {
-        let one = found[m];
+        let sent = found[m];
+        let one = check_part(randomness, p, count, m, sent);
         let v = part::verdict(job, randomness, transcripts, p, count, m, one, scratch);
         out[m] = v;
         m += 1;

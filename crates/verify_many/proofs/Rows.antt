@@ -1,6 +1,6 @@
 -- What the rows, and then the verdicts, stand on.
-use mathlib.Core.Path.{_≡_, sym, ap, subst, _∙_}
-use mathlib.Core.Bool.{Bool, true, false}
+use mathlib.Core.Path.{_≡_, refl, sym, ap, subst, _∙_}
+use mathlib.Core.Bool.{Bool, true, false, true≢false}
 use mathlib.Core.List.{List}
 use Prim.Native.Nat.{ℕ, _≤_, _<_}
 use native.Mathlib.Omega.{arith}
@@ -9,21 +9,36 @@ use Rattle.lists.specs.Part.{splice}
 use Rattle.lists.proofs.Splice.{length-splice}
 use Rattle.lists.specs.Table.{table}
 use Rattle.lists.proofs.Table.{getD-table}
-use Rattle.definitions.specs.Answer.{result}
-use Rattle.protocol.specs.Parameters.{parameters}
+use Rattle.definitions.specs.Answer.{Answer, fine, accepted, refused, failed, result}
+use Rattle.protocol.specs.Parameters.{Parameters, parameters}
+use Rattle.protocol.specs.Layout.{randomness-refusal, transcript-refusal}
 use Rattle.protocol.specs.Kept.{Kept}
 use Rattle.protocol.specs.Prover.{zeroed}
-use Rattle.protocol.specs.Many.{many-need, All-rows-done, row-count}
+use Rattle.protocol.specs.Many as Many
+use Rattle.protocol.specs.Many.{many-need, randomness-part, transcript-part, part-refusal, All-rows-done, row-count}
+use Rattle.protocol.proofs.Fine.{then-fine-right}
 use Rattle.relation.specs.declared.env_params.EnvironmentParameters.{EnvironmentParameters}
 use Rattle.relation.specs.Parameters.{parametersOf}
 use Rattle.admission.specs.declared.answers.Checked.{Checked}
 use Rattle.admission.proofs.Ready.{job-sound, job-laid}
 use Rattle.workspace.proofs.Kept.{kept-trans, kept-clear}
-use Rattle.many_admission.specs.Admitted.{Given, PartsFound, found-of, passing}
+use Rattle.many_admission.specs.Admitted.{Given, TranscriptsFound, found-of, passing}
 use Rattle.many_admission.proofs.Found.{passing-is}
 use Rattle.many_admission.proofs.Passing.{part-laid}
 use Rattle.many_rows.specs.Rows.{Rowable}
 use Rattle.many_verdicts.specs.Windows.{Rows-ready}
+
+-- an answer that is taken for fine is
+fine-if : (x : Answer) → result x true false ≡ true → x ≡ fine
+fine-if fine e = refl
+fine-if (accepted cells) e = absurd (true≢false (sym e))
+fine-if (refused n p) e = absurd (true≢false (sym e))
+fine-if (failed n vs) e = absurd (true≢false (sym e))
+
+-- a transcript that passes 7 to 10 passes 9 and 10
+sent-fine : (P : Parameters) (count : ℕ) (R T : List ℕ) (m : ℕ) → Many.passes P count R T m ≡ true → transcript-refusal P (transcript-part P count T m) ≡ fine
+unfolding part-refusal
+sent-fine P count R T m pass = then-fine-right (randomness-refusal P 7 (randomness-part P count R m)) (transcript-refusal P (transcript-part P count T m)) (fine-if _ pass)
 
 module _ (J R T : List ℕ) (count scratch : ℕ) (p : EnvironmentParameters) (g : Given J count scratch p) (found : List Checked) (passes : List Bool) (is : passes ≡ table 8 (λ m. passing (found-of found m))) where
   -- transcript m passes
@@ -31,17 +46,17 @@ module _ (J R T : List ℕ) (count scratch : ℕ) (p : EnvironmentParameters) (g
   passes-at m h = ap (λ l. getD l m false) is ∙ getD-table 8 (λ m. passing (found-of found m)) m false (omega (arith, g .few))
 
   -- what is found, of the job's parameters
-  pub of-job : PartsFound (parametersOf p) count R T found → PartsFound (parameters J) count R T found
-  of-job all = subst (λ P. PartsFound P count R T found) (g .same) all
+  pub of-job : TranscriptsFound (parametersOf p) count T found → TranscriptsFound (parameters J) count T found
+  of-job all = subst (λ P. TranscriptsFound P count T found) (g .same) all
 
-  pub rowable : PartsFound (parametersOf p) count R T found → Rowable J T count (λ m. getD passes m false) scratch p
+  pub rowable : TranscriptsFound (parametersOf p) count T found → Rowable J T count (λ m. getD passes m false) scratch p
   rowable all = record {
     same = g .same;
     sound = job-sound J (g .fit);
     job = job-laid J (g .fit);
     few = g .few;
     room = g .room;
-    laid = λ m h pass. part-laid J count R T p found (g .fit) (g .same) (of-job all) m h (sym (passes-at m h) ∙ pass);
+    laid = λ m h pass. part-laid (parameters J) count T found (of-job all) m h (sym (passes-at m h) ∙ pass);
   }
 
   -- with the scratch after the rows
@@ -49,9 +64,9 @@ module _ (J R T : List ℕ) (count scratch : ℕ) (p : EnvironmentParameters) (g
     pub still-given : Given J count (length S′) p
     still-given = record { fit = g .fit; same = g .same; few = g .few; room = subst (λ n. many-need (parameters J) count ≤ n) (sym (kept .size ∙ size)) (g .room) }
 
-    -- the rows are done of every transcript that passes
-    pub rows-ready : PartsFound (parametersOf p) count R T found → All-rows-done J count (λ m. getD passes m false) T S′ (row-count (parameters J)) → Rows-ready J count R T S′
-    rows-ready all done m h pass = done m h (passes-at m h ∙ passing-is (found-of found m) ∙ ap (λ x. result x true false) (of-job all m h) ∙ pass)
+    -- the rows are done of every transcript that passes 7 to 10, since it passes 9 and 10
+    pub rows-ready : TranscriptsFound (parametersOf p) count T found → All-rows-done J count (λ m. getD passes m false) T S′ (row-count (parameters J)) → Rows-ready J count R T S′
+    rows-ready all done m h pass = done m h (passes-at m h ∙ passing-is (found-of found m) ∙ ap (λ x. result x true false) (of-job all m h ∙ sent-fine (parameters J) count R T m pass))
 
 -- the scratch after the rows, the verdicts, and the words of all windows set to zero
 module _ (n : ℕ) {need : ℕ} {S S₁ S₂ S₃ : List ℕ} (rows : Kept need S S₁) (judged : Kept need S₁ S₂) (clear : S₃ ≡ splice S₂ 0 (replicate n 0)) where

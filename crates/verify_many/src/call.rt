@@ -17,7 +17,8 @@ ghost use Rattle.many_admission.specs.Admitted.{Given};
 ghost use Rattle.many_verdicts.specs.Windows.{verdicts-of};
 ghost use Rattle.verify_many.specs.Answers.{manyVerdicts};
 
-// The work of a call that is not refused as a whole: 7 to 10 of each transcript, the rows of A, B, C and D, each once for all, and the verdicts.
+// The work of a call that is not refused as a whole: 9 and 10 of each transcript, the rows of A, B, C and D, each once for all that pass these, and the
+// verdicts, each after 7 and 8. A transcript that passes 7 to 10 takes part in every row; one that is refused by 7 or 8 alone does too, and nothing is taken of it.
 fn work(
     job: &[u32],
     randomness: &[u32],
@@ -30,7 +31,7 @@ fn work(
     ensures { λ r. ⌜ r ≡ verdicts-of (now (job .entry)) count (now (randomness .entry)) (now (transcripts .entry)) ⌝ }
     ensures { λ r. ⌜ now (scratch .exit) ≡ zeroed (many-need (parameters (now (job .entry))) count) (now (scratch .entry)) ⌝ }
 {
-    let found = parts::check_parts(randomness, transcripts, p, count);
+    let found = parts::check_transcripts(transcripts, p, count);
     let passes = parts::passing_parts(found);
     row_products(job, p, count, passes, transcripts, scratch);
     let out = verdicts(job, randomness, transcripts, p, count, found, scratch);

@@ -1,5 +1,5 @@
 -- `verdicts` meets its contract. The invariant: the verdicts on the first m transcripts stand in their places, and the windows from m on are as they were.
-use mathlib.Core.Path.{_≡_, sym, ap, subst, _∙_}
+use mathlib.Core.Path.{_≡_, sym, ap, ap₂, subst, _∙_}
 use mathlib.Core.List.{List}
 use Prim.Native.Nat.{ℕ, _+_, _-_, _*_, _≤_}
 use native.Mathlib.Nat.{mul-le-mul-right}
@@ -7,10 +7,13 @@ use native.Mathlib.Omega.{arith}
 use borrow.Author.Needs.{needs}
 use Rattle.lists.specs.Table.{padded}
 use Rattle.lists.proofs.Padded.{padded-none, padded-next}
-use Rattle.protocol.specs.Parameters.{parameters}
-use Rattle.protocol.specs.Layout.{scratch-need}
+use Rattle.definitions.specs.Answer.{Answer, _then_}
+use Rattle.protocol.specs.Parameters.{Parameters, parameters}
+use Rattle.protocol.specs.Layout.{scratch-need, randomness-refusal, transcript-refusal}
 use Rattle.protocol.specs.Kept.{Kept}
-use Rattle.protocol.specs.Many.{many-need, part-verdict, transcript-part, Rows-done, row-count}
+use Rattle.protocol.specs.Many.{many-need, part-refusal, part-verdict, randomness-part, transcript-part, Rows-done, row-count}
+use Rattle.relation.specs.Parameters.{parametersOf}
+use Rattle.admission.proofs.Ready.{job-sized}
 use Rattle.call_answers.specs.declared.verdicts.LabradorVerdict.{LabradorVerdict}
 use Rattle.call_answers.specs.Calls.{labradorVerdict}
 use Rattle.workspace.proofs.Kept.{kept-refl, kept-trans, kept-weaken}
@@ -35,25 +38,38 @@ loop-holds c =
     let a = c .before .before .before .before .before .args in
     (omega arith, c .eight .ensures ∙ padded-none 8 unused (of-part (a .job .now) (a .count) (a .randomness .now) (a .transcripts .now)), kept-refl _ _)
 
+-- what is found of randomness and transcript together
+found-part : (P P′ : Parameters) (count : ℕ) (R T : List ℕ) (m : ℕ) (x sent : Answer) → P′ ≡ P → x ≡ randomness-refusal P′ 7 (randomness-part P′ count R m) then sent
+    → sent ≡ transcript-refusal P (transcript-part P count T m) → x ≡ part-refusal P count R T m
+unfolding part-refusal
+found-part P P′ count R T m x sent e f g = f ∙ ap₂ (λ P y. randomness-refusal P 7 (randomness-part P count R m) then y) e g
+
+check-part-requires : tie.Need-check-part-requires Inv-loop μ-loop
+check-part-requires c κs =
+    let s = c .before .before .before .before .before .before .before .before in
+    let g = s .pre .0 .0 in
+    (c .before .loop-test .taken, g .few, job-sized (s .args .job .now) (parametersOf (s .args .p)) (sym (g .fit)) (g .same))
+
 verdict-requires : tie.Need-verdict-requires Inv-loop μ-loop
 verdict-requires c κs =
-    let l = c .before .before .before .loop in
-    let s = c .before .before .before .before .before .before .before .before .before in
+    let l = c .before .before .before .before .loop in
+    let s = c .before .before .before .before .before .before .before .before .before .before in
     let a = s .args in
     let P = parameters (a .job .now) in
     let k = l .inv .2 in
-    let g = s .pre .0 .0 in (
-      (record { fit = g .fit; same = g .same; few = g .few; room = subst (λ n. many-need P (a .count) ≤ n) (sym (k .size)) (g .room) }, c .before .before .loop-test .taken),
+    let g = s .pre .0 .0 in
+    let taken = c .before .before .before .loop-test .taken in (
+      (record { fit = g .fit; same = g .same; few = g .few; room = subst (λ n. many-need P (a .count) ≤ n) (sym (k .size)) (g .room) }, taken),
       (
-        s .pre .0 .1 (l .m) (c .before .before .loop-test .taken),
-        λ pass. subst (λ w. Rows-done (a .job .now) (transcript-part P (a .count) (a .transcripts .now) (l .m)) w (row-count P)) (sym (same-window (a .scratch .now) (l .scratch) (l .m) (scratch-need P) k)) (s .pre .1 (l .m) (c .before .before .loop-test .taken) pass),
+        found-part P (parametersOf (a .p)) (a .count) (a .randomness .now) (a .transcripts .now) (l .m) _ _ (g .same) (c .before .check-part .ensures) (s .pre .0 .1 (l .m) taken),
+        λ pass. subst (λ w. Rows-done (a .job .now) (transcript-part P (a .count) (a .transcripts .now) (l .m)) w (row-count P)) (sym (same-window (a .scratch .now) (l .scratch) (l .m) (scratch-need P) k)) (s .pre .1 (l .m) taken pass),
       ),
     )
 
 loop-again : tie.Need-loop-again Inv-loop μ-loop
 loop-again c =
-    let l = c .before .before .before .before .before .before .loop in
-    let s = c .before .before .before .before .before .before .before .before .before .before .before .before in
+    let l = c .before .before .before .before .before .before .before .loop in
+    let s = c .before .before .before .before .before .before .before .before .before .before .before .before .before in
     let a = s .args in
     let P = parameters (a .job .now) in
     let e = c .before .before .verdict .ensures in
@@ -83,6 +99,7 @@ verdicts-spec =
     loop-holds
     (λ c. omega arith)
     (λ c. omega arith)
+    check-part-requires
     verdict-requires
     (λ c. omega arith)
     (λ c. omega arith)

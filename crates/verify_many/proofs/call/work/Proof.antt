@@ -21,7 +21,7 @@ row-products-requires c κs =
     let f = c .before .before in
     let s = f .before .before .before .before .before in
     let a = s .args in
-    rowable (a .job .now) (a .randomness .now) (a .transcripts .now) (a .count) (length (a .scratch .now)) (a .p) (s .pre) (f .check-parts .result) (c .before .passing-parts .result) (c .before .passing-parts .ensures) (f .check-parts .ensures)
+    rowable (a .job .now) (a .randomness .now) (a .transcripts .now) (a .count) (length (a .scratch .now)) (a .p) (s .pre) (f .check-transcripts .result) (c .before .passing-parts .result) (c .before .passing-parts .ensures) (f .check-transcripts .ensures)
 
 verdicts-requires : tie.Need-verdicts-requires
 verdicts-requires c κs =
@@ -31,8 +31,8 @@ verdicts-requires c κs =
     let s = f .before .before .before .before .before in
     let a = s .args in
     let d = r .row-products .ensures in (
-      (still-given (a .job .now) (a .randomness .now) (a .transcripts .now) (a .count) (length (a .scratch .now)) (a .p) (s .pre) (f .check-parts .result) (g .passing-parts .result) (g .passing-parts .ensures) (d .1) refl, of-job (a .job .now) (a .randomness .now) (a .transcripts .now) (a .count) (length (a .scratch .now)) (a .p) (s .pre) (f .check-parts .result) (g .passing-parts .result) (g .passing-parts .ensures) (f .check-parts .ensures)),
-      rows-ready (a .job .now) (a .randomness .now) (a .transcripts .now) (a .count) (length (a .scratch .now)) (a .p) (s .pre) (f .check-parts .result) (g .passing-parts .result) (g .passing-parts .ensures) (d .1) refl (f .check-parts .ensures) (d .0),
+      (still-given (a .job .now) (a .randomness .now) (a .transcripts .now) (a .count) (length (a .scratch .now)) (a .p) (s .pre) (f .check-transcripts .result) (g .passing-parts .result) (g .passing-parts .ensures) (d .1) refl, of-job (a .job .now) (a .randomness .now) (a .transcripts .now) (a .count) (length (a .scratch .now)) (a .p) (s .pre) (f .check-transcripts .result) (g .passing-parts .result) (g .passing-parts .ensures) (f .check-transcripts .ensures)),
+      rows-ready (a .job .now) (a .randomness .now) (a .transcripts .now) (a .count) (length (a .scratch .now)) (a .p) (s .pre) (f .check-transcripts .result) (g .passing-parts .result) (g .passing-parts .ensures) (d .1) refl (f .check-transcripts .ensures) (d .0),
     )
 
 -- the length that is cleared
