@@ -1,35 +1,34 @@
 -- The products in the windows of the scratch: cleared, one more row stored, and the others as they were.
-use mathlib.Core.Path.{_≡_, refl, sym, ap, ap₂, subst, _∙_}
-use mathlib.Core.Bool.{Bool, true, false, cond}
+use mathlib.Core.Path.{_≡_, sym, ap, ap₂, subst, _∙_}
+use mathlib.Core.Bool.{Bool, true, false}
 use mathlib.Core.List.{List, [], _∷_, _++_, append-assoc, flatMap}
 use Prim.Native.Nat.{ℕ, _+_, _-_, _*_, _≤_, _<_}
 use native.Mathlib.Nat.{mul-le-mul-right}
-use native.Mathlib.Decide.{decLt}
+use native.Mathlib.Decide.{decLt, ℕ-discrete}
 use native.Mathlib.Omega.{arith}
-use lib.ListN.{length, take, drop, getD, replicate, length-append, length-replicate, length-drop, replicate-append-replicate}
-use lib.Seq.{take-add, drop-drop, drop-at, length-take-le, ext-getD}
+use lib.ListN.{length, take, drop, replicate, length-append, length-replicate, replicate-append-replicate}
+use lib.Seq.{take-add, drop-drop}
 use Rattle.lists.specs.Table.{table}
 use Rattle.lists.specs.Part.{part, splice}
 use Rattle.lists.proofs.Table.{table-suc}
-use Rattle.lists.proofs.Splice.{length-splice, length-part, getD-part, part-splice-before, part-splice-after, part-splice-same, part-splice-within}
+use Rattle.lists.proofs.Splice.{length-splice, part-splice-before, part-splice-after, part-splice-same}
 use Rattle.definitions.specs.Rq.{Element}
 use Rattle.definitions.specs.Ring.{words}
-use Rattle.protocol.specs.Parameters.{Parameters, parameters}
+use Rattle.protocol.specs.Parameters.{parameters}
 use Rattle.protocol.specs.Layout.{scratch-need}
 use Rattle.protocol.specs.Formulas.{flat}
-use Rattle.protocol.specs.Many.{many-need, transcript-part, row-count, row-product, products-at, Rows-done, window, All-rows-done}
+use Rattle.protocol.specs.Many.{many-need, transcript-part, row-product, Rows-done, window, All-rows-done}
 use Rattle.protocol.proofs.Flat.{length-words}
 use Rattle.protocol.proofs.Stored.{flat-append, flat-one}
-use Rattle.protocol.proofs.LoadSections.{getD-zeros}
 use Rattle.rq_matrix.proofs.Place.{rows-within}
 use Rattle.commitments.proofs.Added.{length-flat-table}
 use Rattle.workspace.specs.Holds.{Holds, Kept}
 use Rattle.workspace.proofs.Holds.{holds-first, holds-second, holds-before, holds-after}
-use Rattle.workspace.proofs.Kept.{kept-refl, kept-stored}
+use Rattle.workspace.proofs.Kept.{kept-stored}
 use Rattle.many_windows.specs.Digits.{window-digits, Stored-digits}
 use Rattle.many_windows.proofs.Windows.{products, done-of, of-done}
 use Rattle.many_windows.proofs.Digits.{length-window-digits}
-use Rattle.many_rows.specs.Rows.{stored-for}
+use Rattle.many_rows.specs.Rows.{stored-for, Products-zero}
 
 -- a part in three
 part-three : (l : List ℕ) (a x y z n : ℕ) → n ≡ x + (y + z) → part l a n ≡ part l a x ++ (part l (a + x) y ++ part l (a + x + y) z)
@@ -41,15 +40,6 @@ part-three l a x y z n e =
 -- the words of one more element
 flat-next : (n : ℕ) (f : ℕ → Element) → flat (table (n + 1) f) ≡ flat (table n f) ++ words (f n)
 flat-next n f = ap flat (table-suc n f) ∙ flat-append (table n f) (f n ∷ []) ∙ ap (λ x. flat (table n f) ++ x) (flat-one (f n))
-
--- a part of zeros
-part-zeros : (n k m : ℕ) → k + m ≤ n → part (replicate {A = ℕ} n 0) k m ≡ replicate m 0
-part-zeros n k m h =
-    let zeros = replicate {A = ℕ} n 0 in
-    let within : k + m ≤ length zeros = omega (arith, length-replicate {A = ℕ} n 0) in
-    let size : length (part zeros k m) ≡ m = length-part zeros k m within in
-    ext-getD 0 (part zeros k m) (replicate m 0) (size ∙ sym (length-replicate {A = ℕ} m 0))
-    (λ i l. getD-part 0 zeros k m i (omega arith) ∙ getD-zeros n (k + i) ∙ sym (getD-zeros m i))
 
 -- the next row's product stored after those of ρ rows
 module _ (S S′ : List ℕ) (a ρ : ℕ) (f : ℕ → Element) (within : a + 4096 ≤ length S) (few : ρ < 64) (before : part S a 4096 ≡ products ρ f) (stored : S′ ≡ splice S (a + 64 * ρ) (words (f ρ))) where
@@ -214,22 +204,31 @@ module _ (J T₀ : List ℕ) (count : ℕ) (passes : ℕ → Bool) (stored : Boo
           holds-before S (i * need) (ws i) place w
           (omega (arith, at, length-window-digits (parameters J) (transcript-part (parameters J) count T₀ i), d .fitting u, mul-le-mul-right {m = i} {n = m} need (omega arith))) (d .all u i c t)
 
--- the scratch cleared: no row is done, and all products are zero
-pub rows-cleared : (J T : List ℕ) (count : ℕ) (passes : ℕ → Bool) (S S′ : List ℕ) (n : ℕ) → n ≡ many-need (parameters J) count → n ≤ length S → S′ ≡ splice S 0 (replicate n 0)
-    → All-rows-done J count passes T S′ 0
-unfolding flat table flatMap
-rows-cleared J T count passes S S′ n e h stored m c t =
-    let need = scratch-need (parameters J) in
-    let at = m * need + (need - 4096) in
-    let inside : m * need + need ≤ n = omega (arith, e, rows-within m count need c) in
-    let size : length (replicate {A = ℕ} n 0) ≡ n = length-replicate {A = ℕ} n 0 in
-    let from-zero : at ≡ 0 + at = omega arith in
-    of-done J (transcript-part (parameters J) count T m) S′ m 0 (omega (arith, inside, ap length stored, length-splice S 0 (replicate n 0)))
-    (ap (λ s. part s at 4096) stored
-    ∙ ap (λ a. part (splice S 0 (replicate n 0)) a 4096) from-zero
-    ∙ part-splice-within 0 S 0 (replicate n 0) at 4096 (omega arith) (omega arith)
-    ∙ part-zeros n at 4096 (omega arith))
+-- one more window's products set to zero
+pub zero-next : (S S′ : List ℕ) (n m count : ℕ) → 4096 ≤ n → m < count → count * n ≤ length S → S′ ≡ splice S (m * n + (n - 4096)) (replicate 4096 0)
+    → ((k : ℕ) → k < m → part S (k * n + (n - 4096)) 4096 ≡ replicate 4096 0) → (k : ℕ) → k < m + 1 → part S′ (k * n + (n - 4096)) 4096 ≡ replicate 4096 0
+zero-next S S′ n m count large c room stored zero k h = by (ℕ-discrete k m)
+  where
+    size : length (replicate {A = ℕ} 4096 0) ≡ 4096
+    size = length-replicate {A = ℕ} 4096 0
 
--- and the words beyond the windows are as they were
-pub kept-cleared : (K : ℕ) (S S′ : List ℕ) (n : ℕ) → n ≡ K → S′ ≡ splice S 0 (replicate n 0) → Kept K S S′
-kept-cleared K S S′ n e stored = kept-stored K S S S′ 0 (replicate n 0) (kept-refl K S) stored (omega (arith, e, length-replicate {A = ℕ} n 0))
+    inside : m * n + n ≤ length S
+    inside = omega (arith, rows-within m count n c)
+
+    by : Dec (k ≡ m) → part S′ (k * n + (n - 4096)) 4096 ≡ replicate 4096 0
+    by (yes same) =
+        let at = m * n + (n - 4096) in
+        ap (λ j. part S′ (j * n + (n - 4096)) 4096) same
+        ∙ ap₂ (λ l w. part l at w) stored (sym size)
+        ∙ part-splice-same 0 S at (replicate 4096 0) (omega (arith, size, inside))
+    by (no other) =
+        let below : k < m = omega (arith, other) in
+        ap (λ l. part l (k * n + (n - 4096)) 4096) stored
+        ∙ part-splice-before 0 S (m * n + (n - 4096)) (replicate 4096 0) (k * n + (n - 4096)) 4096 (omega (arith, rows-within k m n below))
+        ∙ zero k below
+
+-- no row is done, and all products are zero
+pub rows-cleared : (J T : List ℕ) (count : ℕ) (passes : ℕ → Bool) (S : List ℕ) → many-need (parameters J) count ≤ length S → Products-zero (parameters J) count S → All-rows-done J count passes T S 0
+unfolding flat table flatMap
+rows-cleared J T count passes S room zero m c t =
+    of-done J (transcript-part (parameters J) count T m) S m 0 (omega (arith, rows-within m count (scratch-need (parameters J)) c)) (zero m c)

@@ -18,7 +18,8 @@ ghost use Rattle.commitments.specs.Cells.{Room};
 ghost use Rattle.verifier_common.specs.Work.{Posed};
 ghost use Rattle.many_row.specs.Held.{AllHeld};
 ghost use Rattle.many_windows.specs.Digits.{Stored-digits};
-ghost use Rattle.many_rows.specs.Rows.{Rowable, stored-for};
+ghost use Rattle.sizes.specs.Sizes.{Sized};
+ghost use Rattle.many_rows.specs.Rows.{Rowable, stored-for, Products-zero};
 
 // One row's product for transcript m, where it passes, in the window that starts at `start`.
 fn row_of_one(
@@ -112,6 +113,22 @@ fn all_rows(
     }
 }
 
+// The products' part of every window set to zero.
+fn clear_products(p: EnvironmentParameters, count: usize, scratch: &mut [u32])
+    requires { ⌜ Sized (parametersOf p) × (many-need (parametersOf p) count ≤ length (now scratch)) ⌝ }
+    ensures { λ _. ⌜ Products-zero (parametersOf p) count (now (scratch .exit)) ⌝ }
+    ensures { λ _. ⌜ Kept (many-need (parametersOf p) count) (now (scratch .entry)) (now (scratch .exit)) ⌝ }
+{
+    let need = buffers::scratch_length(p);
+    let mut m = 0;
+    let mut start = 0;
+    while m < count {
+        words::clear_run(scratch, start + need - 4096, 4096);
+        start += need;
+        m += 1;
+    }
+}
+
 // All rows, with the digits stored where they have room.
 pub fn row_products(
     job: &[u32],
@@ -125,8 +142,7 @@ pub fn row_products(
     ensures { λ _. ⌜ All-rows-done (now (job .entry)) count (λ m. getD passes m false) (now (transcripts .entry)) (now (scratch .exit)) (row-count (parameters (now (job .entry)))) ⌝ }
     ensures { λ _. ⌜ Kept (many-need (parameters (now (job .entry))) count) (now (scratch .entry)) (now (scratch .exit)) ⌝ }
 {
-    let need = buffers::scratch_length(p);
-    words::clear(scratch, count * need);
+    clear_products(p, count, scratch);
     if many_windows::fits(p) {
         many_windows::digits_of_all(job, p, count, passes, transcripts, scratch);
         all_rows(job, p, count, passes, transcripts, scratch, true);
