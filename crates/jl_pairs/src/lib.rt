@@ -4,7 +4,7 @@ ghost use mathlib.Core.Path.{_≡_};
 ghost use Prim.Native.Nat.{_+_, _*_, _≤_, _<_};
 ghost use lib.ListN.{length};
 ghost use Rattle.lists.specs.Part.{splice};
-ghost use Rattle.jl_pairs.specs.Pairs.{pair-sum, pair-table, joined-sums, four-table};
+ghost use Rattle.jl_pairs.specs.Pairs.{pair-sum, pair-table, joined-sums, four-table, row-tables};
 
 // The sum of the terms of two words of omega and the entries of number x.
 fn pair_sum(randomness: &[u32], at: usize, x: usize) -> u32
@@ -17,7 +17,7 @@ fn pair_sum(randomness: &[u32], at: usize, x: usize) -> u32
 }
 
 // The sums of four rows' terms, two rows together, for each number of their entries and each of four k. The omega of the first k starts at `omega_at`.
-pub fn pair_sums(randomness: &[u32], omega_at: usize) -> [u32; 128]
+fn pair_sums(randomness: &[u32], omega_at: usize) -> [u32; 128]
     requires { ⌜ «omega_at» + 772 ≤ length (now randomness) ⌝ }
     ensures { λ r. ⌜ r ≡ pair-table (now (randomness .entry)) «omega_at» ⌝ }
 {
@@ -46,16 +46,27 @@ fn join_four(pairs: &[u32], x: usize, y: usize, fours: &mut [u32], at: usize)
     fours[at + 3] = fourth;
 }
 
-// The sums of four rows' terms for each number of their entries and each of four k, from those of two rows.
-pub fn four_sums(pairs: &[u32]) -> [u32; 1024]
-    requires { ⌜ length (now pairs) ≡ 128 ⌝ }
-    ensures { λ r. ⌜ r ≡ four-table (now (pairs .entry)) ⌝ }
+// The sums of four rows' terms for each number of their entries and each of four k, from those of two rows, stored from `at` on.
+fn four_sums(pairs: &[u32], tables: &mut [u32], at: usize)
+    requires { ⌜ (length (now pairs) ≡ 128) × (at + 1024 ≤ length (now tables)) ⌝ }
+    ensures { λ _. ⌜ now (tables .exit) ≡ splice (now (tables .entry)) at (four-table (now (pairs .entry))) ⌝ }
 {
-    let mut fours = [0u32; 1024];
     let mut z = 0;
     while z < 256 {
-        join_four(pairs, 4 * (z % 16), 64 + 4 * (z / 16), &mut fours, 4 * z);
+        join_four(pairs, 4 * (z % 16), 64 + 4 * (z / 16), tables, at + 4 * z);
         z += 1;
     }
-    fours
+}
+
+// The tables of 16 rows, one for each four of them. The omega of the first row and the first k stands at `omega_at`.
+pub fn fill_tables(randomness: &[u32], omega_at: usize, tables: &mut [u32])
+    requires { ⌜ («omega_at» + 784 ≤ length (now randomness)) × (length (now tables) ≡ 4096) ⌝ }
+    ensures { λ _. ⌜ now (tables .exit) ≡ row-tables (now (randomness .entry)) «omega_at» ⌝ }
+{
+    let mut t = 0;
+    while t < 4 {
+        let pairs = pair_sums(randomness, omega_at + 4 * t);
+        four_sums(&pairs, tables, 1024 * t);
+        t += 1;
+    }
 }
