@@ -11,17 +11,9 @@ use Rattle.lists.proofs.Table.{length-table, table-ext, table-split, is-table}
 use Rattle.lists.proofs.Splice.{splice-append, length-splice}
 use Rattle.lists.proofs.Fill.{splice-table-next, getD-splice-table}
 
--- four words stored one after the other
-pub four-stored : (l : List ℕ) (at : ℕ) (f : ℕ → ℕ) (x y z w : ℕ) → x ≡ f 0 → y ≡ f 1 → z ≡ f 2 → w ≡ f 3
-    → set (set (set (set l at x) (at + 1) y) (at + 2) z) (at + 3) w ≡ splice l at (table 4 f)
-four-stored l at f x y z w a b c d =
-    ap (λ m. set (set (set m (at + 1) y) (at + 2) z) (at + 3) w) first
-    ∙ ap (λ m. set (set m (at + 2) z) (at + 3) w) (splice-table-next l at 1 f y b)
-    ∙ ap (λ m. set m (at + 3) w) (splice-table-next l at 2 f z c)
-    ∙ splice-table-next l at 3 f w d
-  where
-    first : set l at x ≡ splice l at (table 1 f)
-    first = unfold table in unfold splice in ap (set l at) a
+-- one more entry of a table stored after the first
+pub entry-stored : (l before : List ℕ) (at k : ℕ) (f : ℕ → ℕ) (v : ℕ) → before ≡ splice l at (table k f) → v ≡ f k → set before (at + k) v ≡ splice l at (table (k + 1) f)
+entry-stored l before at k f v e is = ap (λ b. set b (at + k) v) e ∙ splice-table-next l at k f v is
 
 -- more entries of a table stored after the first
 pub table-more : (l : List ℕ) (at k n : ℕ) (f g : ℕ → ℕ) → ((j : ℕ) → j < n → g j ≡ f (k + j)) → splice (splice l at (table k f)) (at + k) (table n g) ≡ splice l at (table (k + n) f)

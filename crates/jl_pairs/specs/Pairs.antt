@@ -17,6 +17,10 @@ pair-number R at step = getD R at 0 / 1073741824 + 4 * (getD R (at + step) 0 / 1
 abbrev pub pair-sum : List ℕ → (at x : ℕ) → ℕ
 pair-sum R at x = carried (term (x % 4 * 1073741824) (getD R at 0)) (term (x / 4 * 1073741824) (getD R (at + 1) 0))
 
+-- and for each of four k
+abbrev pub pair-entries : List ℕ → (at x : ℕ) → List ℕ
+pair-entries R at x = table 4 (λ k. pair-sum R (at + k * 256) x)
+
 -- entry q of the sums of two pairs of rows for each number of their entries and each of four k
 abbrev pub pair-entry : List ℕ → (om q : ℕ) → ℕ
 pair-entry R om q = pair-sum R (om + q / 64 * 2 + q % 4 * 256) (q / 4 % 16)
@@ -28,6 +32,10 @@ pair-table R om = table 128 (pair-entry R om)
 -- four entries of the pairs' sums from x on, and four from y on added
 abbrev pub joined-sums : List ℕ → (x y : ℕ) → List ℕ
 joined-sums pairs x y = table 4 (λ k. carried (getD pairs (x + k) 0) (getD pairs (y + k) 0))
+
+-- the same for each number of the first two rows' entries
+abbrev pub joined-row : List ℕ → (y : ℕ) → List ℕ
+joined-row pairs y = table 64 (λ q. carried (getD pairs q 0) (getD pairs (y + q % 4) 0))
 
 -- entry q of the sums of four rows: the sums for number q / 4 of their entries and k = q % 4
 abbrev pub four-entry : List ℕ → ℕ → ℕ

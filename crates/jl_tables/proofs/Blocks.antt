@@ -9,9 +9,9 @@ use Rattle.lists.specs.Table.{table}
 use Rattle.lists.specs.Part.{splice}
 use Rattle.lists.proofs.Table.{length-table, getD-table}
 use Rattle.lists.proofs.Splice.{getD-splice-after}
-use Rattle.lists.proofs.Fill.{splice-table-next, getD-splice-table}
+use Rattle.lists.proofs.Fill.{getD-splice-table}
 use Rattle.definitions.specs.Zq.{Q}
-use Rattle.jl_pairs.proofs.Column.{table-more}
+use Rattle.jl_pairs.proofs.Column.{table-more, entry-stored}
 use Rattle.jl_pairs.specs.Pairs.{biased, four-place, row-term, Added}
 use Rattle.jl_tables.specs.Tables.{terms-added, place-entry, Places, table-term, column-added, block-added}
 use Rattle.jl_tables.proofs.Terms.{terms-ext, terms-mod}
@@ -45,8 +45,7 @@ pub sum-stored : (l before tables places : List ℕ) (at w k v : ℕ) → before
     → set before (at + k) v ≡ splice l at (table (k + 1) (λ k. terms-added (table-term tables places w k) (getD l (at + k) 0) 4))
 sum-stored l before tables places at w k v e is =
     let f : ℕ → ℕ = λ k. terms-added (table-term tables places w k) (getD l (at + k) 0) 4 in
-    ap (λ b. set b (at + k) v) e
-    ∙ splice-table-next l at k f v
+    entry-stored l before at k f v e
     (is ∙ ap (λ x. terms-added (table-term tables places w k) x 4) (ap (λ b. getD b (at + k) 0) e ∙ getD-splice-after l at (table k f) (at + k) 0 (omega (arith, length-table k f))))
 
 -- one more column of a block

@@ -1,4 +1,4 @@
--- `four_sums` meets its contract. The invariant: the first 4·z entries are stored.
+-- `four_sums` meets its contract. The invariant: the first 64·y entries are stored.
 use mathlib.Core.Path.{_≡_, refl, sym, _∙_, ap, ap₂}
 use mathlib.Core.List.{List}
 use Prim.Native.Nat.{ℕ, _+_, _-_, _*_, _/_, _%_, _≤_, _<_}
@@ -8,30 +8,29 @@ use Rattle.lists.specs.Table.{table}
 use Rattle.lists.specs.Part.{splice}
 use Rattle.lists.proofs.Splice.{splice-nil, length-splice}
 use Rattle.jl_omega.specs.Omega.{carried}
-use Rattle.jl_pairs.specs.Pairs.{joined-sums, four-entry}
+use Rattle.jl_pairs.specs.Pairs.{joined-row, four-entry}
 use Rattle.jl_pairs.proofs.Column.{table-more}
 use Rattle.jl_pairs.proofs.four_sums.Statement.{statement}
 use Rattle.jl_pairs.proofs.four_sums.Tie as tie
 
--- the entries for one more number
-joined : (pairs l before : List ℕ) (at z : ℕ) → before ≡ splice l at (table (4 * z) (four-entry pairs))
-    → splice before (at + 4 * z) (joined-sums pairs (4 * (z % 16)) (64 + 4 * (z / 16))) ≡ splice l at (table (4 * (z + 1)) (four-entry pairs))
-joined pairs l before at z e =
-    let f : ℕ → ℕ = four-entry pairs in
-    let g : ℕ → ℕ = λ k. carried (getD pairs (4 * (z % 16) + k) 0) (getD pairs (64 + 4 * (z / 16) + k) 0) in
-    let next : 4 * z + 4 ≡ 4 * (z + 1) = omega arith in
-    ap (λ b. splice b (at + 4 * z) (table 4 g)) e
-    ∙ table-more l at (4 * z) 4 f g (λ k h.
-    let low : 4 * (z % 16) + k ≡ (4 * z + k) % 64 = omega arith in
-    let high : 64 + 4 * (z / 16) + k ≡ 64 + 4 * ((4 * z + k) / 64) + (4 * z + k) % 4 = omega arith in
-    ap₂ (λ p q. carried (getD pairs p 0) (getD pairs q 0)) low high)
-    ∙ ap (λ n. splice l at (table n f)) next
+-- the entries for one more number of the last two rows' entries
+joined : (pairs l before : List ℕ) (at y : ℕ) → before ≡ splice l at (table (64 * y) (four-entry pairs))
+    → splice before (at + 64 * y) (joined-row pairs (64 + 4 * y)) ≡ splice l at (table (64 * (y + 1)) (four-entry pairs))
+joined pairs l before at y e =
+    let g : ℕ → ℕ = λ q. carried (getD pairs q 0) (getD pairs (64 + 4 * y + q % 4) 0) in
+    let next : 64 * y + 64 ≡ 64 * (y + 1) = omega arith in
+    ap (λ b. splice b (at + 64 * y) (table 64 g)) e
+    ∙ table-more l at (64 * y) 64 (four-entry pairs) g (λ q h.
+    let low : q ≡ (64 * y + q) % 64 = omega arith in
+    let high : 64 + 4 * y + q % 4 ≡ 64 + 4 * ((64 * y + q) / 64) + (64 * y + q) % 4 = omega arith in
+    ap₂ (λ p r. carried (getD pairs p 0) (getD pairs r 0)) low high)
+    ∙ ap (λ n. splice l at (table n (four-entry pairs))) next
 
 abbrev Inv-loop : tie.InvT-loop
-Inv-loop pairs tables₀ at z₀ tables z = (z ≤ 256) × (tables ≡ splice tables₀ at (table (4 * z) (four-entry pairs))) × (length tables ≡ length tables₀)
+Inv-loop pairs tables₀ at y₀ tables y = (y ≤ 16) × (tables ≡ splice tables₀ at (table (64 * y) (four-entry pairs))) × (length tables ≡ length tables₀)
 
 abbrev μ-loop : tie.MeasureT-loop
-μ-loop pairs tables₀ at z₀ tables z = 256 - z
+μ-loop pairs tables₀ at y₀ tables y = 16 - y
 
 loop-holds : tie.Need-loop-holds Inv-loop μ-loop
 unfolding table
@@ -41,14 +40,14 @@ loop-again : tie.Need-loop-again Inv-loop μ-loop
 loop-again c =
     let l = c .before .before .before .before .before .loop in
     let s = c .before .before .before .before .before .before .before .before .args in
-    let stored = c .before .before .join-four .ensures ∙ joined (s .pairs .now) (s .tables .now) (l .tables) (s .at) (l .z) (l .inv .1) in
+    let stored = c .before .before .join-row .ensures ∙ joined (s .pairs .now) (s .tables .now) (l .tables) (s .at) (l .y) (l .inv .1) in
     (omega arith, stored, ap length stored ∙ length-splice _ _ _)
 
 returns : tie.Need-returns Inv-loop μ-loop
 returns c =
     let l = c .before .loop in
     let s = c .before .before .before .before .args in
-    let n : 4 * l .z ≡ 1024 = omega arith in
+    let n : 64 * l .y ≡ 1024 = omega arith in
     l .inv .1 ∙ ap (λ k. splice (s .tables .now) (s .at) (table k (four-entry (s .pairs .now)))) n
 
 pub four-sums-spec : {M : Type 1} → statement M
@@ -58,7 +57,6 @@ four-sums-spec =
     Inv-loop
     μ-loop
     loop-holds
-    (λ c. omega arith)
     (λ c. omega arith)
     (λ c. omega arith)
     (λ c. omega arith)

@@ -2,12 +2,12 @@
 use mathlib.Core.Path.{_≡_, refl, sym, _∙_, ap}
 use Prim.Native.Nat.{_+_, _-_, _≤_}
 use native.Mathlib.Omega.{arith}
-use lib.ListN.{length, set}
+use lib.ListN.{length}
 use Rattle.lists.specs.Table.{table}
 use Rattle.lists.specs.Part.{splice}
 use Rattle.lists.proofs.Splice.{splice-nil, length-splice}
-use Rattle.lists.proofs.Fill.{splice-table-next}
 use Rattle.jl_pairs.specs.Pairs.{four-place}
+use Rattle.jl_pairs.proofs.Column.{entry-stored}
 use Rattle.jl_tables.proofs.four_places.Statement.{statement}
 use Rattle.jl_tables.proofs.four_places.Tie as tie
 
@@ -25,7 +25,7 @@ loop-again : tie.Need-loop-again Inv-loop μ-loop
 loop-again c =
     let l = c .before .before .loop in
     let s = c .before .before .before .before .before .args in
-    let stored = ap (λ m. set m (s .to + l .w) (c .four-place .result)) (l .inv .1) ∙ splice-table-next (s .places .now) (s .to) (l .w) (λ j. four-place (s .randomness .now) (s .at + j) (s .step)) (c .four-place .result) (c .four-place .ensures) in
+    let stored = entry-stored (s .places .now) (l .places) (s .to) (l .w) (λ j. four-place (s .randomness .now) (s .at + j) (s .step)) (c .four-place .result) (l .inv .1) (c .four-place .ensures) in
     (omega arith, stored, ap length stored ∙ length-splice _ _ _)
 
 returns : tie.Need-returns Inv-loop μ-loop
