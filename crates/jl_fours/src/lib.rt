@@ -11,8 +11,8 @@ ghost use Rattle.jl_omega.specs.Omega.{omega-element};
 ghost use Rattle.jl_pairs.specs.Pairs.{biased};
 ghost use Rattle.jl_fours.specs.Fours.{Summed, summed-element, spread};
 
-// The 256 rows of n elements from `pi_at` on, each times its omega for each of four k, added to the sums of their columns. The sums are kept with 2^31 added, and
-// so zero before.
+// The 256 rows of n elements from `pi_at` on, each times its omega for each of four k, added to the sums of their columns. The sums
+// are kept with 2^31 added, and are 0 before.
 fn add_rows(randomness: &[u32], pi_at: usize, n: usize, omega_at: usize, sums: &mut [u32])
     requires { ⌜ («pi_at» + 256 * (64 * n) ≤ length (now randomness)) × («omega_at» + 1024 ≤ length (now randomness)) × (now sums ≡ replicate 16384 2147483648) × (n ≤ 64) ⌝ }
     ensures { λ _. ⌜ (length (now (sums .exit)) ≡ 16384) × Summed (now (randomness .entry)) «pi_at» «omega_at» (64 * n) 256 (now (sums .exit)) ⌝ }

@@ -1,4 +1,4 @@
-// The sums of four rows' terms for four k, for each number of the rows' entries: those of two rows are worked out first.
+// Tables of the sums of four rows' terms for four k, for each number of the rows' entries: the sums of two rows are worked out first.
 use jl::projection;
 ghost use mathlib.Core.Path.{_≡_};
 ghost use Prim.Native.Nat.{_+_, _*_, _≤_, _<_};

@@ -7,11 +7,11 @@ use Rattle.lists.specs.Table.{table}
 use Rattle.jl_omega.specs.Omega.{carried}
 use Rattle.jl_pairs.specs.Pairs.{four-place, biased}
 
--- a sum that is kept so, with a term added
+-- a sum that is kept with 2^31 added, and a term added to it
 abbrev pub biased-sum : ℕ → ℕ → ℕ
 biased-sum x term = biased (carried (biased x) term)
 
--- and with the first terms added
+-- and the first terms added to it
 unfoldable pub terms-added : (ℕ → ℕ) → ℕ → ℕ → ℕ
 terms-added f x zero = x
 terms-added f x (suc t) = biased-sum (terms-added f x t) (f t)

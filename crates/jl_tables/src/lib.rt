@@ -16,7 +16,7 @@ pub fn biased(x: u32) -> u32
     std::num::wrapping_add_u32(x, 2147483648)
 }
 
-// A sum that is kept so, with a term added: it has passed 32 bits where it is less than before.
+// A sum that is kept so, with a term added. Without the 2^31 it has passed 32 bits where it is less than before.
 fn biased_add(sum: u32, term: u32) -> u32
     ensures { λ r. ⌜ r ≡ biased-sum sum term ⌝ }
 {

@@ -1,6 +1,5 @@
 -- `biased_add` meets its contract.
 use mathlib.Core.Path.{_∙_}
-use native.Mathlib.Omega.{arith}
 use borrow.Author.Needs.{needs}
 use Rattle.jl_tables.proofs.Terms.{sum-passed, sum-stayed}
 use Rattle.jl_tables.proofs.biased_add.Statement.{statement}
