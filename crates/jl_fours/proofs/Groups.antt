@@ -2,26 +2,22 @@
 use mathlib.Core.Path.{_≡_, refl, sym, ap, ap₂, _∙_}
 use mathlib.Core.Bool.{cond}
 use mathlib.Core.List.{List}
-use Prim.Native.Nat.{ℕ, _+_, _*_, _/_, _%_, _≤_, _<_}
-use native.Mathlib.Nat.{zero-add, mul-le-mul-right}
+use Prim.Native.Nat.{ℕ, zero, suc, _+_, _*_, _/_, _%_, _≤_, _<_}
+use native.Mathlib.Nat.{add-zero, add-assoc, mul-le-mul-right}
 use native.Mathlib.Omega.{arith}
 use borrow.Author.Tests.{lt-ltb, le-ltb}
 use lib.Dec.{ltb}
-use lib.ListN.{length, getD, set, replicate, getD-replicate}
+use lib.ListN.{getD, replicate, getD-replicate}
 use Rattle.lists.specs.Sum.{Σ}
 use Rattle.lists.specs.Table.{table}
-use Rattle.lists.specs.Part.{splice}
 use Rattle.lists.proofs.Sum.{Σ-suc}
-use Rattle.lists.proofs.Table.{length-table, getD-table, table-ext, table-split}
-use Rattle.lists.proofs.Splice.{splice-append, getD-splice-after}
-use Rattle.lists.proofs.Fill.{splice-table-next, getD-splice-table}
+use Rattle.lists.proofs.Table.{getD-table}
 use Rattle.definitions.specs.Zq.{Q, zneg}
 use Rattle.definitions.specs.Projection.{entry}
 use Rattle.definitions.proofs.Cases.{ltb-cases}
 use Rattle.jl.specs.Rows.{term}
 use Rattle.jl_omega.specs.Omega.{carried, omega-element}
-use Rattle.jl_pairs.specs.Pairs.{pair-number, pair-sum, pair-entry, column-term}
-use Rattle.jl_pairs.proofs.Column.{column-term-at}
+use Rattle.jl_pairs.specs.Pairs.{pair-number, pair-sum, pair-entry, four-entry, four-place, tables-entry, row-tables, row-term, biased, Added}
 use Rattle.jl_fours.specs.Fours.{Summed, summed-element}
 use Rattle.jl.proofs.Places.{add-mod}
 use Rattle.jl.proofs.Terms.{term-mod}
@@ -48,6 +44,21 @@ number-mod u d w e h = ap (λ d. term (d * 1073741824) w % Q) e ∙ term-mod (u 
 -- four more terms of a sum
 four-terms : (n : ℕ) (f : ℕ → ℕ) → Σ n f + (f n + f (n + 1) + (f (n + 1 + 1) + f (n + 1 + 1 + 1))) ≡ Σ (n + 1 + 1 + 1 + 1) f
 four-terms n f = omega (arith, Σ-suc n f, Σ-suc (n + 1) f, Σ-suc (n + 1 + 1) f, Σ-suc (n + 1 + 1 + 1) f)
+
+-- four more terms of a sum at a time, modulo Q
+groups-mod : (a b : ℕ) (f F : ℕ → ℕ) (m : ℕ) → b % Q ≡ Σ (4 * a) f % Q
+    → ((t : ℕ) → t < m → F t % Q ≡ (f (4 * (a + t)) + f (4 * (a + t) + 1) + (f (4 * (a + t) + 1 + 1) + f (4 * (a + t) + 1 + 1 + 1))) % Q) → (b + Σ m F) % Q ≡ Σ (4 * (a + m)) f % Q
+unfolding Σ
+groups-mod a b f F zero s h = ap (λ x. x % Q) (add-zero b) ∙ s ∙ ap (λ n. Σ (4 * n) f % Q) (sym (add-zero a))
+groups-mod a b f F (suc m) s h =
+    let next : 4 * (a + m) + 1 + 1 + 1 + 1 ≡ 4 * (a + suc m) = omega arith in
+    ap (λ x. x % Q) (sym (add-assoc b (Σ m F) (F m)))
+    ∙ add-mod Q (b + Σ m F) (F m) (Σ (4 * (a + m)) f) four (groups-mod a b f F m s (λ t l. h t (omega arith))) (h m (omega arith))
+    ∙ ap (λ x. x % Q) (four-terms (4 * (a + m)) f)
+    ∙ ap (λ n. Σ n f % Q) next
+  where
+    four : ℕ
+    four = f (4 * (a + m)) + f (4 * (a + m) + 1) + (f (4 * (a + m) + 1 + 1) + f (4 * (a + m) + 1 + 1 + 1))
 
 module _ (R : List ℕ) (h : (i : ℕ) → getD R i 0 ≤ Q) where
   -- the sum of two rows' terms modulo Q
@@ -113,9 +124,12 @@ module _ (R : List ℕ) (h : (i : ℕ) → getD R i 0 ≤ Q) where
         (product-at (pi + 4 * g * width + 2 * width + c + width) (om + 4 * g + 1 * 2 + k * 256 + 1) (pi + (4 * g + 1 + 1 + 1) * width + c) (om + k * 256 + (4 * g + 1 + 1 + 1)) (omega arith) (omega arith))
 
     -- what group g adds to the sum of column c for k
-    group-mod : column-term R (pi + 4 * g * width) width pairs (4 * c + k) % Q ≡ (product (4 * g) + product (4 * g + 1) + (product (4 * g + 1 + 1) + product (4 * g + 1 + 1 + 1))) % Q
-    group-mod =
-        ap (λ x. x % Q) (column-term-at R (pi + 4 * g * width) width pairs c k few)
+    group-mod : (x : ℕ)
+        → x
+        ≡ carried (getD pairs (4 * pair-number R (pi + 4 * g * width + c) width + k) 0) (getD pairs (64 + 4 * pair-number R (pi + 4 * g * width + 2 * width + c) width + k) 0)
+        → x % Q ≡ (product (4 * g) + product (4 * g + 1) + (product (4 * g + 1 + 1) + product (4 * g + 1 + 1 + 1))) % Q
+    group-mod x e =
+        ap (λ x. x % Q) e
         ∙ carried-mod first second
         ∙ add-mod Q first second (product (4 * g) + product (4 * g + 1)) (product (4 * g + 1 + 1) + product (4 * g + 1 + 1 + 1)) first-mod second-mod
       where
@@ -125,42 +139,76 @@ module _ (R : List ℕ) (h : (i : ℕ) → getD R i 0 ≤ Q) where
         second : ℕ
         second = getD pairs (64 + 4 * pair-number R (pi + 4 * g * width + 2 * width + c) width + k) 0
 
-  -- the sums after the rows of one more group
-  pub group-summed : (pi om width g : ℕ) (before after : List ℕ) → 4 * width ≤ length before → Summed R pi om width (4 * g) before
-      → after ≡ splice before 0 (table (4 * width) (λ p. carried (getD before p 0) (column-term R (pi + 4 * g * width) width (table 128 (pair-entry R (om + 4 * g))) p)))
-      → Summed R pi om width (4 * (g + 1)) after
-  group-summed pi om width g before after long s e c k column few =
-      let start : 4 * c + k ≡ 0 + (4 * c + k) = omega arith in
-      let rows : 4 * g + 1 + 1 + 1 + 1 ≡ 4 * (g + 1) = omega arith in
-      ap (λ l. getD l (4 * c + k) 0 % Q) e
-      ∙ ap (λ i. getD (splice before 0 (table (4 * width) sum)) i 0 % Q) start
-      ∙ ap (λ x. x % Q) (getD-splice-table before 0 (4 * width) sum (4 * c + k) 0 (omega arith) (omega arith))
-      ∙ carried-mod (getD before (4 * c + k) 0) (column-term R (pi + 4 * g * width) width (table 128 (pair-entry R (om + 4 * g))) (4 * c + k))
-      ∙ add-mod Q
-      (getD before (4 * c + k) 0)
-      (column-term R (pi + 4 * g * width) width (table 128 (pair-entry R (om + 4 * g))) (4 * c + k))
-      (Σ (4 * g) f)
-      (f (4 * g) + f (4 * g + 1) + (f (4 * g + 1 + 1) + f (4 * g + 1 + 1 + 1)))
-      (s c k column few)
-      (group-mod pi om width g c k few)
-      ∙ ap (λ x. x % Q) (four-terms (4 * g) f)
-      ∙ ap (λ m. Σ m f % Q) rows
-    where
-      sum : ℕ → ℕ
-      sum p = carried (getD before p 0) (column-term R (pi + 4 * g * width) width (table 128 (pair-entry R (om + 4 * g))) p)
+  -- the entries of table t for a number x + 16·y and k
+  table-at : (om t x y k : ℕ) → t < 4 → x < 16 → y < 16 → k < 4
+      → getD (row-tables R om) (1024 * t + 4 * (x + 16 * y) + k) 0
+      ≡ carried (getD (table 128 (pair-entry R (om + 4 * t))) (4 * x + k) 0) (getD (table 128 (pair-entry R (om + 4 * t))) (64 + 4 * y + k) 0)
+  table-at om t x y k ht hx hy hk =
+      let which : (1024 * t + 4 * (x + 16 * y) + k) / 1024 ≡ t = omega arith in
+      let place : (1024 * t + 4 * (x + 16 * y) + k) % 1024 ≡ 4 * (x + 16 * y) + k = omega arith in
+      let low : (4 * (x + 16 * y) + k) % 64 ≡ 4 * x + k = omega arith in
+      let high : 64 + 4 * ((4 * (x + 16 * y) + k) / 64) + (4 * (x + 16 * y) + k) % 4 ≡ 64 + 4 * y + k = omega arith in
+      getD-table 4096 (tables-entry R om) (1024 * t + 4 * (x + 16 * y) + k) 0 (omega arith)
+      ∙ ap₂ (λ u v. four-entry (table 128 (pair-entry R (om + 4 * u))) v) which place
+      ∙ ap₂ (λ p q. carried (getD (table 128 (pair-entry R (om + 4 * t))) p 0) (getD (table 128 (pair-entry R (om + 4 * t))) q 0)) low high
 
+  -- the number of two words' entries is below 16
+  pair-below : (at step : ℕ) → pair-number R at step < 16
+  pair-below at step = omega (arith, h at, h (at + step))
+
+  -- what table t gives for the sum of column c and k
+  row-term-at : (pi om width g c k t : ℕ) → k < 4 → t < 4
+      → row-term R (pi + 16 * g * width) width (row-tables R (om + 16 * g)) (4 * c + k) t
+      ≡ carried (getD (table 128 (pair-entry R (om + 4 * (4 * g + t)))) (4 * pair-number R (pi + 4 * (4 * g + t) * width + c) width + k) 0)
+      (getD (table 128 (pair-entry R (om + 4 * (4 * g + t)))) (64 + 4 * pair-number R (pi + 4 * (4 * g + t) * width + 2 * width + c) width + k) 0)
+  row-term-at pi om width g c k t few less =
+      let column : (4 * c + k) / 4 ≡ c = omega arith in
+      let rest : (4 * c + k) % 4 ≡ k = omega arith in
+      let first : row + 4 * t * width + c ≡ pi + 4 * (4 * g + t) * width + c = omega arith in
+      let second : row + 4 * t * width + c + 2 * width ≡ pi + 4 * (4 * g + t) * width + 2 * width + c = omega arith in
+      let start : om + 16 * g + 4 * t ≡ om + 4 * (4 * g + t) = omega arith in
+      ap₂ (λ u v. getD (row-tables R (om + 16 * g)) (1024 * t + four-place R (row + 4 * t * width + u) width + v) 0) column rest
+      ∙ table-at (om + 16 * g) t (pair-number R (row + 4 * t * width + c) width) (pair-number R (row + 4 * t * width + c + 2 * width) width) k less
+      (pair-below (row + 4 * t * width + c) width)
+      (pair-below (row + 4 * t * width + c + 2 * width) width)
+      few
+      ∙ ap (λ o. carried (getD (table 128 (pair-entry R o)) (4 * pair-number R (row + 4 * t * width + c) width + k) 0)
+      (getD (table 128 (pair-entry R o)) (64 + 4 * pair-number R (row + 4 * t * width + c + 2 * width) width + k) 0))
+      start
+      ∙ ap₂ (λ a b. carried (getD (table 128 (pair-entry R (om + 4 * (4 * g + t)))) (4 * pair-number R a width + k) 0)
+      (getD (table 128 (pair-entry R (om + 4 * (4 * g + t)))) (64 + 4 * pair-number R b width + k) 0))
+      first
+      second
+    where
+      row : ℕ
+      row = pi + 16 * g * width
+
+  -- the sums after 16 more rows
+  pub group-summed : (pi om width g : ℕ) (tables before after : List ℕ) → tables ≡ row-tables R (om + 16 * g) → Summed R pi om width (16 * g) before
+      → Added R (pi + 16 * g * width) width tables before after → Summed R pi om width (16 * (g + 1)) after
+  group-summed pi om width g tables before after e s added c k column few =
+      let rows : 16 * g ≡ 4 * (4 * g) = omega arith in
+      let next : 4 * (4 * g + 4) ≡ 16 * (g + 1) = omega arith in
+      added (4 * c + k) (omega arith)
+      ∙ ap (λ l. (biased (getD before (4 * c + k) 0) + Σ 4 (row-term R (pi + 16 * g * width) width l (4 * c + k))) % Q) e
+      ∙ groups-mod (4 * g) (biased (getD before (4 * c + k) 0)) f (row-term R (pi + 16 * g * width) width (row-tables R (om + 16 * g)) (4 * c + k)) 4
+      (s c k column few ∙ ap (λ m. Σ m f % Q) rows)
+      (λ t less.
+      group-mod pi om width (4 * g + t) c k few (row-term R (pi + 16 * g * width) width (row-tables R (om + 16 * g)) (4 * c + k) t) (row-term-at pi om width g c k t few less))
+      ∙ ap (λ m. Σ m f % Q) next
+    where
       f : ℕ → ℕ
       f j = entry (getD R (pi + j * width + c) 0) * getD R (om + k * 256 + j) 0
 
--- the rows of group g end before the 256 rows do
-pub group-within : (g width : ℕ) → g < 64 → 4 * g * width + 4 * width ≤ 256 * width
-group-within g width h = let rows : 4 * g + 4 ≤ 256 = omega arith in omega (arith, mul-le-mul-right width rows)
+-- 16 rows end before the 256 rows do
+pub group-within : (g width : ℕ) → g < 16 → 16 * g * width + 16 * width ≤ 256 * width
+group-within g width h = let rows : 16 * g + 16 ≤ 256 = omega arith in omega (arith, mul-le-mul-right width rows)
 
--- no rows are summed in zeros
-pub none-summed : (R : List ℕ) (pi om width : ℕ) (sums : List ℕ) → width ≤ 4096 → sums ≡ replicate 16384 0 → Summed R pi om width (4 * 0) sums
+-- no rows are summed at first
+pub none-summed : (R : List ℕ) (pi om width : ℕ) (sums : List ℕ) → width ≤ 4096 → sums ≡ replicate 16384 2147483648 → Summed R pi om width (16 * 0) sums
 unfolding Σ
 none-summed R pi om width sums w e c k column few =
-    ap (λ l. getD l (4 * c + k) 0 % Q) e ∙ ap (λ x. x % Q) (getD-replicate 16384 (4 * c + k) 0 0 (omega arith))
+    ap (λ l. biased (getD l (4 * c + k) 0) % Q) e ∙ ap (λ x. biased x % Q) (getD-replicate 16384 (4 * c + k) 2147483648 0 (omega arith))
 
 -- all rows are summed
 pub all-summed : (R : List ℕ) (pi om width rows : ℕ) (sums : List ℕ) → rows ≡ 256 → Summed R pi om width rows sums → Summed R pi om width 256 sums
@@ -170,6 +218,6 @@ all-summed R pi om width rows sums e s c k column few =
 -- the elements of the sums of all rows are the omega part's
 pub summed-is : (R : List ℕ) (pi om n : ℕ) (sums : List ℕ) → Summed R pi om (64 * n) 256 sums → (k m : ℕ) → k < 4 → m < n → summed-element sums k m ≡ omega-element R pi (om + k * 256) n m
 summed-is R pi om n sums s k m few within =
-    conjugated-columns R pi (om + k * 256) n m (λ w. getD sums (256 * m + k + 4 * w) 0) (λ w l.
+    conjugated-columns R pi (om + k * 256) n m (λ w. biased (getD sums (256 * m + k + 4 * w) 0)) (λ w l.
     let place : 256 * m + k + 4 * w ≡ 4 * (64 * m + w) + k = omega arith in
-    ap (λ i. getD sums i 0 % Q) place ∙ s (64 * m + w) k (omega arith) few)
+    ap (λ i. biased (getD sums i 0) % Q) place ∙ s (64 * m + w) k (omega arith) few)

@@ -10,15 +10,16 @@ use Rattle.definitions.specs.Zq.{Q}
 use Rattle.definitions.specs.Projection.{entry}
 use Rattle.definitions.specs.Rq.{Element}
 use Rattle.definitions.specs.Ring.{element, conj}
+use Rattle.jl_pairs.specs.Pairs.{biased}
 
--- the sums of `width` columns after the first rows, modulo Q
+-- the sums of `width` columns after the first rows, modulo Q: they are kept with 2^31 added
 abbrev pub Summed : List ℕ → (pi om width rows : ℕ) → List ℕ → Type 0
 Summed R pi om width rows sums =
-    (c k : ℕ) → c < width → k < 4 → getD sums (4 * c + k) 0 % Q ≡ Σ rows (λ j. entry (getD R (pi + j * width + c) 0) * getD R (om + k * 256 + j) 0) % Q
+    (c k : ℕ) → c < width → k < 4 → biased (getD sums (4 * c + k) 0) % Q ≡ Σ rows (λ j. entry (getD R (pi + j * width + c) 0) * getD R (om + k * 256 + j) 0) % Q
 
 -- element m of the sums for k, conjugated
 abbrev pub summed-element : List ℕ → (k m : ℕ) → Element
-summed-element sums k m = conj (element (table 64 (λ w. getD sums (256 * m + k + 4 * w) 0)))
+summed-element sums k m = conj (element (table 64 (λ w. biased (getD sums (256 * m + k + 4 * w) 0))))
 
 -- runs of words stored `step` words apart
 unfoldable pub spread : List ℕ → (at step count : ℕ) → (ℕ → List ℕ) → List ℕ

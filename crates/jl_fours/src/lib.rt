@@ -1,4 +1,4 @@
-// The omega part of φ'' of one vector for four k at once. Each projection word is read once for the four: rows are taken four at a time, and a column's
+// The omega part of φ'' of one vector for four k at once. Each projection word is read once for the four: rows are taken 16 at a time, and a column's
 // four sums, one for each k, stand side by side.
 use rq::rq::Rq;
 ghost use mathlib.Core.Path.{_≡_};
@@ -8,39 +8,33 @@ ghost use Rattle.lists.specs.Table.{table};
 ghost use Rattle.lists.specs.Part.{splice};
 ghost use Rattle.protocol.specs.Formulas.{flat};
 ghost use Rattle.jl_omega.specs.Omega.{omega-element};
-ghost use Rattle.jl_pairs.specs.Pairs.{pair-table, column-sums};
+ghost use Rattle.jl_pairs.specs.Pairs.{biased};
 ghost use Rattle.jl_fours.specs.Fours.{Summed, summed-element, spread};
 
-// The four rows of n elements from `row_at` on, each times its omega for each of four k, added to the sums of their columns.
-fn add_four_rows(randomness: &[u32], row_at: usize, n: usize, omega_at: usize, sums: &mut [u32])
-    requires { ⌜ («row_at» + 4 * (64 * n) ≤ length (now randomness)) × («omega_at» + 772 ≤ length (now randomness)) × (4 * (64 * n) ≤ length (now sums)) ⌝ }
-    ensures { λ _. ⌜ now (sums .exit) ≡ splice (now (sums .entry)) 0 (column-sums (now (randomness .entry)) «row_at» (64 * n) (pair-table (now (randomness .entry)) «omega_at») (now (sums .entry))) ⌝ }
-{
-    let pairs = jl_pairs::pair_sums(randomness, omega_at);
-    jl_tables::add_columns(randomness, row_at, n, &pairs, sums);
-}
-
-// The 256 rows of n elements from `pi_at` on, each times its omega for each of four k, added to the sums of their columns, which are zero before.
+// The 256 rows of n elements from `pi_at` on, each times its omega for each of four k, added to the sums of their columns. The sums
+// are kept with 2^31 added, and are 0 before.
 fn add_rows(randomness: &[u32], pi_at: usize, n: usize, omega_at: usize, sums: &mut [u32])
-    requires { ⌜ («pi_at» + 256 * (64 * n) ≤ length (now randomness)) × («omega_at» + 1024 ≤ length (now randomness)) × (now sums ≡ replicate 16384 0) × (n ≤ 64) ⌝ }
+    requires { ⌜ («pi_at» + 256 * (64 * n) ≤ length (now randomness)) × («omega_at» + 1024 ≤ length (now randomness)) × (now sums ≡ replicate 16384 2147483648) × (n ≤ 64) ⌝ }
     ensures { λ _. ⌜ (length (now (sums .exit)) ≡ 16384) × Summed (now (randomness .entry)) «pi_at» «omega_at» (64 * n) 256 (now (sums .exit)) ⌝ }
 {
     let width = 64 * n;
+    let mut tables = [0u32; 4096];
     let mut g = 0;
-    while g < 64 {
-        add_four_rows(randomness, pi_at + 4 * g * width, n, omega_at + 4 * g, sums);
+    while g < 16 {
+        jl_pairs::fill_tables(randomness, omega_at + 16 * g, &mut tables);
+        jl_tables::add_columns(randomness, pi_at + 16 * g * width, n, &tables, sums);
         g += 1;
     }
 }
 
-// Every fourth word from `at` on, 64 of them, as an element's.
+// Every fourth sum from `at` on, 64 of them, as an element's words.
 fn column_element(sums: &[u32], at: usize) -> Rq
     requires { ⌜ at + 253 ≤ length (now sums) ⌝ }
-    ensures { λ r. ⌜ r .coeffs ≡ table 64 (λ w. getD (now (sums .entry)) (at + 4 * w) 0) ⌝ }
+    ensures { λ r. ⌜ r .coeffs ≡ table 64 (λ w. biased (getD (now (sums .entry)) (at + 4 * w) 0)) ⌝ }
 {
     let mut coeffs = [0u32; Rq::DEGREE];
     for w in 0..Rq::DEGREE {
-        coeffs[w] = sums[at + 4 * w];
+        coeffs[w] = jl_tables::biased(sums[at + 4 * w]);
     }
     Rq { coeffs }
 }
@@ -84,7 +78,7 @@ pub fn omega_part(
     requires { ⌜ («pi_at» + 256 * (64 * n) ≤ length (now randomness)) × («omega_at» + 1024 ≤ length (now randomness)) × («out_at» + 3 * step + 64 * n ≤ length (now out)) × (n ≤ 64) ⌝ }
     ensures { λ _. ⌜ now (out .exit) ≡ spread (now (out .entry)) «out_at» step 4 (λ k. flat (table n (omega-element (now (randomness .entry)) «pi_at» («omega_at» + k * 256) n))) ⌝ }
 {
-    let mut sums = [0u32; 16384];
+    let mut sums = [2147483648u32; 16384];
     add_rows(randomness, pi_at, n, omega_at, &mut sums);
     store_parts(&sums, out, out_at, step, n);
 }

@@ -1,13 +1,32 @@
-// The terms of four rows added to the sums of the columns for four k. The numbers of the rows' entries are worked out for 64 columns at a time; a number is the
-// place in a table of the four sums, one for each k, that are added side by side.
+// The terms of 16 rows added to the sums of the columns for four k. The places of the rows' entries in the tables are worked out for 64 columns at a time; at a
+// place stand the four sums, one for each k, that are added side by side.
 use zq::wide::wide_usize;
 ghost use mathlib.Core.Path.{_≡_};
 ghost use Prim.Native.Nat.{_+_, _*_, _/_, _≤_, _<_};
-ghost use lib.ListN.{length, getD};
+ghost use lib.ListN.{length};
 ghost use Rattle.lists.specs.Table.{table};
 ghost use Rattle.lists.specs.Part.{splice};
-ghost use Rattle.jl_pairs.specs.Pairs.{pair-number, column-sums};
-ghost use Rattle.jl_tables.specs.Tables.{four-number, four-added, block-added};
+ghost use Rattle.jl_pairs.specs.Pairs.{pair-number, four-place, biased, Added};
+ghost use Rattle.jl_tables.specs.Tables.{biased-sum, terms-added, place-entry, Places, table-term, column-added, block-added};
+
+// 2^31 added, modulo 2^32: the sums of columns are kept so.
+pub fn biased(x: u32) -> u32
+    ensures { λ r. ⌜ r ≡ biased x ⌝ }
+{
+    std::num::wrapping_add_u32(x, 2147483648)
+}
+
+// A sum that is kept so, with a term added. Without the 2^31 it has passed 32 bits where it is less than before.
+fn biased_add(sum: u32, term: u32) -> u32
+    ensures { λ r. ⌜ r ≡ biased-sum sum term ⌝ }
+{
+    let next = std::num::wrapping_add_u32(sum, term);
+    if biased(next) < biased(sum) {
+        std::num::wrapping_add_u32(next, 1)
+    } else {
+        next
+    }
+}
 
 // The upper two bits of a projection word: 0 where its entry is −1, 1 where it is 1, and 2 or 3 where it is 0.
 fn entry_number(code: u32) -> u32
@@ -24,64 +43,82 @@ fn pair_number(randomness: &[u32], at: usize, step: usize) -> u32
     entry_number(randomness[at]) + 4 * entry_number(randomness[at + step])
 }
 
-// The number of the entries of four projection words, `step` words apart.
-fn four_number(randomness: &[u32], at: usize, step: usize) -> u32
+// The place in their table of the entries of four projection words, `step` words apart.
+fn four_place(randomness: &[u32], at: usize, step: usize) -> u32
     requires { ⌜ at + 3 * step < length (now randomness) ⌝ }
-    ensures { λ r. ⌜ r ≡ four-number (now (randomness .entry)) at step ⌝ }
+    ensures { λ r. ⌜ r ≡ four-place (now (randomness .entry)) at step ⌝ }
 {
     let first = pair_number(randomness, at, step);
     let second = pair_number(randomness, at + 2 * step, step);
-    first + 16 * second
+    4 * (first + 16 * second)
 }
 
-// The numbers of 64 columns.
-fn numbers(randomness: &[u32], at: usize, step: usize) -> [u32; 64]
-    requires { ⌜ at + 63 + 3 * step < length (now randomness) ⌝ }
-    ensures { λ r. ⌜ r ≡ table 64 (λ w. four-number (now (randomness .entry)) (at + w) step) ⌝ }
-{
-    let mut out = [0u32; 64];
-    for w in 0..64 {
-        out[w] = four_number(randomness, at + w, step);
-    }
-    out
-}
-
-// Four sums, with four entries from x on added.
-fn add_four(fours: &[u32], x: usize, sums: &mut [u32], at: usize)
-    requires { ⌜ (x + 4 ≤ length (now fours)) × (at + 4 ≤ length (now sums)) ⌝ }
-    ensures { λ _. ⌜ now (sums .exit) ≡ splice (now (sums .entry)) at (four-added (now (sums .entry)) at (now (fours .entry)) x) ⌝ }
-{
-    let first = jl_omega::carry_add(sums[at], fours[x]);
-    let second = jl_omega::carry_add(sums[at + 1], fours[x + 1]);
-    let third = jl_omega::carry_add(sums[at + 2], fours[x + 2]);
-    let fourth = jl_omega::carry_add(sums[at + 3], fours[x + 3]);
-    sums[at] = first;
-    sums[at + 1] = second;
-    sums[at + 2] = third;
-    sums[at + 3] = fourth;
-}
-
-// The sums of 64 columns, with the entries of their numbers added.
-fn add_block(fours: &[u32], codes: [u32; 64], sums: &mut [u32], at: usize)
-    requires { ⌜ (length (now fours) ≡ 1024) × ((w : _) → w < 64 → getD codes w 0 < 256) × (at + 256 ≤ length (now sums)) ⌝ }
-    ensures { λ _. ⌜ now (sums .exit) ≡ splice (now (sums .entry)) at (block-added (now (sums .entry)) at (now (fours .entry)) codes) ⌝ }
+// The places of 64 columns and four rows, stored from `to` on.
+fn four_places(randomness: &[u32], at: usize, step: usize, places: &mut [u32], to: usize)
+    requires { ⌜ (at + 63 + 3 * step < length (now randomness)) × (to + 64 ≤ length (now places)) ⌝ }
+    ensures { λ _. ⌜ now (places .exit) ≡ splice (now (places .entry)) to (table 64 (λ w. four-place (now (randomness .entry)) (at + w) step)) ⌝ }
 {
     for w in 0..64 {
-        add_four(fours, 4 * wide_usize(codes[w]), sums, at + 4 * w);
+        places[to + w] = four_place(randomness, at + w, step);
     }
 }
 
-// The terms of four rows of n elements from `row_at` on added to the sums of their columns.
-pub fn add_columns(randomness: &[u32], row_at: usize, n: usize, pairs: &[u32], sums: &mut [u32])
-    requires { ⌜ («row_at» + 4 * (64 * n) ≤ length (now randomness)) × (length (now pairs) ≡ 128) × (4 * (64 * n) ≤ length (now sums)) ⌝ }
-    ensures { λ _. ⌜ now (sums .exit) ≡ splice (now (sums .entry)) 0 (column-sums (now (randomness .entry)) «row_at» (64 * n) (now (pairs .entry)) (now (sums .entry))) ⌝ }
+// The places of 64 columns and 16 rows.
+fn row_places(randomness: &[u32], at: usize, step: usize, places: &mut [u32])
+    requires { ⌜ (at + 63 + 15 * step < length (now randomness)) × (length (now places) ≡ 256) ⌝ }
+    ensures { λ _. ⌜ now (places .exit) ≡ table 256 (place-entry (now (randomness .entry)) at step) ⌝ }
 {
-    let fours = jl_pairs::four_sums(pairs);
+    let mut t = 0;
+    while t < 4 {
+        four_places(randomness, at + 4 * t * step, step, places, 64 * t);
+        t += 1;
+    }
+}
+
+// A sum with what the four tables give for column w of 64 and one k added.
+fn add_terms(tables: &[u32], places: &[u32], w: usize, k: usize, start: u32) -> u32
+    requires { ⌜ (length (now tables) ≡ 4096) × Places (now places) × (w < 64) × (k < 4) ⌝ }
+    ensures { λ r. ⌜ r ≡ terms-added (table-term (now (tables .entry)) (now (places .entry)) w k) start 4 ⌝ }
+{
+    let mut sum = start;
+    for t in 0..4 {
+        let place = 1024 * t + wide_usize(places[64 * t + w]);
+        sum = biased_add(sum, tables[place + k]);
+    }
+    sum
+}
+
+// The four sums of a column, with what the tables give added.
+fn add_column(tables: &[u32], places: &[u32], w: usize, sums: &mut [u32], at: usize)
+    requires { ⌜ (length (now tables) ≡ 4096) × Places (now places) × (w < 64) × (at + 4 ≤ length (now sums)) ⌝ }
+    ensures { λ _. ⌜ now (sums .exit) ≡ splice (now (sums .entry)) at (column-added (now (sums .entry)) at (now (tables .entry)) (now (places .entry)) w) ⌝ }
+{
+    for k in 0..4 {
+        sums[at + k] = add_terms(tables, places, w, k, sums[at + k]);
+    }
+}
+
+// The sums of 64 columns, with what the tables give added.
+fn add_block(tables: &[u32], places: &[u32], sums: &mut [u32], at: usize)
+    requires { ⌜ (length (now tables) ≡ 4096) × Places (now places) × (at + 256 ≤ length (now sums)) ⌝ }
+    ensures { λ _. ⌜ now (sums .exit) ≡ splice (now (sums .entry)) at (block-added (now (sums .entry)) at (now (tables .entry)) (now (places .entry))) ⌝ }
+{
+    for w in 0..64 {
+        add_column(tables, places, w, sums, at + 4 * w);
+    }
+}
+
+// What the tables give for 16 rows of n elements from `row_at` on added to the sums of their columns.
+pub fn add_columns(randomness: &[u32], row_at: usize, n: usize, tables: &[u32], sums: &mut [u32])
+    requires { ⌜ («row_at» + 16 * (64 * n) ≤ length (now randomness)) × (length (now tables) ≡ 4096) × (4 * (64 * n) ≤ length (now sums)) ⌝ }
+    ensures { λ _. ⌜ (length (now (sums .exit)) ≡ length (now (sums .entry))) × Added (now (randomness .entry)) «row_at» (64 * n) (now (tables .entry)) (now (sums .entry)) (now (sums .exit)) ⌝ }
+{
     let width = 64 * n;
+    let mut places = [0u32; 256];
     let mut m = 0;
     while m < n {
-        let codes = numbers(randomness, row_at + 64 * m, width);
-        add_block(&fours, codes, sums, 256 * m);
+        row_places(randomness, row_at + 64 * m, width, &mut places);
+        add_block(tables, &places, sums, 256 * m);
         m += 1;
     }
 }

@@ -10,6 +10,7 @@ use Rattle.lists.proofs.Splice.{length-splice}
 use Rattle.definitions.specs.Rq.{rconj, radd}
 use Rattle.protocol.specs.Formulas.{flat}
 use Rattle.protocol.proofs.Stored.{stored-none, stored-next, stored-all}
+use Rattle.jl_pairs.specs.Pairs.{biased}
 use Rattle.jl_fours.specs.Fours.{summed-element}
 use Rattle.jl_omega.proofs.Columns.{conjugated}
 use Rattle.jl_fours.proofs.store_part.Statement.{statement}
@@ -28,7 +29,7 @@ loop-again c =
     let l = adding .before .before .before .before .loop in
     let coeffs = c .before .before .before .conjugate-automorphism .ensures
     ∙ ap rconj (adding .add .ensures ∙ ap₂ radd (adding .before .before .column-element .ensures) (adding .before .zero .ensures))
-    ∙ conjugated (table 64 (λ w. getD (s .sums .now) (256 * l .m + s .k + 4 * w) 0)) in
+    ∙ conjugated (table 64 (λ w. biased (getD (s .sums .now) (256 * l .m + s .k + 4 * w) 0))) in
     let stored = c .before .before .store .ensures ∙ stored-next (s .out .now) (l .out) (s .at) (l .m) (summed-element (s .sums .now) (s .k)) _ (l .inv .1) coeffs in
     (omega arith, stored, ap length stored ∙ length-splice _ _ _)
 

@@ -1,64 +1,61 @@
--- `join_four` meets its contract.
-use Prim.Native.Nat.{_+_}
-use native.Mathlib.Nat.{add-zero}
+-- `join_four` meets its contract. The invariant: the first k entries are stored.
+use mathlib.Core.Path.{_≡_, refl, sym, _∙_, ap}
+use Prim.Native.Nat.{_+_, _-_, _≤_}
 use native.Mathlib.Omega.{arith}
 use borrow.Author.Needs.{needs}
-use lib.ListN.{getD, length-set}
+use lib.ListN.{length, getD}
+use Rattle.lists.specs.Table.{table}
+use Rattle.lists.specs.Part.{splice}
+use Rattle.lists.proofs.Splice.{splice-nil, length-splice}
 use Rattle.jl_omega.specs.Omega.{carried}
-use Rattle.jl_pairs.proofs.Column.{four-stored}
+use Rattle.jl_pairs.proofs.Column.{entry-stored}
 use Rattle.jl_pairs.proofs.join_four.Statement.{statement}
 use Rattle.jl_pairs.proofs.join_four.Tie as tie
 
-returns : tie.Need-returns
+abbrev Inv-loop : tie.InvT-loop
+Inv-loop pairs x y tables₀ at k₀ tables k =
+    (k ≤ 4) × (tables ≡ splice tables₀ at (table k (λ k. carried (getD pairs (x + k) 0) (getD pairs (y + k) 0)))) × (length tables ≡ length tables₀)
+
+abbrev μ-loop : tie.MeasureT-loop
+μ-loop pairs x y tables₀ at k₀ tables k = 4 - k
+
+loop-holds : tie.Need-loop-holds Inv-loop μ-loop
+unfolding table
+loop-holds c = (omega arith, sym (splice-nil _ _), refl)
+
+loop-again : tie.Need-loop-again Inv-loop μ-loop
+loop-again c =
+    let l = c .before .before .before .before .loop in
+    let s = c .before .before .before .before .before .before .before .args in
+    let stored = entry-stored (s .tables .now) (l .tables) (s .at) (l .k) (λ k. carried (getD (s .pairs .now) (s .x + k) 0) (getD (s .pairs .now) (s .y + k) 0)) (c .carry-add .result) (l .inv .1) (c .carry-add .ensures) in
+    (omega arith, stored, ap length stored ∙ length-splice _ _ _)
+
+returns : tie.Need-returns Inv-loop μ-loop
 returns c =
-    let s = c .before .before .before .before .before .before .before .before .before .before .before .before .before .before .args in
-    four-stored (s .fours .now) (s .at) (λ k. carried (getD (s .pairs .now) (s .x + k) 0) (getD (s .pairs .now) (s .y + k) 0))
-    _ _ _ _
-    (simp add-zero (c .before .before .before .before .before .before .before .before .before .carry-add .ensures))
-    (c .before .before .before .before .before .before .carry-add2 .ensures)
-    (c .before .before .before .carry-add3 .ensures)
-    (c .carry-add4 .ensures)
+    let l = c .before .loop in
+    let s = c .before .before .before .before .args in
+    let n : l .k ≡ 4 = omega arith in
+    l .inv .1 ∙ ap (λ n. splice (s .tables .now) (s .at) (table n (λ k. carried (getD (s .pairs .now) (s .x + k) 0) (getD (s .pairs .now) (s .y + k) 0)))) n
 
 pub join-four-spec : {M : Type 1} → statement M
 join-four-spec =
     tie.close
     (tie.spec
-    (λ c. search needs)
-    (λ c. search needs)
-    (λ c. search needs)
-    (λ c. search needs)
+    Inv-loop
+    μ-loop
+    loop-holds
+    (λ c. omega arith)
+    (λ c. omega arith)
+    (λ c. omega arith)
+    (λ c. omega arith)
+    (λ c. omega arith)
+    (λ c. omega arith)
     (λ c κs. search needs)
-    (λ c. search needs)
-    (λ c. search needs)
-    (λ c. search needs)
-    (λ c. search needs)
-    (λ c. search needs)
-    (λ c. search needs)
-    (λ c κs. search needs)
-    (λ c. search needs)
-    (λ c. search needs)
-    (λ c. search needs)
-    (λ c. search needs)
-    (λ c. search needs)
-    (λ c. search needs)
-    (λ c κs. search needs)
-    (λ c. search needs)
-    (λ c. search needs)
-    (λ c. search needs)
-    (λ c. search needs)
-    (λ c. search needs)
-    (λ c. search needs)
-    (λ c κs. search needs)
-    (λ c. search needs)
-    (λ c. search needs)
-    (λ c. search needs)
-    (λ c. search needs)
-    (λ c. simp length-set (omega arith))
-    (λ c. search needs)
-    (λ c. search needs)
-    (λ c. simp length-set (omega arith))
-    (λ c. search needs)
-    (λ c. search needs)
-    (λ c. simp length-set (omega arith))
-    (λ c. search needs)
+    (λ c. omega arith)
+    (λ c. omega arith)
+    (λ c. omega arith)
+    (λ c. omega arith)
+    (λ c. omega arith)
+    loop-again
+    (λ c. omega arith)
     returns)
