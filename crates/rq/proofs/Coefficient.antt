@@ -1,6 +1,5 @@
 -- The kernel's sum for coefficient k is the definition's product at k.
-use mathlib.Core.Path.{_≡_, refl, sym, _∙_, ap, ap₂}
-use mathlib.Core.Bool.{cond}
+use mathlib.Core.Path.{_≡_, sym, _∙_, ap, ap₂}
 use mathlib.Core.List.{List}
 use Prim.Native.Nat.{ℕ, _+_, _-_, _*_, _%_, _≤_, _<_, _^_}
 use native.Mathlib.Nat.{mul-comm}
@@ -107,9 +106,7 @@ reversed-words b words i h =
     let l : i < 64 = rw (length-reversed b) at h in
     omega (arith, at-reversed b i l, words (63 - i) (omega arith))
 
--- what the kernel asks of both forms, for coefficient k
-pub kernel-fits : (a b x y : List ℕ) (k : ℕ) → x ≡ reversed b → y ≡ extended a → ((i : ℕ) → i < 64 → coeff a i ≤ Q) → ((i : ℕ) → i < 64 → coeff b i ≤ Q) → k < 64
-    → (length x ≡ 64) × (k + 1 + 64 ≤ length y) × AllWords x × AllWords y
-kernel-fits a b x y k ex ey wa wb h =
-    let n : length y ≡ 128 = ap length ey ∙ length-extended a in
-    (ap length ex ∙ length-reversed b, omega arith, rw ex (reversed-words b wb), rw ey (extended-words a wa))
+-- what the kernel asks of both forms
+pub kernel-fits : (a b x y : List ℕ) → x ≡ reversed b → y ≡ extended a → ((i : ℕ) → i < 64 → coeff a i ≤ Q) → ((i : ℕ) → i < 64 → coeff b i ≤ Q)
+    → (length x ≡ 64) × (length y ≡ 128) × AllWords x × AllWords y
+kernel-fits a b x y ex ey wa wb = (ap length ex ∙ length-reversed b, ap length ey ∙ length-extended a, rw ex (reversed-words b wb), rw ey (extended-words a wa))

@@ -1,14 +1,13 @@
 -- A sum of products below 2^64, kept modulo 2^64 beside the sum of the products' upper halves.
-use mathlib.Core.Path.{_≡_, refl, sym, _∙_, ap, ap₂}
+use mathlib.Core.Path.{_≡_, refl, sym, _∙_, ap}
 use mathlib.Core.List.{List}
-use Prim.Native.Nat.{ℕ, zero, suc, _+_, _*_, _/_, _%_, _≤_, _<_, _^_}
-use native.Mathlib.Nat.{mod-eq-of-lt, mod-lt}
+use Prim.Native.Nat.{ℕ, zero, suc, _+_, _-_, _*_, _/_, _%_, _≤_, _^_}
 use native.Mathlib.Omega.{arith}
 use lib.ListN.{length, getD}
 use Rattle.lists.specs.Sum.{Σ}
-use Rattle.lists.proofs.Sum.{Σ-bound, Σ-ext}
+use Rattle.lists.proofs.Sum.{Σ-bound, Σ-suc}
 use Rattle.definitions.proofs.Fits.{product-max}
-use Rattle.rq.specs.Product.{AllWords, folded}
+use Rattle.rq.specs.Product.{AllWords, folded, halvesSum, WithProduct}
 
 -- the sum is 2^32 times that of the upper halves and that of the lower halves
 pub halves : (n : ℕ) (p : ℕ → ℕ) → Σ n p ≡ 4294967296 * Σ n (λ i. p i / 4294967296) + Σ n (λ i. p i % 4294967296)
@@ -20,24 +19,53 @@ halves (suc n) p = omega (arith, halves n p)
 pub lower-small : (p : ℕ → ℕ) → Σ 64 (λ i. p i % 4294967296) ≤ 274877906944
 lower-small p = Σ-bound 64 4294967296 (λ i. p i % 4294967296) (λ i l. omega arith)
 
--- the number that the upper halves' sum is taken off to from the sum modulo 2^64 is the lower halves' sum
-pub lower-is : (sum upper lower total s : ℕ) → total ≡ 4294967296 * upper + lower → lower ≤ 274877906944 → sum ≡ total % 2 ^ 64
-    → s < 2 ^ 64 → (s + upper % 4294967296 * 4294967296) % 2 ^ 64 ≡ sum → s ≡ lower
-lower-is sum upper lower total s t l m f e = omega arith
+-- what the upper halves' sum leaves of the sum modulo 2^64 is the lower halves' sum
+halves-sum-is : (sum upper lower total : ℕ) → total ≡ 4294967296 * upper + lower → lower ≤ 274877906944 → upper ≤ 274877906944 → sum ≡ total % 2 ^ 64 → halvesSum sum upper ≡ lower + upper
+halves-sum-is sum upper lower total t l u m = rest sum (upper % 4294967296 * 4294967296) lower upper (omega arith) (omega arith) (omega arith)
+  where
+    rest : (sum taken lower upper : ℕ) → sum ≡ (taken + lower) % 2 ^ 64 → taken ≤ 18446744069414584320 → lower + upper ≤ 549755813888 → (sum + (2 ^ 64 - taken) + upper) % 2 ^ 64 ≡ lower + upper
+    rest sum taken lower upper e l h = omega arith
 
 -- 2^32 is 1 modulo Q
 pub joined : (upper lower total : ℕ) → total ≡ 4294967296 * upper + lower → (lower + upper) % 4294967295 ≡ total % 4294967295
 joined upper lower total t = omega arith
 
--- the products of words are what they are modulo 2^32
-module _ (x y : List ℕ) (at : ℕ) (hx : 64 ≤ length x) (hy : at + 64 ≤ length y) (wx : AllWords x) (wy : AllWords y) where
-  words-product : (i : ℕ) → i < 64 → getD x i 0 % 4294967296 * (getD y (at + i) 0 % 4294967296) ≡ getD x i 0 * getD y (at + i) 0
-  words-product i l = ap₂ _*_ (mod-eq-of-lt (wx i (omega arith))) (mod-eq-of-lt (wy (at + i) (omega arith)))
+-- product i from a place on
+abbrev term : List ℕ → List ℕ → ℕ → ℕ → ℕ
+term x y at i = getD x i 0 * getD y (at + i) 0
 
-  -- so are sums of what is made of them
-  pub words-sums : (f : ℕ → ℕ) → Σ 64 (λ i. f (getD x i 0 % 4294967296 * (getD y (at + i) 0 % 4294967296))) ≡ Σ 64 (λ i. f (getD x i 0 * getD y (at + i) 0))
-  words-sums f =
-      Σ-ext 64 (λ i. f (getD x i 0 % 4294967296 * (getD y (at + i) 0 % 4294967296))) (λ i. f (getD x i 0 * getD y (at + i) 0)) (λ i l. ap f (words-product i l))
+-- the sum of the first i products modulo 2^64, and that of their upper halves
+unfoldable pub Begun : (x y : List ℕ) (at i sum upper : ℕ) → Type 0
+Begun x y at i sum upper = (sum ≡ Σ i (term x y at) % 2 ^ 64) × (upper ≡ Σ i (λ j. term x y at j / 4294967296)) × (upper ≤ 4294967296 * i)
+
+pub begun-none : (x y : List ℕ) (at : ℕ) → Begun x y at 0 0 0
+unfolding Begun Σ
+begun-none x y at = (refl, refl, omega arith)
+
+pub begun-small : (x y : List ℕ) (at i sum upper : ℕ) → Begun x y at i sum upper → upper ≤ 4294967296 * i
+unfolding Begun
+begun-small x y at i sum upper h = h .2
+
+-- one more product in the sum modulo 2^64
+sum-again : (sum total p r : ℕ) → sum ≡ total % 2 ^ 64 → r ≡ (sum + p) % 2 ^ 64 → r ≡ (total + p) % 2 ^ 64
+sum-again sum total p r s e = omega arith
+
+-- one more product
+pub begun-next : (x y : List ℕ) (at i sum upper sum' upper' : ℕ) → Begun x y at i sum upper → WithProduct sum upper (getD x i 0) (getD y (at + i) 0) sum' upper' → Begun x y at (i + 1) sum' upper'
+unfolding Begun WithProduct
+begun-next x y at i sum upper sum' upper' h w = (
+  sum-again _ _ _ _ (h .0) (w .0) ∙ ap (λ t. t % 2 ^ 64) (sym (Σ-suc i (term x y at))),
+  w .1 ∙ ap (λ t. t + term x y at i / 4294967296) (h .1) ∙ sym (Σ-suc i (λ j. term x y at j / 4294967296)),
+  omega arith,
+)
+
+-- after 64 products both give the sum of all halves
+pub begun-folded : (x y : List ℕ) (at sum upper : ℕ) → Begun x y at 64 sum upper → halvesSum sum upper ≡ folded x y at
+unfolding Begun folded
+begun-folded x y at sum upper h =
+    let p : ℕ → ℕ = term x y at in
+    halves-sum-is sum upper (Σ 64 (λ i. p i % 4294967296)) (Σ 64 p) (halves 64 p ∙ ap (λ u. 4294967296 * u + Σ 64 (λ i. p i % 4294967296)) (sym (h .1))) (lower-small p) (omega arith) (h .0)
+    ∙ ap (λ u. Σ 64 (λ i. p i % 4294967296) + u) (h .1)
 
 -- the halves' sum is the products' modulo Q
 pub folded-mod : (x y : List ℕ) (at : ℕ) → folded x y at % 4294967295 ≡ Σ 64 (λ i. getD x i 0 * getD y (at + i) 0) % 4294967295

@@ -1,2 +1,3 @@
 mod Halves
 pub mod Coefficient
+pub mod Fours

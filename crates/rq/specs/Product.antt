@@ -39,3 +39,11 @@ unfoldable pub folded : List ℕ → List ℕ → ℕ → ℕ
 folded x y at =
     Σ 64 (λ i. getD x i 0 * getD y (at + i) 0 % 4294967296)
     + Σ 64 (λ i. getD x i 0 * getD y (at + i) 0 / 4294967296)
+
+-- what the upper halves' sum leaves of a sum modulo 2^64, and that sum
+abbrev pub halvesSum : ℕ → ℕ → ℕ
+halvesSum sum upper = (sum + (2 ^ 64 - upper % 4294967296 * 4294967296) + upper) % 2 ^ 64
+
+-- sum' and upper' are a sum modulo 2^64 and a sum of upper halves, with the product of x and y added
+unfoldable pub WithProduct : (sum upper x y sum' upper' : ℕ) → Type 0
+WithProduct sum upper x y sum' upper' = (sum' ≡ (sum + x * y) % 2 ^ 64) × (upper' ≡ upper + x * y / 4294967296) × (upper' ≤ upper + 4294967296)

@@ -18,8 +18,13 @@ pub fn add_product(sums: [u64; 64], a: [u32; 64], b: [u32; 64]) -> [u64; 64]
     let y = product::extend(a);
     let x = product::reverse(b);
     let mut out = [0u64; 64];
-    for k in 0..64 {
-        out[k] = sums[k] + product::dot(&x, &y, k + 1);
+    for b in 0..16 {
+        let k = 4 * b;
+        let f = product::four(&x, &y, k + 1);
+        out[k] = sums[k] + f.a;
+        out[k + 1] = sums[k + 1] + f.b;
+        out[k + 2] = sums[k + 2] + f.c;
+        out[k + 3] = sums[k + 3] + f.d;
     }
     out
 }

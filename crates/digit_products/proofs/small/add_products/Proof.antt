@@ -1,11 +1,12 @@
 -- `add_products` meets its contract. The invariant: the first 4·b sums are stored.
-use mathlib.Core.Path.{_≡_, refl, sym, _∙_, ap}
+use mathlib.Core.Path.{_≡_, _∙_, ap}
 use mathlib.Core.List.{List}
-use Prim.Native.Nat.{ℕ, _+_, _-_, _*_, _≤_, _<_, _^_}
+use Prim.Native.Nat.{ℕ, _+_, _-_, _*_, _≤_}
 use native.Mathlib.Omega.{arith}
-use lib.ListN.{length, getD, set}
-use Rattle.lists.specs.Table.{table, padded}
-use Rattle.lists.proofs.Padded.{padded-none, padded-next, padded-done}
+use lib.ListN.{getD}
+use Rattle.lists.specs.Table.{padded}
+use Rattle.lists.proofs.Padded.{padded-none, padded-done}
+use Rattle.rq.proofs.Fours.{padded-four}
 use Rattle.digit_products.specs.Small.{productsSum, Factors}
 use Rattle.digit_products.proofs.small.add_products.Statement.{statement}
 use Rattle.digit_products.proofs.small.add_products.Tie as tie
@@ -19,18 +20,6 @@ later x y at start k f h = record {
   small = λ j l. let place : at + k + 1 + j ≡ at + (k + 1 + j) = omega arith in omega (arith, ap (λ i. getD y i 0) place, f .small (k + 1 + j) (omega arith));
   first = f .first;
 }
-
--- four entries stored
-stored : (f : ℕ → ℕ) (out : List ℕ) (b p q r s : ℕ) → out ≡ padded 64 (4 * b) 0 f → b < 16 → p ≡ f (4 * b) → q ≡ f (4 * b + 1) → r ≡ f (4 * b + 2) → s ≡ f (4 * b + 3)
-    → set (set (set (set out (4 * b) p) (4 * b + 1) q) (4 * b + 2) r) (4 * b + 3) s ≡ padded 64 (4 * (b + 1)) 0 f
-stored f out b p q r s e h ep eq er es =
-    let two : 4 * b + 1 + 1 ≡ 4 * b + 2 = omega arith in
-    let three : 4 * b + 2 + 1 ≡ 4 * b + 3 = omega arith in
-    let all : 4 * b + 3 + 1 ≡ 4 * (b + 1) = omega arith in
-    let first = padded-next 64 0 f out (4 * b) p e (omega arith) ep in
-    let second = padded-next 64 0 f _ (4 * b + 1) q first (omega arith) eq ∙ ap (λ n. padded 64 n 0 f) two in
-    let third = padded-next 64 0 f _ (4 * b + 2) r second (omega arith) er ∙ ap (λ n. padded 64 n 0 f) three in
-    padded-next 64 0 f _ (4 * b + 3) s third (omega arith) es ∙ ap (λ n. padded 64 n 0 f) all
 
 -- entry k
 abbrev entry : (sums x y : List ℕ) (at start k : ℕ) → ℕ
@@ -71,7 +60,7 @@ loop-again c =
     let s = c .before .before .before .before .before .before .before .before .before .args in
     let f = c .before .before .before .before .four .ensures in
     let entry-of = entry-at (s .t1) (s .x .now) (s .y .now) (s .at) (s .start) (4 * l .b) in
-    (omega arith, stored (entry (s .t1) (s .x .now) (s .y .now) (s .at) (s .start)) (l .out) (l .b) _ _ _ _ (l .inv .1) (omega arith) (ap (λ t. getD (s .t1) (4 * l .b) 0 + t) (f .0 .0)) (entry-of 1 _ (f .0 .1)) (entry-of 2 _ (f .1 .0 .0)) (entry-of 3 _ (f .1 .0 .1)))
+    (omega arith, padded-four (entry (s .t1) (s .x .now) (s .y .now) (s .at) (s .start)) (l .out) (l .b) _ _ _ _ (l .inv .1) (omega arith) (ap (λ t. getD (s .t1) (4 * l .b) 0 + t) (f .0 .0)) (entry-of 1 _ (f .0 .1)) (entry-of 2 _ (f .1 .0 .0)) (entry-of 3 _ (f .1 .0 .1)))
 
 returns : tie.Need-returns Inv-loop μ-loop
 returns c =

@@ -1,30 +1,31 @@
--- `extend` meets its contract. The invariant: the first m entries are the definition's, and the later ones zero.
-use mathlib.Core.Path.{_≡_, _∙_, ap}
-use mathlib.Core.Logic.{⊎-elim}
-use Prim.Native.Nat.{_-_, _≤_, _<_}
+-- `extend` meets its contract. The invariant: the first 64 + m entries are the definition's, and the later ones zero.
+use mathlib.Core.Path.{_≡_, sym, _∙_, ap}
+use Prim.Native.Nat.{_+_, _-_, _≤_}
 use native.Mathlib.Omega.{arith}
-use borrow.Author.Tests.{lt-ltb, le-ltb}
+use borrow.Author.Needs.{needs}
+use borrow.Author.Tests.{le-ltb}
+use lib.ListN.{getD}
 use Rattle.lists.specs.Table.{padded}
-use Rattle.lists.proofs.Padded.{padded-none, padded-next, padded-done}
+use Rattle.lists.proofs.Padded.{padded-next, padded-done}
 use Rattle.rq.specs.Product.{extended, extendedCoeff}
 use Rattle.rq.proofs.product.extend.Statement.{statement}
 use Rattle.rq.proofs.product.extend.Tie as tie
 
 abbrev Inv-loop : tie.InvT-loop
-Inv-loop a out₀ m₀ out m = (m ≤ 128) × (out ≡ padded 128 m 0 (extendedCoeff a))
+Inv-loop a out₀ m₀ out m = (m ≤ 64) × (out ≡ padded 128 (64 + m) 0 (extendedCoeff a))
 
 abbrev μ-loop : tie.MeasureT-loop
-μ-loop a out₀ m₀ out m = 128 - m
+μ-loop a out₀ m₀ out m = 64 - m
 
 loop-again : tie.Need-loop-again Inv-loop μ-loop
 loop-again c =
     let l = c .before .before .loop in
-    let h : l .m < 128 = omega arith in (
+    let a = c .before .before .before .before .args .t1 in
+    let h : 64 ≤ 64 + l .m = omega arith in
+    let place : 64 + l .m - 64 ≡ l .m = omega arith in
+    let next : 64 + l .m + 1 ≡ 64 + (l .m + 1) = omega arith in (
       omega arith,
-      ⊎-elim
-          (λ w. w .2 ∙ padded-next 128 0 _ _ _ _ (l .inv .1) h (ap (λ v. 4294967295 - v) (w .1 .ensures .0) ∙ simp (lt-ltb (l .m) 64 (w .0 .taken))))
-          (λ w. w .2 ∙ padded-next 128 0 _ _ _ _ (l .inv .1) h (w .1 .ensures .0 ∙ simp (le-ltb (l .m) 64 (w .0 .left))))
-          (c .if1 .came),
+      padded-next 128 0 (extendedCoeff a) _ (64 + l .m) _ (l .inv .1) (omega arith) (c .wide .ensures .0 ∙ ap (λ i. getD a i 0) (sym place) ∙ simp (le-ltb (64 + l .m) 64 h)) ∙ ap (λ n. padded 128 n 0 (extendedCoeff a)) next,
     )
 
 returns : tie.Need-returns Inv-loop μ-loop
@@ -37,16 +38,12 @@ extend-spec =
     (tie.spec
     Inv-loop
     μ-loop
-    (λ c. (omega arith, padded-none 128 0 _))
+    (λ c κs. search needs)
+    (λ c. (omega arith, c .negated .ensures))
     (λ c. omega arith)
     (λ c. omega arith)
     (λ c κs. omega arith)
     (λ c. omega arith)
-    (λ c. omega arith)
-    (λ c. omega arith)
-    (λ c. omega arith)
-    (λ c. omega arith)
-    (λ c κs. omega arith)
     (λ c. omega arith)
     (λ c. omega arith)
     (λ c. omega arith)
