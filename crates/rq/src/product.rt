@@ -1,6 +1,5 @@
 // The ring product (`Mul for &Rq` of ring/rq.rs). With E the coefficients of −a and then those of a, and b reversed, coefficient k is the
 // sum of b's 64 entries times E's from k + 1 on: one run of products without a sign, reduced once.
-use crate::sums;
 use zq::wide::wide;
 use zq::zq::Zq;
 ghost use mathlib.Core.Path.{_≡_};
@@ -75,6 +74,19 @@ fn join(h: Halves) -> u64
     std::num::wrapping_add_u64(lower, h.upper)
 }
 
+// The upper and the lower halves of the products of x's 64 entries with y's from `at` on, summed: equal to the products' sum modulo Q, since
+// 2^32 is 1.
+pub fn dot(x: &[u64], y: &[u64], at: usize) -> u64
+    requires { ⌜ (length (now x) ≡ 64) × (at + 64 ≤ length (now y)) × AllWords (now x) × AllWords (now y) ⌝ }
+    ensures { λ r. ⌜ r ≡ folded (now (x .entry)) (now (y .entry)) at ⌝ }
+{
+    let mut h = Halves { sum: 0, upper: 0 };
+    for i in 0..64 {
+        h = add(h, x[i], y[at + i]);
+    }
+    join(h)
+}
+
 // Four sums.
 pub struct Sums {
     pub a: u64,
@@ -83,8 +95,7 @@ pub struct Sums {
     pub d: u64,
 }
 
-// The upper and the lower halves of the products of x's 64 entries with y's from `at` on, summed: equal to the products' sum modulo Q, since
-// 2^32 is 1. The same for y from the next three places on.
+// The same for y from `at` and from the next three places on, at most 2^39 each.
 pub fn four(x: &[u64], y: &[u64], at: usize) -> Sums
     requires { ⌜ (length (now x) ≡ 64) × (at + 67 ≤ length (now y)) × AllWords (now x) × AllWords (now y) ⌝ }
     ensures { λ r. ⌜ (r .a ≡ folded (now (x .entry)) (now (y .entry)) at) × (r .b ≡ folded (now (x .entry)) (now (y .entry)) (at + 1)) ⌝ }
@@ -115,10 +126,11 @@ pub fn four(x: &[u64], y: &[u64], at: usize) -> Sums
 pub fn multiply(a: [u32; 64], b: [u32; 64]) -> [u32; 64]
     ensures { λ r. ⌜ r ≡ rmul a b ⌝ }
 {
-    let products = sums::add_product([0u64; 64], a, b);
+    let y = extend(a);
+    let x = reverse(b);
     let mut out = [0u32; 64];
     for k in 0..64 {
-        out[k] = (products[k] % MODULUS) as u32;
+        out[k] = (dot(&x, &y, k + 1) % MODULUS) as u32;
     }
     out
 }
