@@ -17,7 +17,7 @@ use Rattle.lists.proofs.Additive.{flatMap-append}
 use Rattle.lists.proofs.Splice.{splice-append, getD-part, part-splice-within, length-splice}
 use Rattle.definitions.specs.Zq.{Q, size}
 use Rattle.definitions.specs.Rq.{coeff}
-use Rattle.rq.specs.Product.{extendedCoeff}
+use Rattle.rq_product.specs.Product.{extendedCoeff}
 use Rattle.digit_products.specs.Forms.{shiftedCoeff, shifted, Formed, SmallDigits}
 use Rattle.digit_products.specs.Small.{SmallFrom}
 

@@ -10,8 +10,8 @@ use Rattle.lists.specs.Part.{part}
 use Rattle.lists.proofs.Splice.{getD-part}
 use Rattle.definitions.specs.Zq.{Q, size}
 use Rattle.definitions.specs.Rq.{coeff, rmul}
-use Rattle.rq.specs.Product.{AllWords, reversed}
-use Rattle.rq.specs.Sums.{Added}
+use Rattle.rq_product.specs.Product.{AllWords, reversed}
+use Rattle.rq_product.specs.Sums.{Added}
 use Rattle.inner_product.proofs.Totals.{Totals, totals-next, product-of}
 use Rattle.digit_products.specs.Forms.{Formed, SmallDigits}
 use Rattle.digit_products.specs.Small.{productsSum, complement, Factors}

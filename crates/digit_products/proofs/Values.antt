@@ -16,9 +16,9 @@ use Rattle.definitions.specs.Rq.{coeff, low, high, rmul}
 use Rattle.definitions.specs.Ring.{RqOps, words, element}
 use Rattle.definitions.proofs.RqRing.{rq-ring}
 use Rattle.definitions.proofs.Bridge.{words-element, element-rmul, rmul-element}
-use Rattle.rq.specs.Product.{AllWords, extended, extendedCoeff, reversed}
-use Rattle.rq.specs.Sums.{Added}
-use Rattle.rq.proofs.Coefficient.{coefficient}
+use Rattle.rq_product.specs.Product.{AllWords, extended, extendedCoeff, reversed}
+use Rattle.rq_product.specs.Sums.{Added}
+use Rattle.rq_product.proofs.Coefficient.{coefficient}
 use Rattle.digit_products.specs.Forms.{shiftedCoeff, shifted}
 use Rattle.digit_products.specs.Small.{productsSum, complement, Factors}
 

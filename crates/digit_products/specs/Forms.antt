@@ -6,7 +6,7 @@ use lib.ListN.{length, getD}
 use Rattle.lists.specs.Table.{table}
 use Rattle.lists.specs.Part.{part}
 use Rattle.definitions.specs.Zq.{Q, size}
-use Rattle.rq.specs.Product.{extendedCoeff}
+use Rattle.rq_product.specs.Product.{extendedCoeff}
 
 -- entry m of the coefficients of −a, then those of a, with half the base added modulo Q
 abbrev pub shiftedCoeff : ℕ → List ℕ → ℕ → ℕ

@@ -5,7 +5,7 @@ use Prim.Native.Nat.{ℕ, _+_, _-_, _*_, _≤_, _<_, _^_}
 use lib.ListN.{length, getD}
 use Rattle.lists.specs.Sum.{Σ}
 use Rattle.definitions.specs.Zq.{Q}
-use Rattle.rq.specs.Product.{AllWords}
+use Rattle.rq_product.specs.Product.{AllWords}
 
 -- the sum of the products of x's 64 entries with y's from a place on
 abbrev pub productsSum : List ℕ → List ℕ → ℕ → ℕ

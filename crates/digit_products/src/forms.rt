@@ -1,6 +1,6 @@
-// The form in which the products take the digits: the coefficients of −a, then those of a, as `rq::product` takes them, each with half the base added, so
+// The form in which the products take the digits: the coefficients of −a, then those of a, as `rq_product::product` takes them, each with half the base added, so
 // that none is below zero.
-use rq::product;
+use rq_product::product;
 use zq::wide::wide;
 use zq::zq::Zq;
 ghost use mathlib.Core.Path.{_≡_};

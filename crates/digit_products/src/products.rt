@@ -1,8 +1,8 @@
 // The inner product of elements with digits.
 use crate::small;
-use rq::product;
 use rq::rq::Rq;
-use rq::sums;
+use rq_product::product;
+use rq_product::sums;
 ghost use mathlib.Core.Path.{_≡_};
 ghost use Rattle.algebra.specs.Ops.{dot};
 ghost use Rattle.definitions.specs.Ring.{RqOps, words};

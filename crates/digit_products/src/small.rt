@@ -1,10 +1,10 @@
 // Sums of products of words with numbers up to 2^16: 64 of them stay below 2^54, so that nothing is folded.
-use rq::product;
+use rq_product::product;
 ghost use mathlib.Core.Path.{_≡_};
 ghost use Prim.Native.Nat.{_+_, _*_, _≤_, _<_, _^_};
 ghost use lib.ListN.{length, getD};
 ghost use Rattle.lists.specs.Table.{table};
-ghost use Rattle.rq.specs.Product.{AllWords};
+ghost use Rattle.rq_product.specs.Product.{AllWords};
 ghost use Rattle.digit_products.specs.Small.{productsSum, complement, Factors};
 
 // Four sums.

@@ -15,7 +15,7 @@ use Rattle.definitions.specs.Zq.{Q}
 use Rattle.definitions.specs.Rq.{coeff, rmul, rscale}
 use Rattle.definitions.specs.Ring.{RqOps, IsElement, words, element, scale}
 use Rattle.definitions.proofs.Bridge.{words-sum, words-element, element-rmul, element-rscale, rmul-element, rscale-element}
-use Rattle.rq.specs.Sums.{Room, Added}
+use Rattle.rq_product.specs.Sums.{Room, Added}
 use Rattle.inner_product.specs.Run.{run}
 
 -- totals of the first m of the elements f 0, f 1, …, each of which adds so much at most

@@ -1,7 +1,7 @@
 // Inner products and linear combinations of elements in lent slices (core/inner_product.rs), one call per scalar kind. A run of elements is given
 // by its slice, the place of its first element and the step from one to the next, in words.
 use rq::rq::Rq;
-use rq::sums;
+use rq_product::sums;
 ghost use mathlib.Core.Path.{_≡_};
 ghost use Prim.Native.Nat.{_+_, _≤_};
 ghost use lib.ListN.{length, getD};

@@ -1,4 +1,2 @@
 // Ring elements (ring/rq.rs): the ring Z_Q[X]/(X^64 + 1).
-pub mod product;
 pub mod rq;
-pub mod sums;

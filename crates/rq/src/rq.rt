@@ -1,7 +1,7 @@
 // A ring element as 64 words, coefficient of X^0 first. No operation asks for canonical words, and each gives some, except that the conjugate keeps
 // coefficient 0 as it is.
-use crate::product;
 use definitions::answers::U128;
+use rq_product::product;
 use zq::norm;
 use zq::zq::Zq;
 ghost use mathlib.Core.Path.{_≡_};

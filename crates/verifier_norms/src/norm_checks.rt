@@ -4,7 +4,7 @@ use definitions::answers::Checked;
 use definitions::answers::FailedCheck;
 use definitions::answers::Verdict;
 use relation::env_params::EnvironmentParameters;
-use rq::product;
+use rq_product::product;
 use rq_vector::bound;
 use rq_vector::norm;
 use rq_vector::parts;

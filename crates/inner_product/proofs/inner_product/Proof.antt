@@ -6,7 +6,7 @@ use borrow.Author.Needs.{needs}
 use lib.ListN.{length}
 use Rattle.lists.specs.Part.{part}
 use Rattle.definitions.specs.Rq.{rmul}
-use Rattle.rq.specs.Sums.{Added}
+use Rattle.rq_product.specs.Sums.{Added}
 use Rattle.inner_product.proofs.Totals.{Totals, totals-none, totals-next, totals-room, totals-dot, product-of}
 use Rattle.inner_product.proofs.inner_product.Statement.{statement}
 use Rattle.inner_product.proofs.inner_product.Tie as tie

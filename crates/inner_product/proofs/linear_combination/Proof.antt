@@ -7,7 +7,7 @@ use borrow.Author.Needs.{needs}
 use lib.ListN.{length, getD, length-replicate}
 use Rattle.lists.specs.Part.{part}
 use Rattle.definitions.specs.Rq.{rscale}
-use Rattle.rq.specs.Sums.{Added}
+use Rattle.rq_product.specs.Sums.{Added}
 use Rattle.inner_product.proofs.Totals.{Totals, totals-none, totals-next, totals-room, totals-combination, scaled-of}
 use Rattle.inner_product.proofs.linear_combination.Statement.{statement}
 use Rattle.inner_product.proofs.linear_combination.Tie as tie

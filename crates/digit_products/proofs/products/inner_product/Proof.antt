@@ -9,8 +9,8 @@ use mir.Val.{Fits}
 use mir.Syntax.{w32}
 use Rattle.definitions.specs.Zq.{Q}
 use Rattle.definitions.specs.Rq.{coeff}
-use Rattle.rq.specs.Product.{AllWords, reversed}
-use Rattle.rq.proofs.Coefficient.{length-reversed, reversed-words}
+use Rattle.rq_product.specs.Product.{AllWords, reversed}
+use Rattle.rq_product.proofs.Coefficient.{length-reversed, reversed-words}
 use Rattle.inner_product.proofs.Totals.{Totals, totals-none, totals-dot, product-of}
 use Rattle.digit_products.proofs.Step.{factors, totals-more}
 use Rattle.digit_products.proofs.products.inner_product.Statement.{statement}

@@ -6,7 +6,7 @@ use native.Mathlib.Omega.{arith}
 use lib.ListN.{getD}
 use Rattle.lists.specs.Table.{padded}
 use Rattle.lists.proofs.Padded.{padded-none, padded-done}
-use Rattle.rq.proofs.Fours.{padded-four}
+use Rattle.rq_product.proofs.Fours.{padded-four}
 use Rattle.digit_products.specs.Small.{productsSum, Factors}
 use Rattle.digit_products.proofs.small.add_products.Statement.{statement}
 use Rattle.digit_products.proofs.small.add_products.Tie as tie

@@ -12,8 +12,8 @@ use Rattle.lists.proofs.Sum.{Σ-ext, Σ-add, Σ-split, Σ-mul-left}
 use Rattle.lists.proofs.Table.{length-table, getD-table}
 use Rattle.definitions.specs.Zq.{Q, zsub}
 use Rattle.definitions.specs.Rq.{coeff, low, high, rmul}
-use Rattle.rq.specs.Product.{AllWords, extended, extendedCoeff, reversed, Forms, folded}
-use Rattle.rq.proofs.Halves.{folded-mod}
+use Rattle.rq_product.specs.Product.{AllWords, extended, extendedCoeff, reversed, Forms, folded}
+use Rattle.rq_product.proofs.Halves.{folded-mod}
 
 -- the kernel's forms are of words
 pub length-extended : (a : List ℕ) → length (extended a) ≡ 128

@@ -7,9 +7,9 @@ use borrow.Author.Tests.{le-ltb}
 use lib.ListN.{getD}
 use Rattle.lists.specs.Table.{padded}
 use Rattle.lists.proofs.Padded.{padded-next, padded-done}
-use Rattle.rq.specs.Product.{extended, extendedCoeff}
-use Rattle.rq.proofs.product.extend.Statement.{statement}
-use Rattle.rq.proofs.product.extend.Tie as tie
+use Rattle.rq_product.specs.Product.{extended, extendedCoeff}
+use Rattle.rq_product.proofs.product.extend.Statement.{statement}
+use Rattle.rq_product.proofs.product.extend.Tie as tie
 
 abbrev Inv-loop : tie.InvT-loop
 Inv-loop a out₀ m₀ out m = (m ≤ 64) × (out ≡ padded 128 (64 + m) 0 (extendedCoeff a))

@@ -12,13 +12,13 @@ use Rattle.lists.proofs.Table.{getD-table}
 use Rattle.lists.proofs.Padded.{padded-none, padded-done}
 use Rattle.definitions.specs.Zq.{Q}
 use Rattle.definitions.specs.Rq.{coeff, rmul}
-use Rattle.rq.specs.Product.{extended, reversed, folded}
-use Rattle.rq.specs.Sums.{Added}
-use Rattle.rq.proofs.Fours.{padded-four}
-use Rattle.rq.proofs.Halves.{folded-small}
-use Rattle.rq.proofs.Coefficient.{product-at, kernel-fits}
-use Rattle.rq.proofs.sums.add_product.Statement.{statement}
-use Rattle.rq.proofs.sums.add_product.Tie as tie
+use Rattle.rq_product.specs.Product.{extended, reversed, folded}
+use Rattle.rq_product.specs.Sums.{Added}
+use Rattle.rq_product.proofs.Fours.{padded-four}
+use Rattle.rq_product.proofs.Halves.{folded-small}
+use Rattle.rq_product.proofs.Coefficient.{product-at, kernel-fits}
+use Rattle.rq_product.proofs.sums.add_product.Statement.{statement}
+use Rattle.rq_product.proofs.sums.add_product.Tie as tie
 
 -- sum k with the kernel's coefficient k added
 with-kernel : List ℕ → List ℕ → List ℕ → ℕ → ℕ

@@ -3,8 +3,8 @@ use mathlib.Core.Path.{_≡_}
 use Prim.Native.Nat.{ℕ, _+_, _-_, _*_, _%_, _<_, _^_}
 use native.Mathlib.Omega.{arith}
 use borrow.Author.Needs.{needs}
-use Rattle.rq.proofs.product.join.Statement.{statement}
-use Rattle.rq.proofs.product.join.Tie as tie
+use Rattle.rq_product.proofs.product.join.Statement.{statement}
+use Rattle.rq_product.proofs.product.join.Tie as tie
 
 -- a difference modulo 2^64 with a number added
 difference : (sum upper taken rest r : ℕ) → (rest + taken) % 2 ^ 64 ≡ sum → taken < 2 ^ 64 → r ≡ (rest + upper) % 2 ^ 64

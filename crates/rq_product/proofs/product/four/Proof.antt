@@ -5,10 +5,10 @@ use Prim.Native.Nat.{ℕ, _+_, _-_, _≤_, _<_, _^_}
 use native.Mathlib.Omega.{arith}
 use borrow.Author.Needs.{needs}
 use lib.ListN.{length, getD}
-use Rattle.rq.specs.Product.{AllWords, folded, halvesSum}
-use Rattle.rq.proofs.Halves.{Begun, begun-none, begun-small, begun-next, begun-folded, folded-small}
-use Rattle.rq.proofs.product.four.Statement.{statement}
-use Rattle.rq.proofs.product.four.Tie as tie
+use Rattle.rq_product.specs.Product.{AllWords, folded, halvesSum}
+use Rattle.rq_product.proofs.Halves.{Begun, begun-none, begun-small, begun-next, begun-folded, folded-small}
+use Rattle.rq_product.proofs.product.four.Statement.{statement}
+use Rattle.rq_product.proofs.product.four.Tie as tie
 
 abbrev Inv-loop : tie.InvT-loop
 Inv-loop x y at a₀ b₀ c₀ d₀ i₀ a b c d i =

@@ -7,7 +7,7 @@ use lib.ListN.{length, getD}
 use Rattle.lists.specs.Sum.{Σ}
 use Rattle.lists.proofs.Sum.{Σ-bound, Σ-suc}
 use Rattle.definitions.proofs.Fits.{product-max}
-use Rattle.rq.specs.Product.{AllWords, folded, halvesSum, WithProduct}
+use Rattle.rq_product.specs.Product.{AllWords, folded, halvesSum, WithProduct}
 
 -- the sum is 2^32 times that of the upper halves and that of the lower halves
 pub halves : (n : ℕ) (p : ℕ → ℕ) → Σ n p ≡ 4294967296 * Σ n (λ i. p i / 4294967296) + Σ n (λ i. p i % 4294967296)

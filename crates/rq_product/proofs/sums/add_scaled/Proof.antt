@@ -13,9 +13,9 @@ use Rattle.lists.proofs.Splice.{splice-nil, getD-splice-after, getD-part}
 use Rattle.lists.proofs.Fill.{splice-table-next, getD-splice-table}
 use Rattle.definitions.specs.Rq.{coeff, rscale}
 use Rattle.definitions.proofs.Fits.{product-max}
-use Rattle.rq.specs.Sums.{Added}
-use Rattle.rq.proofs.sums.add_scaled.Statement.{statement}
-use Rattle.rq.proofs.sums.add_scaled.Tie as tie
+use Rattle.rq_product.specs.Sums.{Added}
+use Rattle.rq_product.proofs.sums.add_scaled.Statement.{statement}
+use Rattle.rq_product.proofs.sums.add_scaled.Tie as tie
 
 -- a sum with the halves of a product added
 halves : ℕ → ℕ → ℕ

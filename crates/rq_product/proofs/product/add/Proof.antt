@@ -5,9 +5,9 @@ use native.Mathlib.Nat.{mod-eq-of-lt}
 use native.Mathlib.Omega.{arith}
 use borrow.Author.Needs.{needs}
 use Rattle.definitions.proofs.Fits.{product-max}
-use Rattle.rq.specs.Product.{WithProduct}
-use Rattle.rq.proofs.product.add.Statement.{statement}
-use Rattle.rq.proofs.product.add.Tie as tie
+use Rattle.rq_product.specs.Product.{WithProduct}
+use Rattle.rq_product.proofs.product.add.Statement.{statement}
+use Rattle.rq_product.proofs.product.add.Tie as tie
 
 -- the product is what it is modulo 2^32
 product : (x y : ℕ) → x < 2 ^ 32 → y < 2 ^ 32 → x % 4294967296 * (y % 4294967296) ≡ x * y

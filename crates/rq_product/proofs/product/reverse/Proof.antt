@@ -5,9 +5,9 @@ use native.Mathlib.Omega.{arith}
 use Rattle.lists.specs.Table.{padded}
 use Rattle.lists.proofs.Padded.{padded-none, padded-next, padded-done}
 use Rattle.definitions.specs.Rq.{coeff}
-use Rattle.rq.specs.Product.{reversed}
-use Rattle.rq.proofs.product.reverse.Statement.{statement}
-use Rattle.rq.proofs.product.reverse.Tie as tie
+use Rattle.rq_product.specs.Product.{reversed}
+use Rattle.rq_product.proofs.product.reverse.Statement.{statement}
+use Rattle.rq_product.proofs.product.reverse.Tie as tie
 
 abbrev Inv-loop : tie.InvT-loop
 Inv-loop b out₀ i₀ out i = (i ≤ 64) × (out ≡ padded 64 i 0 (λ j. coeff b (63 - j)))

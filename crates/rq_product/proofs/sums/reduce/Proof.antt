@@ -6,8 +6,8 @@ use lib.ListN.{getD}
 use Rattle.lists.specs.Table.{padded}
 use Rattle.lists.proofs.Padded.{padded-none, padded-next, padded-done}
 use Rattle.definitions.specs.Zq.{Q}
-use Rattle.rq.proofs.sums.reduce.Statement.{statement}
-use Rattle.rq.proofs.sums.reduce.Tie as tie
+use Rattle.rq_product.proofs.sums.reduce.Statement.{statement}
+use Rattle.rq_product.proofs.sums.reduce.Tie as tie
 
 abbrev Inv-loop : tie.InvT-loop
 Inv-loop sums out₀ k₀ out k = (k ≤ 64) × (out ≡ padded 64 k 0 (λ j. getD sums j 0 % Q))

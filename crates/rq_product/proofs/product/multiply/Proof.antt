@@ -11,10 +11,10 @@ use Rattle.lists.proofs.Table.{length-table, table-getD}
 use Rattle.lists.proofs.Padded.{padded-none, padded-next, padded-done}
 use Rattle.definitions.specs.Zq.{Q}
 use Rattle.definitions.specs.Rq.{rmul, coeff}
-use Rattle.rq.specs.Product.{Finished, Forms}
-use Rattle.rq.proofs.Coefficient.{product-at, kernel-fits}
-use Rattle.rq.proofs.product.multiply.Statement.{statement}
-use Rattle.rq.proofs.product.multiply.Tie as tie
+use Rattle.rq_product.specs.Product.{Finished, Forms}
+use Rattle.rq_product.proofs.Coefficient.{product-at, kernel-fits}
+use Rattle.rq_product.proofs.product.multiply.Statement.{statement}
+use Rattle.rq_product.proofs.product.multiply.Tie as tie
 
 -- for k in 0..64 { out[k] = (dot(&x, &y, k + 1) % MODULUS) as u32; }
 -- At its head the first k coefficients of `out` are those of a·b and the later ones zero, for the a and b of which x and y are the forms.

@@ -5,9 +5,9 @@ use native.Mathlib.Omega.{arith}
 use borrow.Author.Tests.{lt-ltb}
 use Rattle.lists.specs.Table.{padded}
 use Rattle.lists.proofs.Padded.{padded-none, padded-next}
-use Rattle.rq.specs.Product.{extendedCoeff}
-use Rattle.rq.proofs.product.negated.Statement.{statement}
-use Rattle.rq.proofs.product.negated.Tie as tie
+use Rattle.rq_product.specs.Product.{extendedCoeff}
+use Rattle.rq_product.proofs.product.negated.Statement.{statement}
+use Rattle.rq_product.proofs.product.negated.Tie as tie
 
 abbrev Inv-loop : tie.InvT-loop
 Inv-loop a out₀ m₀ out m = (m ≤ 64) × (out ≡ padded 128 m 0 (extendedCoeff a))

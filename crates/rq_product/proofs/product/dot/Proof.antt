@@ -3,9 +3,9 @@ use mathlib.Core.Path.{_≡_, _∙_}
 use Prim.Native.Nat.{_+_, _-_, _≤_}
 use native.Mathlib.Omega.{arith}
 use borrow.Author.Needs.{needs}
-use Rattle.rq.proofs.Halves.{Begun, begun-none, begun-small, begun-next, begun-folded}
-use Rattle.rq.proofs.product.dot.Statement.{statement}
-use Rattle.rq.proofs.product.dot.Tie as tie
+use Rattle.rq_product.proofs.Halves.{Begun, begun-none, begun-small, begun-next, begun-folded}
+use Rattle.rq_product.proofs.product.dot.Statement.{statement}
+use Rattle.rq_product.proofs.product.dot.Tie as tie
 
 abbrev Inv-loop : tie.InvT-loop
 Inv-loop x y at h₀ i₀ h i = (i ≤ 64) × Begun x y at i (h .sum) (h .upper)

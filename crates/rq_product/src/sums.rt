@@ -8,7 +8,7 @@ ghost use Rattle.lists.specs.Table.{table};
 ghost use Rattle.lists.specs.Part.{part};
 ghost use Rattle.definitions.specs.Zq.{Q};
 ghost use Rattle.definitions.specs.Rq.{rmul, rscale};
-ghost use Rattle.rq.specs.Sums.{Room, Added};
+ghost use Rattle.rq_product.specs.Sums.{Room, Added};
 
 // The product of two elements added to the sums.
 pub fn add_product(sums: [u64; 64], a: [u32; 64], b: [u32; 64]) -> [u64; 64]

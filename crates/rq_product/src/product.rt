@@ -7,7 +7,7 @@ ghost use Prim.Native.Nat.{_+_, _^_, _≤_, _<_};
 ghost use lib.ListN.{length};
 ghost use Rattle.lists.specs.Table.{padded};
 ghost use Rattle.definitions.specs.Rq.{rmul};
-ghost use Rattle.rq.specs.Product.{AllWords, extended, extendedCoeff, reversed, folded, halvesSum, WithProduct};
+ghost use Rattle.rq_product.specs.Product.{AllWords, extended, extendedCoeff, reversed, folded, halvesSum, WithProduct};
 
 // Q as a u64, and 2^32.
 pub const MODULUS: u64 = Zq::Q as u64;
