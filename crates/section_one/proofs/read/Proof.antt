@@ -8,8 +8,8 @@ use Rattle.layout.specs.Sections.{ofCounted}
 use Rattle.layout.proofs.Then.{stops}
 use Rattle.layout.proofs.Laid.{counted-inside}
 use borrow.Author.Needs.{needs}
-use Rattle.relation.proofs.section_one.read.Statement.{statement}
-use Rattle.relation.proofs.section_one.read.Tie as tie
+use Rattle.section_one.proofs.read.Statement.{statement}
+use Rattle.section_one.proofs.read.Tie as tie
 
 within-limits-requires : tie.Need-within-limits-requires
 unfolding span

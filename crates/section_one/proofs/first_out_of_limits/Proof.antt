@@ -5,11 +5,11 @@ use native.Mathlib.Omega.{arith}
 use lib.ListN.{getD}
 use Rattle.definitions.specs.Answer.{fine}
 use Rattle.protocol.specs.Checks.{first}
-use Rattle.relation.specs.SectionOne.{limit-at}
+use Rattle.section_one.specs.SectionOne.{limit-at}
 use Rattle.protocol.proofs.First.{first-next, first-found}
-use Rattle.relation.proofs.Limits.{limited-low, limited-high, limited-within}
-use Rattle.relation.proofs.section_one.first_out_of_limits.Statement.{statement}
-use Rattle.relation.proofs.section_one.first_out_of_limits.Tie as tie
+use Rattle.section_one.proofs.Limits.{limited-low, limited-high, limited-within}
+use Rattle.section_one.proofs.first_out_of_limits.Statement.{statement}
+use Rattle.section_one.proofs.first_out_of_limits.Tie as tie
 
 abbrev Inv-loop : tie.InvT-loop
 Inv-loop job least greatest k₀ k = (k ≤ 12) × (first k (limit-at least greatest job) ≡ fine)

@@ -2,9 +2,9 @@
 use mathlib.Core.Path.{ap}
 use native.Mathlib.Omega.{arith}
 use borrow.Author.Needs.{needs}
-use Rattle.relation.proofs.Limits.{within, enough, too-few}
-use Rattle.relation.proofs.section_one.enough_aggregations.Statement.{statement}
-use Rattle.relation.proofs.section_one.enough_aggregations.Tie as tie
+use Rattle.section_one.proofs.Limits.{within, enough, too-few}
+use Rattle.section_one.proofs.enough_aggregations.Statement.{statement}
+use Rattle.section_one.proofs.enough_aggregations.Tie as tie
 
 least-aggregations-requires : tie.Need-least-aggregations-requires
 least-aggregations-requires c κs =

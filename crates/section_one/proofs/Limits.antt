@@ -18,7 +18,8 @@ use Rattle.protocol.proofs.Checks.{then-fine}
 use Rattle.protocol.proofs.Then.{then-assoc}
 use Rattle.protocol.proofs.First.{first-each}
 use Rattle.layout.proofs.Laid.{counted-inside}
-use Rattle.relation.specs.SectionOne.{section-one, limit-at, least-l, Within, Sound}
+use Rattle.relation.specs.SectionOne.{Within, Sound}
+use Rattle.section_one.specs.SectionOne.{section-one, limit-at, least-l}
 
 -- a value below its least
 pub limited-low : (least greatest place x : ℕ) → x < least → refused 4 place ≡ limited least greatest place x

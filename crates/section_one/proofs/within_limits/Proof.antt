@@ -4,10 +4,10 @@ use native.Mathlib.Omega.{arith}
 use Rattle.protocol.specs.Parameters.{parameters, enough-aggregations}
 use Rattle.layout.specs.Sections.{ofFound}
 use Rattle.layout.proofs.Then.{stops, goes-on}
-use Rattle.relation.proofs.Limits.{limits-by}
+use Rattle.section_one.proofs.Limits.{limits-by}
 use borrow.Author.Needs.{needs}
-use Rattle.relation.proofs.section_one.within_limits.Statement.{statement}
-use Rattle.relation.proofs.section_one.within_limits.Tie as tie
+use Rattle.section_one.proofs.within_limits.Statement.{statement}
+use Rattle.section_one.proofs.within_limits.Tie as tie
 
 enough-aggregations-requires : tie.Need-enough-aggregations-requires
 enough-aggregations-requires c κs =

@@ -3,8 +3,8 @@ use mathlib.Core.Path.{refl}
 use native.Mathlib.Omega.{arith}
 use Rattle.lists.specs.Table.{table}
 use Rattle.layout.specs.Sections.{listed}
-use Rattle.relation.proofs.section_one.first_sections.Statement.{statement}
-use Rattle.relation.proofs.section_one.first_sections.Tie as tie
+use Rattle.section_one.proofs.first_sections.Statement.{statement}
+use Rattle.section_one.proofs.first_sections.Tie as tie
 
 returns : tie.Need-returns
 unfolding listed table

@@ -1,11 +1,11 @@
 // Section one of the job: its layout (3), its parameters' limits (4), and an L below its least (5).
-use crate::env_params;
-use crate::env_params::EnvironmentParameters;
 use definitions::answers::Refusal;
 use layout::counts;
 use layout::counts::Counted;
 use layout::counts::Found;
 use layout::sections::Sections;
+use relation::env_params;
+use relation::env_params::EnvironmentParameters;
 ghost use mathlib.Core.Path.{_≡_};
 ghost use Prim.Native.Nat.{_≤_};
 ghost use lib.ListN.{length, getD};
@@ -14,7 +14,7 @@ ghost use Rattle.protocol.specs.Checks.{first};
 ghost use Rattle.protocol.specs.Parameters.{parameters, limits, enough-aggregations};
 ghost use Rattle.protocol.specs.Layout.{first-section};
 ghost use Rattle.layout.specs.Sections.{listed, ofFound};
-ghost use Rattle.relation.specs.SectionOne.{limit-at, least-l, section-one, ofSectionOne, Reads};
+ghost use Rattle.section_one.specs.SectionOne.{limit-at, least-l, section-one, ofSectionOne, Reads};
 
 // A refusal, or the parameters.
 pub enum SectionOne {

@@ -5,8 +5,8 @@ use native.Mathlib.Omega.{arith}
 use borrow.Author.Tests.{lt-ltb, le-ltb}
 use lib.ListN.{getD}
 use borrow.Author.Needs.{needs}
-use Rattle.relation.proofs.section_one.least_l.Statement.{statement}
-use Rattle.relation.proofs.section_one.least_l.Tie as tie
+use Rattle.section_one.proofs.least_l.Statement.{statement}
+use Rattle.section_one.proofs.least_l.Tie as tie
 
 shared-slice-read-if1 : tie.Need-shared-slice-read-if1
 shared-slice-read-if1 c = search needs
