@@ -2,8 +2,8 @@
 use native.Mathlib.Omega.{arith}
 use borrow.Author.Needs.{needs}
 use Rattle.definitions.specs.Answer.{value128}
-use Rattle.rq_vector.proofs.bound.add.Statement.{statement}
-use Rattle.rq_vector.proofs.bound.add.Tie as tie
+use Rattle.norm_bounds.proofs.bound.add.Statement.{statement}
+use Rattle.norm_bounds.proofs.bound.add.Tie as tie
 
 returns : tie.Need-returns
 unfolding value128

@@ -14,8 +14,8 @@ use Rattle.definitions.specs.Answer.{value128}
 use Rattle.definitions.specs.Norm.{norm}
 use Rattle.definitions.specs.Rq.{isZero, digitRow, leftRow}
 use Rattle.rq_digits.proofs.Sizes.{sizesAfter, sizes-first, sizes-next, sizes-left, row-is}
-use Rattle.rq_vector.proofs.norm.add_digits_norm.Statement.{statement}
-use Rattle.rq_vector.proofs.norm.add_digits_norm.Tie as tie
+use Rattle.digit_norms.proofs.norm.add_digits_norm.Statement.{statement}
+use Rattle.digit_norms.proofs.norm.add_digits_norm.Tie as tie
 
 -- whether nothing goes on after the last row is whether nothing is left
 nothing-left : (b parts k : ℕ) (a sizes : List ℕ) {t : Bool} → k ≡ parts → sizes ≡ sizesAfter b a k → t ≡ isZero sizes → isZero (leftRow b parts a) ≡ t

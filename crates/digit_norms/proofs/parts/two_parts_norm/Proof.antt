@@ -10,8 +10,8 @@ use Rattle.definitions.specs.Ring.{element}
 use Rattle.inner_product.specs.Run.{run}
 use Rattle.protocol.specs.Conditions.{two-parts-norm}
 use Rattle.protocol.proofs.Norms.{parts-of-table}
-use Rattle.rq_vector.proofs.parts.two_parts_norm.Statement.{statement}
-use Rattle.rq_vector.proofs.parts.two_parts_norm.Tie as tie
+use Rattle.digit_norms.proofs.parts.two_parts_norm.Statement.{statement}
+use Rattle.digit_norms.proofs.parts.two_parts_norm.Tie as tie
 
 abbrev Inv-loop : tie.InvT-loop
 Inv-loop from at count base total₀ place₀ m₀ total place m =

@@ -2,11 +2,8 @@
 use mathlib.Core.Path.{_≡_, refl, sym, _∙_, ap}
 use mathlib.Core.List.{List, [], _∷_}
 use Prim.Native.Nat.{ℕ, zero, suc, _+_, _*_, _%_, _≤_, _<_, _^_}
-use native.Mathlib.Nat.{mul-zero, mul-le-mul-right}
-use native.Mathlib.Decide.{decLe}
+use native.Mathlib.Nat.{mul-zero}
 use native.Mathlib.Omega.{arith}
-use borrow.Author.Tests.{le-leb, lt-leb}
-use lib.Dec.{leb}
 use lib.ListN.{length, getD}
 use Rattle.lists.specs.Table.{table}
 use Rattle.lists.specs.Part.{part}
@@ -73,18 +70,3 @@ norm-of-run l at n h f =
 -- the norms of the rows of digits of 64 words
 pub rows-norm : (b parts : ℕ) (a : List ℕ) → AllFit a → Σ parts (λ q. norm (digitRow b a q)) ≡ digits-norm b parts (element a)
 rows-norm b parts a f = Σ-ext parts (λ q. norm (digitRow b a q)) (λ q. norm (digitRow b (words (element a)) q)) (λ q h. ap norm (sym (row-of-words b a q f)))
-
--- tests of orders that hold together are the same
-pub leb-same : (a b c d : ℕ) → (a ≤ b → c ≤ d) → (c ≤ d → a ≤ b) → leb a b ≡ leb c d
-leb-same a b c d f g = go (decLe a b)
-  where
-    go : Dec (a ≤ b) → leb a b ≡ leb c d
-    go (yes h) = le-leb a b h ∙ sym (le-leb c d (f h))
-    go (no h) = lt-leb a b (omega arith) ∙ sym (lt-leb c d (above (λ l. h (g l))))
-      where
-        above : ¬ (c ≤ d) → d < c
-        above k = omega arith
-
--- the upper part decides
-pub upper-less : (w a b c d : ℕ) → b < w → a < c → a * w + b < c * w + d
-upper-less w a b c d l h = omega (arith, mul-le-mul-right w h)

@@ -5,9 +5,9 @@ use native.Mathlib.Nat.{le-of-lt}
 use native.Mathlib.Omega.{arith}
 use borrow.Author.Tests.{le-leb, lt-leb}
 use Rattle.definitions.specs.Answer.{value128}
-use Rattle.rq_vector.proofs.Squares.{leb-same, upper-less}
-use Rattle.rq_vector.proofs.bound.at_most.Statement.{statement}
-use Rattle.rq_vector.proofs.bound.at_most.Tie as tie
+use Rattle.norm_bounds.proofs.Order.{leb-same, upper-less}
+use Rattle.norm_bounds.proofs.bound.at_most.Statement.{statement}
+use Rattle.norm_bounds.proofs.bound.at_most.Tie as tie
 
 returns : tie.Need-returns
 unfolding value128

@@ -15,11 +15,11 @@ use Rattle.inner_product.specs.Run.{run}
 use Rattle.protocol.specs.Conditions.{digits-norm, one-if-left}
 use Rattle.protocol.proofs.Norms.{digits-of-table}
 use Rattle.protocol.proofs.CellsLeft.{count-of-table, count-at-most}
 use Rattle.rq_vector.proofs.Rows.{AllFit}
-use Rattle.rq_vector.proofs.Squares.{rows-norm}
-use Rattle.rq_vector.proofs.LeftOver.{left-of-words}
-use Rattle.rq_vector.proofs.norm.digits_norm.Statement.{statement}
-use Rattle.rq_vector.proofs.norm.digits_norm.Tie as tie
+use Rattle.digit_norms.proofs.Squares.{rows-norm}
+use Rattle.digit_norms.proofs.LeftOver.{left-of-words}
+use Rattle.digit_norms.proofs.norm.digits_norm.Statement.{statement}
+use Rattle.digit_norms.proofs.norm.digits_norm.Tie as tie
 
 abbrev Inv-loop : tie.InvT-loop
 Inv-loop from at cells base parts total₀ place₀ c₀ total place c =

@@ -11,10 +11,10 @@ use mir.Syntax.{w32}
 use Rattle.definitions.specs.Answer.{value128}
 use Rattle.definitions.specs.Norm.{norm}
 use Rattle.rq_digits.proofs.Sizes.{sizes-first, sizes-next, row-is}
 use Rattle.rq_vector.proofs.Rows.{AllFit}
-use Rattle.rq_vector.proofs.Rests.{parts-norm}
-use Rattle.rq_vector.proofs.parts.add_two_parts_norm.Statement.{statement}
-use Rattle.rq_vector.proofs.parts.add_two_parts_norm.Tie as tie
+use Rattle.digit_norms.proofs.Rests.{parts-norm}
+use Rattle.digit_norms.proofs.parts.add_two_parts_norm.Statement.{statement}
+use Rattle.digit_norms.proofs.parts.add_two_parts_norm.Tie as tie
 
 add-norm-requires : tie.Need-add-norm-requires
 add-norm-requires c κs =

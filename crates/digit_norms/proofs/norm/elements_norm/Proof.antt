@@ -2,9 +2,9 @@
 use mathlib.Core.Path.{_∙_}
 use native.Mathlib.Omega.{arith}
 use borrow.Author.Needs.{needs}
-use Rattle.rq_vector.proofs.Squares.{norm-of-run}
-use Rattle.rq_vector.proofs.norm.elements_norm.Statement.{statement}
-use Rattle.rq_vector.proofs.norm.elements_norm.Tie as tie
+use Rattle.digit_norms.proofs.Squares.{norm-of-run}
+use Rattle.digit_norms.proofs.norm.elements_norm.Statement.{statement}
+use Rattle.digit_norms.proofs.norm.elements_norm.Tie as tie
 
 returns : tie.Need-returns
 returns c =
