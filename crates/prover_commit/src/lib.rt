@@ -1,7 +1,7 @@
 // What the prover works out into the scratch, with the refusals 13 to 16: t, g, b'', h and the challenges.
 use admission::calls::Call;
 use aggregate;
-use commitments::common_instances;
+use commitment_bounds::common_instances;
 use commitments::outer_commitments::Digits;
 use definitions::answers::Proved;
 use definitions::answers::Refusal;

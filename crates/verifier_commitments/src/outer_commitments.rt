@@ -1,7 +1,7 @@
 // The outer commitments to what the prover sends: 14, 15 and 28; 16 and 29.
-use commitments::common_instances;
-use commitments::outer_commitments;
+use commitment_bounds::common_instances;
 use commitments::outer_commitments::Digits;
+use commitments::outer_commitments;
 use definitions::answers::Checked;
 use definitions::answers::FailedCheck;
 use definitions::answers::Refusal;

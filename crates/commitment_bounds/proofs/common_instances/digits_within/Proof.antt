@@ -3,8 +3,8 @@ use mathlib.Core.Path.{_∙_, ap}
 use borrow.Author.Needs.{needs}
 use lib.Dec.{leb}
 use Rattle.definitions.specs.Answer.{value128}
-use Rattle.commitments.proofs.common_instances.digits_within.Statement.{statement}
-use Rattle.commitments.proofs.common_instances.digits_within.Tie as tie
+use Rattle.commitment_bounds.proofs.common_instances.digits_within.Statement.{statement}
+use Rattle.commitment_bounds.proofs.common_instances.digits_within.Tie as tie
 
 returns : tie.Need-returns
 returns c =

@@ -11,10 +11,10 @@ use Rattle.protocol.specs.Formulas.{norm-of}
 use Rattle.rq_matrix.specs.Region.{vector}
 use Rattle.rq_matrix.proofs.Place.{rows-within, run-vector}
 use Rattle.protocol.proofs.First.{first-next, first-found}
 use Rattle.commitments.specs.Cells.{vector-norm}
 use Rattle.commitments.proofs.Answers.{require-by}
-use Rattle.commitments.proofs.common_instances.check_witness.Statement.{statement}
-use Rattle.commitments.proofs.common_instances.check_witness.Tie as tie
+use Rattle.commitment_bounds.proofs.common_instances.check_witness.Statement.{statement}
+use Rattle.commitment_bounds.proofs.common_instances.check_witness.Tie as tie
 
 abbrev Inv-loop : tie.InvT-loop
 Inv-loop witness at n r bound step place₀ i₀ place i =

@@ -11,8 +11,8 @@ use Rattle.protocol.proofs.Stored.{rows-none, rows-next, rows-all}
 use Rattle.rq_matrix.specs.Region.{vector}
 use Rattle.rq_matrix.proofs.Place.{rows-within, run-vector}
 use Rattle.rq_matrix.proofs.Fill.{length-filled}
-use Rattle.commitments.proofs.ajtai_commitment.commit_all.Statement.{statement}
-use Rattle.commitments.proofs.ajtai_commitment.commit_all.Tie as tie
+use Rattle.inner_commitments.proofs.ajtai_commitment.commit_all.Statement.{statement}
+use Rattle.inner_commitments.proofs.ajtai_commitment.commit_all.Tie as tie
 
 abbrev Inv-loop : tie.InvT-loop
 Inv-loop matrix m-at count n vectors at r out₀ out-at step out-step start₀ place₀ i₀ out start place i =

@@ -1,5 +1,5 @@
 // The norm bounds of the commitments: of the vectors that A commits to, and of the digits that B, C and D do.
-use crate::outer_commitments::Digits;
+use commitments::outer_commitments::Digits;
 use definitions::answers::Proved;
 use definitions::answers::Refusal;
 use definitions::answers::U128;
