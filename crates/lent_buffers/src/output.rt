@@ -1,7 +1,7 @@
 // The lent output: 2.
-use crate::answers::Checked;
-use crate::calls;
-use crate::calls::Call;
+use admission::answers::Checked;
+use admission::calls;
+use admission::calls::Call;
 use definitions::answers::Refusal;
 use relation::env_params::EnvironmentParameters;
 ghost use mathlib.Core.Path.{_≡_};

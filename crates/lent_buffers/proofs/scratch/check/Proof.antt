@@ -1,8 +1,8 @@
 -- `scratch::check` meets its contract.
 use Rattle.admission.proofs.Found.{too-short, long-enough}
 use borrow.Author.Needs.{needs}
-use Rattle.admission.proofs.scratch.check.Statement.{statement}
-use Rattle.admission.proofs.scratch.check.Tie as tie
+use Rattle.lent_buffers.proofs.scratch.check.Statement.{statement}
+use Rattle.lent_buffers.proofs.scratch.check.Tie as tie
 
 returns : tie.Need-returns
 returns c = too-short 1 _ _ (c .before .scratch-length .ensures) (c .if1 .taken)

@@ -4,11 +4,11 @@ use lib.ListN.{take, drop}
 use Rattle.protocol.specs.Layout.{span, transcript-sections}
 use Rattle.protocol.specs.Prover.{made-sections}
 use Rattle.relation.specs.Parameters.{parametersOf}
 use Rattle.admission.specs.Admission.{callOf}
 use Rattle.admission.proofs.Found.{too-short, long-enough}
 use borrow.Author.Needs.{needs}
-use Rattle.admission.proofs.output.check.Statement.{statement}
-use Rattle.admission.proofs.output.check.Tie as tie
+use Rattle.lent_buffers.proofs.output.check.Statement.{statement}
+use Rattle.lent_buffers.proofs.output.check.Tie as tie
 
 -- the need is that of the sections that the call makes
 needed : (c : tie.After-output-length) → c .output-length .result ≡ span (made-sections (callOf (c .before .before .args .call)) (parametersOf (c .before .before .args .p)))

@@ -1,12 +1,12 @@
 // The lent scratch: 1.
-use crate::answers::Checked;
+use admission::answers::Checked;
 use definitions::answers::Refusal;
 use relation::env_params::EnvironmentParameters;
 ghost use mathlib.Core.Path.{_≡_};
 ghost use Rattle.protocol.specs.Layout.{scratch-refusal};
 ghost use Rattle.relation.specs.Parameters.{parametersOf};
 ghost use Rattle.sizes.specs.Sizes.{Sized};
 ghost use Rattle.admission.specs.Admission.{ofChecked};
 
 // "Place is the length needed."
 pub fn check(lent: usize, p: EnvironmentParameters) -> Checked
