@@ -2,8 +2,8 @@
 use mathlib.Core.Path.{sym, ap}
 use borrow.Author.Needs.{needs}
 use Rattle.definitions.specs.Answer.{ofOperands, _then_}
-use Rattle.operands.proofs.scan.first.Statement.{statement}
-use Rattle.operands.proofs.scan.first.Tie as tie
+use Rattle.operand_scan.proofs.scan.first.Statement.{statement}
+use Rattle.operand_scan.proofs.scan.first.Tie as tie
 
 returns-2 : tie.Need-returns-2
 returns-2 c = ap (λ o. ofOperands o then ofOperands (c .before .before .before .args .b)) (sym (c .before .a .given .1))

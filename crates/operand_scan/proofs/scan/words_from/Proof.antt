@@ -1,8 +1,8 @@
 -- `words_from` meets its contract.
 use borrow.Author.Needs.{needs}
-use Rattle.operands.proofs.Scans.{found-bad, found-none}
-use Rattle.operands.proofs.scan.words_from.Statement.{statement}
-use Rattle.operands.proofs.scan.words_from.Tie as tie
+use Rattle.operand_scan.proofs.Scans.{found-bad, found-none}
+use Rattle.operand_scan.proofs.scan.words_from.Statement.{statement}
+use Rattle.operand_scan.proofs.scan.words_from.Tie as tie
 
 returns : tie.Need-returns
 returns c = found-bad _ _ _ _ _ (c .before .first-not-below .ensures) (c .if1 .taken)

@@ -7,7 +7,7 @@ ghost use lib.ListN.{length};
 ghost use Rattle.definitions.specs.Zq.{Q};
 ghost use Rattle.definitions.specs.Answer.{ofOperands, below, _then_};
 ghost use Rattle.definitions.specs.Leaf.{signWords};
-ghost use Rattle.operands.specs.Scan.{FirstNotBelow};
+ghost use Rattle.operand_scan.specs.Scan.{FirstNotBelow};
 
 // The index of the first word at or above the limit; the number of words where there is none.
 pub fn first_not_below(words: &[u32], limit: u32) -> usize

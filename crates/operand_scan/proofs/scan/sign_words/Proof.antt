@@ -3,9 +3,9 @@ use mathlib.Core.Path.{sym, _∙_, ap}
 use native.Mathlib.Nat.{zero-add}
 use borrow.Author.Needs.{needs}
 use Rattle.definitions.specs.Answer.{refused}
-use Rattle.operands.proofs.Scans.{found-bad, found-none}
-use Rattle.operands.proofs.scan.sign_words.Statement.{statement}
-use Rattle.operands.proofs.scan.sign_words.Tie as tie
+use Rattle.operand_scan.proofs.Scans.{found-bad, found-none}
+use Rattle.operand_scan.proofs.scan.sign_words.Statement.{statement}
+use Rattle.operand_scan.proofs.scan.sign_words.Tie as tie
 
 returns : tie.Need-returns
 returns c =

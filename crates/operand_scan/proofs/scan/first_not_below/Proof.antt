@@ -2,9 +2,9 @@
 use Prim.Native.Nat.{_-_, _≤_}
 use native.Mathlib.Omega.{arith}
 use lib.ListN.{length}
-use Rattle.operands.proofs.Scans.{Passed, none-passed, one-passed, bad-found, all-passed}
-use Rattle.operands.proofs.scan.first_not_below.Statement.{statement}
-use Rattle.operands.proofs.scan.first_not_below.Tie as tie
+use Rattle.operand_scan.proofs.Scans.{Passed, none-passed, one-passed, bad-found, all-passed}
+use Rattle.operand_scan.proofs.scan.first_not_below.Statement.{statement}
+use Rattle.operand_scan.proofs.scan.first_not_below.Tie as tie
 
 abbrev Inv-loop : tie.InvT-loop
 Inv-loop words limit i₀ i = (i ≤ length words) × Passed limit words i

@@ -13,7 +13,7 @@ use lib.Seq.{drop-cons, drop-length}
 use Rattle.definitions.specs.Answer.{Answer, fine, refused, below, _then_}
 use Rattle.definitions.specs.Zq.{Q}
 use Rattle.definitions.specs.Leaf.{canonicalWords}
-use Rattle.operands.specs.Scan.{FirstNotBelow}
+use Rattle.operand_scan.specs.Scan.{FirstNotBelow}
 
 -- the search has passed i words: the whole answer is that of the words from i on
 abbrev pub Passed : ℕ → List ℕ → ℕ → Type 0
