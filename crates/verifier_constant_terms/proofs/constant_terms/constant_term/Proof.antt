@@ -2,9 +2,9 @@
 use mathlib.Core.Path.{_≡_}
 use Prim.Native.Nat.{ℕ, _+_, _%_}
 use native.Mathlib.Omega.{arith}
-use Rattle.verifier_norms.specs.Terms.{products}
-use Rattle.verifier_norms.proofs.norm_checks.constant_term.Statement.{statement}
-use Rattle.verifier_norms.proofs.norm_checks.constant_term.Tie as tie
+use Rattle.verifier_constant_terms.specs.Terms.{products}
+use Rattle.verifier_constant_terms.proofs.constant_terms.constant_term.Statement.{statement}
+use Rattle.verifier_constant_terms.proofs.constant_terms.constant_term.Tie as tie
 
 -- a sum after another, modulo Q
 both : (t f a b : ℕ) → t % 4294967295 ≡ (f + b) % 4294967295 → f % 4294967295 ≡ (0 + a) % 4294967295 → t % 4294967295 ≡ (a + b) % 4294967295

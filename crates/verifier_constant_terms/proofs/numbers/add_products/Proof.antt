@@ -8,8 +8,8 @@ use Rattle.lists.specs.Sum.{Σ}
 use Rattle.lists.proofs.Sum.{Σ-suc}
 use Rattle.definitions.specs.Zq.{Q}
 use Rattle.definitions.proofs.Fits.{product-max}
-use Rattle.verifier_norms.proofs.numbers.add_products.Statement.{statement}
-use Rattle.verifier_norms.proofs.numbers.add_products.Tie as tie
+use Rattle.verifier_constant_terms.proofs.numbers.add_products.Statement.{statement}
+use Rattle.verifier_constant_terms.proofs.numbers.add_products.Tie as tie
 
 -- the halves of a product are below 2^33 together
 halves-small : (p : ℕ) → p ≤ 18446744065119617025 → p / 4294967296 + p % 4294967296 ≤ 8589934590

@@ -11,10 +11,10 @@ use Rattle.protocol.specs.Parameters.{parameters}
 use Rattle.protocol.proofs.Fine.{require-holds, require-fails}
 use Rattle.protocol.proofs.First.{first-next}
 use Rattle.verifier_common.proofs.Sent.{reckoned}
-use Rattle.verifier_norms.proofs.Terms.{test, check-22-is, Terms, terms, test-is}
+use Rattle.verifier_constant_terms.proofs.Terms.{test, check-22-is, Terms, terms, test-is}
 use Rattle.verifier_common.proofs.Verdicts.{first-failed}
-use Rattle.verifier_norms.proofs.norm_checks.check_constant_terms.Statement.{statement}
-use Rattle.verifier_norms.proofs.norm_checks.check_constant_terms.Tie as tie
+use Rattle.verifier_constant_terms.proofs.constant_terms.check_constant_terms.Statement.{statement}
+use Rattle.verifier_constant_terms.proofs.constant_terms.check_constant_terms.Tie as tie
 
 abbrev Inv-loop : tie.InvT-loop
 Inv-loop job randomness transcript p b0 l psi om projection at k₀ k =

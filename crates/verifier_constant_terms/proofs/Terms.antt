@@ -24,7 +24,7 @@ use Rattle.protocol.specs.Verifier.{check-22}
 use Rattle.relation.specs.declared.env_params.EnvironmentParameters.{EnvironmentParameters}
 use Rattle.relation.specs.Parameters.{parametersOf}
 use Rattle.verifier_common.specs.Work.{Sent}
-use Rattle.verifier_norms.specs.Terms.{constant-term}
+use Rattle.verifier_constant_terms.specs.Terms.{constant-term}
 
 -- the constant coefficient of b''_k as it is sent
 abbrev sent-word : (J T : List ℕ) → ℕ → ℕ
