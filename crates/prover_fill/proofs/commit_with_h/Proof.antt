@@ -2,11 +2,11 @@
 use mathlib.Core.Path.{refl, _∙_}
 use borrow.Author.Needs.{needs}
 use Rattle.protocol.specs.Prover.{round₄}
 use Rattle.prover_commit.proofs.Answers.{passed-on, gone-on, with-h}
 use Rattle.prover_commit.proofs.Commitments.{where-made, from-made}
-use Rattle.prover_commit.proofs.WithH.{weighed-given, h-kept, h-aggregated}
-use Rattle.prover_commit.proofs.commit_with_h.Statement.{statement}
-use Rattle.prover_commit.proofs.commit_with_h.Tie as tie
+use Rattle.prover_fill.proofs.WithH.{weighed-given, h-kept, h-aggregated}
+use Rattle.prover_fill.proofs.commit_with_h.Statement.{statement}
+use Rattle.prover_fill.proofs.commit_with_h.Tie as tie
 
 add-h-requires : tie.Need-add-h-requires
 add-h-requires c κs =

@@ -1,10 +1,10 @@
 -- `add_h` meets its contract.
 use mathlib.Core.Path.{_∙_}
 use borrow.Author.Needs.{needs}
 use Rattle.prover_commit.proofs.Room.{placed}
 use Rattle.prover_commit.proofs.Commitments.{h-fits, h-made, h-checked, given-h, held-h}
-use Rattle.prover_commit.proofs.add_h.Statement.{statement}
-use Rattle.prover_commit.proofs.add_h.Tie as tie
+use Rattle.prover_fill.proofs.add_h.Statement.{statement}
+use Rattle.prover_fill.proofs.add_h.Tie as tie
 
 check-h-requires : tie.Need-check-h-requires
 check-h-requires c κs =

@@ -2,11 +2,11 @@
 use mathlib.Core.Path.{refl}
 use borrow.Author.Needs.{needs}
 use Rattle.protocol.specs.Prover.{round₄}
 use Rattle.prover_commit.proofs.Answers.{passed-on, gone-on, with-h}
 use Rattle.prover_commit.proofs.Commitments.{where-made, from-made, b″-fits, b″-made}
-use Rattle.prover_commit.proofs.WithH.{weighed-given, h-needs, all-kept, all-made}
-use Rattle.prover_commit.proofs.commit_with_b_and_h.Statement.{statement}
-use Rattle.prover_commit.proofs.commit_with_b_and_h.Tie as tie
+use Rattle.prover_fill.proofs.WithH.{weighed-given, h-needs, all-kept, all-made}
+use Rattle.prover_fill.proofs.commit_with_b_and_h.Statement.{statement}
+use Rattle.prover_fill.proofs.commit_with_b_and_h.Tie as tie
 
 b-double-prime-requires : tie.Need-b-double-prime-requires
 b-double-prime-requires c κs =

@@ -3,11 +3,11 @@ use mathlib.Core.Path.{refl}
 use borrow.Author.Needs.{needs}
 use Rattle.definitions.specs.declared.answers.Proved.the-variants as E
 use Rattle.protocol.specs.Prover.{round₃}
 use Rattle.prover_commit.proofs.Answers.{passed-on, gone-on, without-h}
 use Rattle.prover_commit.proofs.Commitments.{from-made, b″-fits, b″-made}
-use Rattle.prover_commit.proofs.Scratch.{double-prime-needs, b″-needs, b″-there, round₃-kept}
-use Rattle.prover_commit.proofs.commit_with_b_double_prime.Statement.{statement}
-use Rattle.prover_commit.proofs.commit_with_b_double_prime.Tie as tie
+use Rattle.prover_fill.proofs.Scratch.{double-prime-needs, b″-needs, b″-there, round₃-kept}
+use Rattle.prover_fill.proofs.commit_with_b_double_prime.Statement.{statement}
+use Rattle.prover_fill.proofs.commit_with_b_double_prime.Tie as tie
 
 double-prime-requires : tie.Need-double-prime-requires
 double-prime-requires c κs =

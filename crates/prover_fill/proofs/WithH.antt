@@ -17,11 +17,11 @@ use Rattle.workspace.specs.Holds.{Holds, Kept}
 use Rattle.workspace.specs.Aggregated.{a″-words, φ″-words, φ-words}
 use Rattle.workspace.proofs.Kept.{kept-stored, kept-trans}
 use Rattle.workspace.proofs.Ready.{drawn-fewer, ready-changed, φ″-end, a″-end, φ-end, a-end, g-end, c-end, length-φ″, length-a″, length-φ}
 use Rattle.prover_commit.specs.Words.{t-words, g-words, b″-words, h-words}
 use Rattle.prover_commit.specs.Work.{Given, Where-made, Committed, Weighed, Aggregated, AllMade, with-h-words}
 use Rattle.prover_commit.proofs.Commitments.{from-made, held-stored, held-before, held-after, given-changed, a-room, kept-h, stands-h, held-h}
 use Rattle.prover_commit.proofs.Lengths.{length-h}
-use Rattle.prover_commit.proofs.Scratch as Scratch
+use Rattle.prover_fill.proofs.Scratch as Scratch
 
 module _ (J R W : List ℕ) (p : EnvironmentParameters) (q : Regions) (S : List ℕ) (h : Given J W p q S) (d : Drawn 5 J R) where
   abbrev P : Parameters

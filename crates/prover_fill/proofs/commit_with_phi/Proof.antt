@@ -3,11 +3,11 @@ use mathlib.Core.Path.{refl}
 use borrow.Author.Needs.{needs}
 use Rattle.definitions.specs.declared.answers.Proved.the-variants as E
 use Rattle.protocol.proofs.Checks.{then-fine}
 use Rattle.prover_commit.specs.Refusals.{first-refusal}
 use Rattle.prover_commit.proofs.Answers.{passed-on, gone-on}
-use Rattle.prover_commit.proofs.WithH.{double-prime-needs, phi-needs, kept-φ, weighed}
-use Rattle.prover_commit.proofs.commit_with_phi.Statement.{statement}
-use Rattle.prover_commit.proofs.commit_with_phi.Tie as tie
+use Rattle.prover_fill.proofs.WithH.{double-prime-needs, phi-needs, kept-φ, weighed}
+use Rattle.prover_fill.proofs.commit_with_phi.Statement.{statement}
+use Rattle.prover_fill.proofs.commit_with_phi.Tie as tie
 
 double-prime-requires : tie.Need-double-prime-requires
 double-prime-requires c κs =

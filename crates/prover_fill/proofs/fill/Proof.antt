@@ -3,9 +3,9 @@ use mathlib.Core.Path.{refl, _∙_}
 use borrow.Author.Needs.{needs}
 use Rattle.protocol.specs.Prover.{round₁, round₂}
 use Rattle.admission.specs.declared.calls.Call.the-variants as C
 use Rattle.prover_commit.proofs.Answers.{first-work, fills, drawn-known}
-use Rattle.prover_commit.proofs.fill.Statement.{statement}
-use Rattle.prover_commit.proofs.fill.Tie as tie
+use Rattle.prover_fill.proofs.fill.Statement.{statement}
+use Rattle.prover_fill.proofs.fill.Tie as tie
 
 commit-for-all-requires : tie.Need-commit-for-all-requires
 commit-for-all-requires c κs = (c .before .before .before .before .before .before .before .pre .0, drawn-known (c .before .before .before .before .before .before .before .args .call) C.Whole (c .before .before .before .before .before .before .before .args .job .now) (c .before .before .before .before .before .before .before .args .randomness .now) (c .before .enum-told .given .1) (c .before .before .before .before .before .before .before .pre .1))

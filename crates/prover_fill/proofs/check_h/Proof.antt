@@ -1,8 +1,8 @@
 -- `check_h` meets its contract.
 use Rattle.prover_commit.proofs.Room.{base-room, h-cells}
 use Rattle.prover_commit.proofs.Commitments.{bounded}
-use Rattle.prover_commit.proofs.check_h.Statement.{statement}
-use Rattle.prover_commit.proofs.check_h.Tie as tie
+use Rattle.prover_fill.proofs.check_h.Statement.{statement}
+use Rattle.prover_fill.proofs.check_h.Tie as tie
 
 triangle-requires : tie.Need-triangle-requires
 triangle-requires c κs = c .before .pre .sized .within .r .1
