@@ -8,10 +8,10 @@ use Rattle.protocol.specs.Parameters.{parameters}
 use Rattle.protocol.specs.Views.{public, message}
 use Rattle.protocol.specs.Verifier.{check-27}
 use Rattle.verifier_common.proofs.Sent.{reckoned, received, g-within, h-within}
-use Rattle.verifier_relations.proofs.Sides.{products-requires, diagonal-requires, mix-requires, relation-answer}
+use Rattle.aggregated_relation.proofs.Sides.{products-requires, diagonal-requires, mix-requires, relation-answer}
 use borrow.Author.Needs.{needs}
-use Rattle.verifier_relations.proofs.relations.check_relation.Statement.{statement}
-use Rattle.verifier_relations.proofs.relations.check_relation.Tie as tie
+use Rattle.aggregated_relation.proofs.check_relation.Statement.{statement}
+use Rattle.aggregated_relation.proofs.check_relation.Tie as tie
 
 of-transcript-requires : tie.Need-of-transcript-requires
 of-transcript-requires c κs = (reckoned (c .before .before .before .before .pre .0 .posed), omega arith)
