@@ -11,13 +11,14 @@ use Rattle.relation.specs.Parameters.{parametersOf}
 use Rattle.admission.specs.declared.answers.Admitted.{Admitted}
 use Rattle.admission.specs.declared.answers.Admitted.the-variants as A
 use Rattle.admission.specs.Admission.{ofAdmitted, At}
-use Rattle.admission.proofs.Fit.{fit-same}
-use Rattle.prover.proofs.Calls.{refused-is}
+use Rattle.admission.proofs.Fit.{refusal-none, fit-same}
 
 module _ (J : List ℕ) (x : Admitted) (e : ofAdmitted x ≡ job-refusal J) where
   -- of a job that is refused
   pub length-none : (r : Refusal) → x ≡ A.Refused r → 0 ≡ result (job-refusal J) (span (transcript-sections (parameters J))) 0
-  length-none r is = refused-is r (span (transcript-sections (parameters J))) 0 (sym (ap ofAdmitted is) ∙ e)
+  length-none r is =
+      let n = span (transcript-sections (parameters J)) in
+      refusal-none r n 0 ∙ ap (λ a. result a n 0) (sym (ap ofAdmitted is) ∙ e)
 
   -- of a job that is refused nothing
   pub length-found : (p : EnvironmentParameters) (length : ℕ) → At x (λ p. parametersOf p ≡ parameters J) → x ≡ A.Fit p → length ≡ span (transcript-sections (parametersOf p))

@@ -2,9 +2,9 @@
 use native.Mathlib.Omega.{arith}
 use borrow.Author.Needs.{needs}
 use Rattle.admission.proofs.Fit.{fit-sized}
-use Rattle.prove_then_verify.proofs.Lengths.{length-none, length-found}
-use Rattle.prove_then_verify.proofs.transcript_length.Statement.{statement}
-use Rattle.prove_then_verify.proofs.transcript_length.Tie as tie
+use Rattle.transcript_length.proofs.Lengths.{length-none, length-found}
+use Rattle.transcript_length.proofs.transcript_length.Statement.{statement}
+use Rattle.transcript_length.proofs.transcript_length.Tie as tie
 
 output-length-requires : tie.Need-output-length-requires
 output-length-requires c κs =
