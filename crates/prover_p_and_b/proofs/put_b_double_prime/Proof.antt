@@ -8,11 +8,11 @@ use Rattle.lists.specs.Part.{splice}
 use Rattle.lists.proofs.Splice.{length-splice, length-part}
 use Rattle.protocol.specs.Layout.{sections}
 use Rattle.relation.specs.Parameters.{parametersOf}
-use Rattle.prover_sections.specs.Sections.{b″-in}
-use Rattle.prover_sections.proofs.TranscriptSections.{next-place, section-copied}
-use Rattle.prover_sections.proofs.SectionRoom.{few-words, fits-words, section-room, fits-next, fits-end}
-use Rattle.prover_sections.proofs.put_b_double_prime.Statement.{statement}
-use Rattle.prover_sections.proofs.put_b_double_prime.Tie as tie
+use Rattle.prover_p_and_b.specs.Sections.{b″-in}
+use Rattle.prover_p_and_b.proofs.TranscriptSections.{next-place, section-copied}
+use Rattle.prover_p_and_b.proofs.SectionRoom.{few-words, fits-words, section-room, fits-next, fits-end}
+use Rattle.prover_p_and_b.proofs.put_b_double_prime.Statement.{statement}
+use Rattle.prover_p_and_b.proofs.put_b_double_prime.Tie as tie
 
 -- the output's length fits
 long : (c : tie.Start) → length (c .args .output .now) < 2 ^ 64

@@ -15,8 +15,8 @@ use Rattle.workspace.specs.Ready.{Drawn}
 use Rattle.workspace.proofs.Ready.{ready-sized, Π-within}
 use Rattle.prover_commit.specs.Work.{Given}
 use Rattle.prover_commit.proofs.Room.{s-room}
-use Rattle.prover_sections.specs.Sections.{Projects}
-use Rattle.prover_sections.proofs.TranscriptSections.{length-one, length-sections-append}
+use Rattle.prover_p_and_b.specs.Sections.{Projects}
+use Rattle.prover_p_and_b.proofs.TranscriptSections.{length-one, length-sections-append}
 
 -- a count of few elements' words
 pub few-words : (n : ℕ) → n ≤ 1024 → 64 * n < 2 ^ 32

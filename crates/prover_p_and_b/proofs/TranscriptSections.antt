@@ -9,7 +9,7 @@ use lib.Seq.{sets}
 use Rattle.lists.specs.Part.{part, splice}
 use Rattle.lists.proofs.Splice.{length-splice, splice-append}
 use Rattle.protocol.specs.Layout.{sections}
-use Rattle.prover_sections.specs.Sections.{Room, Put}
+use Rattle.prover_p_and_b.specs.Sections.{Room, Put}
 
 -- sections after sections
 pub sections-append : (xs ys : List (List ℕ)) → sections (xs ++ ys) ≡ sections xs ++ sections ys

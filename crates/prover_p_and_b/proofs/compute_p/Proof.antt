@@ -9,13 +9,13 @@ use Rattle.lists.specs.Part.{splice}
 use Rattle.lists.proofs.Splice.{length-splice}
 use Rattle.protocol.specs.Layout.{sections}
 use Rattle.relation.specs.Parameters.{parametersOf}
-use Rattle.prover_sections.specs.Sections.{p-in}
+use Rattle.prover_p_and_b.specs.Sections.{p-in}
 use Rattle.lists.proofs.Table.{length-table}
 use Rattle.jl.specs.Run as Jl
-use Rattle.prover_sections.proofs.TranscriptSections.{next-place, section-stored}
-use Rattle.prover_sections.proofs.SectionRoom.{section-room, count-room, words-room, fits-next, p-room}
-use Rattle.prover_sections.proofs.compute_p.Statement.{statement}
-use Rattle.prover_sections.proofs.compute_p.Tie as tie
+use Rattle.prover_p_and_b.proofs.TranscriptSections.{next-place, section-stored}
+use Rattle.prover_p_and_b.proofs.SectionRoom.{section-room, count-room, words-room, fits-next, p-room}
+use Rattle.prover_p_and_b.proofs.compute_p.Statement.{statement}
+use Rattle.prover_p_and_b.proofs.compute_p.Tie as tie
 
 -- the output's length fits, and its bytes too
 long : (c : tie.Start) → length (c .args .output .now) < 2 ^ 64
