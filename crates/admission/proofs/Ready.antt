@@ -16,8 +16,9 @@ use Rattle.layout.specs.Laid.{Laid}
 use Rattle.layout.proofs.Laid.{laid}
 use Rattle.relation.specs.declared.env_params.EnvironmentParameters.{EnvironmentParameters}
 use Rattle.relation.specs.Parameters.{parametersOf}
-use Rattle.relation.specs.SectionOne.{section-one, Sound}
-use Rattle.relation.proofs.Limits.{sound}
+use Rattle.relation.specs.SectionOne.{Sound}
+use Rattle.section_one.specs.SectionOne.{section-one}
+use Rattle.section_one.proofs.Limits.{sound}
 use Rattle.sizes.specs.Sizes.{Sized}
 use Rattle.sizes.proofs.Sized.{sized}
 use Rattle.admission.specs.Admission.{Handed, Provable, Verifiable}

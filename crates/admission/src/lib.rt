@@ -1,9 +1,7 @@
-// The refusals before the work: each module tests one slice or buffer.
+// The refusals before the work: each module tests one slice.
 pub mod answers;
 pub mod calls;
 pub mod job;
-pub mod output;
 pub mod randomness;
-pub mod scratch;
 pub mod transcript;
 pub mod witness;

@@ -1,4 +1,2 @@
-// The commitments (commitments/ajtai_commitment.rs, outer_commitments.rs, common_instances.rs) and their norm bounds.
-pub mod ajtai_commitment;
-pub mod common_instances;
+// The outer commitments (commitments/outer_commitments.rs).
 pub mod outer_commitments;

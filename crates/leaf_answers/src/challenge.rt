@@ -1,7 +1,7 @@
 // The answer of the challenge's call.
 use crate::answers;
 use crate::answers::ElementAnswer;
-use operands::scan;
+use operand_scan::scan;
 use transcript::challenge;
 ghost use mathlib.Core.Path.{_≡_};
 ghost use lib.ListN.{length};

@@ -12,11 +12,11 @@ use Rattle.protocol.specs.Layout.{Section, span, counted, first-section, job-se
 use Rattle.protocol.specs.Load.{Given, load-parameters, needs-refusal, load-refusal, job-need, witness-need, randomness-need}
 use Rattle.protocol.proofs.Fine.{require-holds, require-fails, required, refused-not-fine, then-fine-left, then-fine-right}
 use Rattle.relation.specs.declared.env_params.EnvironmentParameters.{EnvironmentParameters}
-use Rattle.relation.specs.declared.section_one.SectionOne.{SectionOne}
-use Rattle.relation.specs.declared.section_one.SectionOne.the-variants as S
+use Rattle.section_one.specs.declared.SectionOne.{SectionOne}
+use Rattle.section_one.specs.declared.SectionOne.the-variants as S
 use Rattle.relation.specs.Parameters.{parametersOf}
-use Rattle.relation.specs.SectionOne.{section-one, ofSectionOne, Reads}
-use Rattle.relation.proofs.Limits.{sound}
+use Rattle.section_one.specs.SectionOne.{section-one, ofSectionOne, Reads}
+use Rattle.section_one.proofs.Limits.{sound}
 use Rattle.layout.specs.declared.sections.Sections.{Sections}
 use Rattle.layout.specs.Sections.{listed}
 use Rattle.sizes.specs.Sizes.{Sized, IsTable}

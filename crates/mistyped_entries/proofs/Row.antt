@@ -15,8 +15,8 @@ use Rattle.relation.specs.declared.env_params.EnvironmentParameters.{Environmen
 use Rattle.relation.specs.Parameters.{parametersOf}
 use Rattle.verifier_common.specs.Work.{Sent}
 use Rattle.verifier_common.proofs.Sent.{reckoned}
-use Rattle.verifier_norms.specs.Terms.{constant-term}
-use Rattle.verifier_norms.proofs.Terms.{Terms, terms}
+use Rattle.verifier_constant_terms.specs.Terms.{constant-term}
+use Rattle.verifier_constant_terms.proofs.Terms.{Terms, terms}
 use Rattle.mistyped_entries.specs.Lacking.{lacking, all-lacking}
 
 module _ {J R T : List ℕ} {p : EnvironmentParameters} (w : Sent J R T p) where

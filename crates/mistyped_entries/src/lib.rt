@@ -2,7 +2,7 @@
 use congruence::Solution;
 use relation::env_params::EnvironmentParameters;
 use sizes::offsets;
-use verifier_norms::norm_checks;
+use verifier_constant_terms::constant_terms;
 use zq::zq::Zq;
 ghost use mathlib.Core.Path.{_≡_};
 ghost use Prim.Native.Nat.{_+_, _*_, _≤_, _<_};
@@ -29,7 +29,7 @@ fn row_lacking(
     let projection = offsets::of_transcript(p, 1);
     let at = offsets::of_transcript(p, 2);
     let sent = transcript[at + 64 * k];
-    let computed = norm_checks::constant_term(
+    let computed = constant_terms::constant_term(
         job,
         b0,
         l,

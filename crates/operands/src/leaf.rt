@@ -1,6 +1,6 @@
 // What a leaf call finds of its operands (document 01, "Leaves").
-use crate::scan;
 use definitions::answers::Operands;
+use operand_scan::scan;
 use rq::rq::Rq;
 ghost use mathlib.Core.Path.{_≡_};
 ghost use mathlib.Core.List.{[], _∷_, _++_};

@@ -1,3 +1,2 @@
 // What a leaf call finds of its operands.
 pub mod leaf;
-pub mod scan;

@@ -1,3 +1,2 @@
-mod Lengths
 pub mod Demand3Calls
 pub mod LoadCalls

@@ -1,31 +1,16 @@
 // The prover's whole call, then the verifier on the transcript that it makes: demand 3 over the two calls.
-use admission::answers::Admitted;
 use admission::calls::Call;
-use admission::job;
 use definitions::answers::Proved;
 use definitions::answers::Verdict;
 use prover::prove;
-use sizes::buffers;
 use verifier::verify;
 ghost use mathlib.Core.Path.{_≡_};
 ghost use Prim.Native.Nat.{_≤_};
 ghost use lib.ListN.{length, take};
-ghost use Rattle.definitions.specs.Answer.{result, ofVerdict};
-ghost use Rattle.protocol.specs.Parameters.{parameters};
-ghost use Rattle.protocol.specs.Layout.{span, transcript-sections, job-refusal};
+ghost use Rattle.definitions.specs.Answer.{ofVerdict};
 ghost use Rattle.protocol.specs.Prover.{whole, prove-output, prove-scratch};
 ghost use Rattle.protocol.specs.Verifier.{verify as verdict, verify-scratch};
 ghost use Rattle.prove_then_verify.specs.Both.{both};
-
-// The length of a transcript of this job; 0 where the job is refused.
-pub fn transcript_length(job: &[u32]) -> usize
-    ensures { λ r. ⌜ r ≡ result (job-refusal (now (job .entry))) (span (transcript-sections (parameters (now (job .entry))))) 0 ⌝ }
-{
-    match job::check(job) {
-        Admitted::Refused(_) => 0,
-        Admitted::Fit(p) => buffers::output_length(p, 0, 8),
-    }
-}
 
 // The verdict on the first words of a buffer.
 fn verify_first(
@@ -58,7 +43,7 @@ pub fn prove_then_verify(
     match prove::prove(Call::Whole, job, randomness, witness, scratch, output) {
         Proved::Refused(refusal) => Verdict::Refused(refusal),
         Proved::Made => {
-            let count = transcript_length(job);
+            let count = transcript_length::transcript_length(job);
             verify_first(job, randomness, output, count, scratch)
         }
     }

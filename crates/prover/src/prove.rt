@@ -34,7 +34,7 @@ fn work_and_clear(
 {
     let q = regions::lay_out(p.rank, p.multiplicity, p.kappa, p.const_agg_length);
     let need = buffers::scratch_length(p);
-    match prover_commit::fill(call, job, randomness, witness, p, q, scratch) {
+    match prover_fill::fill(call, job, randomness, witness, p, q, scratch) {
         Proved::Made => {
             prover_sections::put(call, job, randomness, witness, p, q, scratch, output);
             words::clear(scratch, need);

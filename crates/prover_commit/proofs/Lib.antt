@@ -2,5 +2,3 @@ pub mod Lengths
 pub mod Room
 pub mod Answers
 pub mod Commitments
-mod WithH
-mod Scratch

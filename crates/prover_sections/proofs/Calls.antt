@@ -19,7 +19,8 @@ use Rattle.relation.specs.Parameters.{parametersOf}
 use Rattle.prover_commit.specs.Words.{X, s, u₁-words, p-words, b″-words, u₂-words, z-words, t-words, g-words, h-words}
 use Rattle.prover_commit.specs.Refusals.{makes}
 use Rattle.prover_commit.specs.Work.{Filled}
-use Rattle.prover_sections.specs.Sections.{u₁-in, p-in, b″-in, u₂-in, last-in, all-in, Room}
+use Rattle.prover_p_and_b.specs.Sections.{p-in, b″-in, Room}
+use Rattle.prover_sections.specs.Sections.{u₁-in, u₂-in, last-in, all-in}
 use Rattle.prover_sections.proofs.SectionMade.{u₁-made, p-made, b″-made, u₂-made, z-made, t-made, g-made, h-made}
 
 -- the first place is 0

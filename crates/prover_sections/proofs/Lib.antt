@@ -1,4 +1,2 @@
-pub mod TranscriptSections
-mod SectionRoom
 mod SectionMade
 mod Calls

@@ -25,7 +25,8 @@ use Rattle.workspace.proofs.Holds.{elements-held, vectors-held, triangle-held}
 use Rattle.prover_commit.specs.Words.{statement, X, s, u₁-words, p-words, b″-words, u₂-words, z-words, t-words, g-words, h-words}
 use Rattle.prover_commit.specs.Work.{Committed}
 use Rattle.prover_commit.proofs.Lengths.{length-t, length-g, length-b″, length-h}
-use Rattle.prover_sections.specs.Sections.{u₁-in, p-in, b″-in, u₂-in, z-in, t-in, g-in, h-in}
+use Rattle.prover_p_and_b.specs.Sections.{p-in, b″-in}
+use Rattle.prover_sections.specs.Sections.{u₁-in, u₂-in, z-in, t-in, g-in, h-in}
 
 -- B times the digits of t and C times those of g, from the places of the matrices and so many cells of g
 abbrev u₁-at : Parameters → Regions → List ℕ → List ℕ → ℕ → ℕ → ℕ → List ℕ

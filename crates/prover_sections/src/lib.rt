@@ -2,7 +2,8 @@
 use admission::calls::Call;
 use commitments::outer_commitments;
 use commitments::outer_commitments::Digits;
-use jl::projection;
+use prover_p_and_b::compute_p;
+use prover_p_and_b::put_b_double_prime;
 use regions::Regions;
 use relation::env_params::EnvironmentParameters;
 use sizes::offsets;
@@ -20,7 +21,8 @@ ghost use Rattle.relation.specs.Parameters.{parametersOf};
 ghost use Rattle.workspace.specs.Ready.{Ready, Drawn};
 ghost use Rattle.prover_commit.specs.Refusals.{makes};
 ghost use Rattle.prover_commit.specs.Work.{Given, Placed, Filled};
-ghost use Rattle.prover_sections.specs.Sections.{u₁-in, p-in, b″-in, u₂-in, z-in, t-g-h-in, last-in, all-in, Room, Put, Vectors, Projects};
+ghost use Rattle.prover_p_and_b.specs.Sections.{Room, Put, Vectors, Projects};
+ghost use Rattle.prover_sections.specs.Sections.{u₁-in, u₂-in, z-in, t-g-h-in, last-in, all-in};
 
 // "u1 = B·digits(t) + C·digits(g)"
 fn compute_u1(
@@ -60,49 +62,6 @@ fn compute_u1(
         output,
         at + 1,
     );
-    at + 1 + count
-}
-
-// "p = Σ Π_i·s_i over coefficients"
-fn compute_p(
-    randomness: &[u32],
-    witness: &[u32],
-    p: EnvironmentParameters,
-    output: &mut [u32],
-    at: usize,
-) -> usize
-    requires { ⌜ Projects p (now randomness) (now witness) × Room at (p-in (parametersOf p) (now randomness) (now witness) ∷ []) (now output) ⌝ }
-    ensures { λ next. ⌜ Put at next (now (output .entry)) (now (output .exit)) (p-in (parametersOf p) (now (randomness .entry)) (now (witness .entry)) ∷ []) ⌝ }
-{
-    let pi_at = offsets::of_randomness(p, 0);
-    output[at] = 256;
-    projection::project_run(
-        randomness,
-        pi_at,
-        witness,
-        1,
-        p.rank,
-        0,
-        p.multiplicity,
-        output,
-        at + 1,
-    );
-    at + 257
-}
-
-// b'' from its region.
-fn put_b_double_prime(
-    p: EnvironmentParameters,
-    q: Regions,
-    scratch: &[u32],
-    output: &mut [u32],
-    at: usize,
-) -> usize
-    requires { ⌜ Placed p q (now scratch) × Room at (b″-in (parametersOf p) q (now scratch) ∷ []) (now output) ⌝ }
-    ensures { λ next. ⌜ Put at next (now (output .entry)) (now (output .exit)) (b″-in (parametersOf p) q (now (scratch .entry)) ∷ []) ⌝ }
-{
-    let count = 64 * p.const_agg_length;
-    words::put_section(output, at, scratch, q.b2, count);
     at + 1 + count
 }
 

@@ -1,8 +1,8 @@
 // What is answered of each witness vector: whether its norm meets A's bound, and its smallest and largest norm.
 use definitions::answers::U128;
+use norm_bounds::bound::at_most;
 use range_norms::Norms;
 use range_norms::norms_of;
-use rq_vector::bound::at_most;
 ghost use mathlib.Core.Path.{_≡_};
 ghost use Prim.Native.Nat.{_+_, _*_, _≤_};
 ghost use lib.ListN.{length};

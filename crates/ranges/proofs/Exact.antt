@@ -35,7 +35,7 @@ use Rattle.sizes.specs.Sizes.{Sized}
 use Rattle.admission.proofs.Ready.{job-sized}
 use Rattle.inner_product.specs.Run.{run}
 use Rattle.norms.proofs.Part.{norm-part}
-use Rattle.rq_vector.proofs.Squares.{norm-of-run}
+use Rattle.digit_norms.proofs.Squares.{norm-of-run}
 use Rattle.range_norms.specs.Ends.{Centred}
 use Rattle.ranges.specs.Answers.{lists-refusal}
 use Rattle.ranges.proofs.Ready.{Ready, ready}

@@ -1,6 +1,6 @@
 // What the two calls find of their operands.
 use definitions::answers::Operands;
-use operands::scan;
+use operand_scan::scan;
 ghost use mathlib.Core.Path.{_≡_};
 ghost use Rattle.definitions.specs.Answer.{ofOperands};
 ghost use Rattle.definitions.specs.Recompose.{baseFound, digitsFound, recomposeOperands};

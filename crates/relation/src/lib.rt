@@ -1,3 +1,2 @@
-// The relation that is proved: its parameters, read from the job's section one, and the sections that they fix (relation/ of the Rust).
+// The parameters of the relation that is proved (relation/env_params.rs).
 pub mod env_params;
-pub mod section_one;

@@ -1,6 +1,3 @@
-// Vectors of elements in lent slices (ring/rq_vector.rs): zero, digits, squared norms and those of two parts.
-pub mod bound;
+// Vectors of elements in lent slices (ring/rq_vector.rs): zero, and the digits of an element.
 pub mod digits;
-pub mod norm;
-pub mod parts;
 pub mod vector;

@@ -1,10 +1,10 @@
 // The slices of the calls on runs, one section each (document 02, Item 10): 7 and 8, 11 and 12, 9 and 10; then the lent buffers, 1 and 2.
 use admission::answers::Checked;
-use admission::scratch;
 use definitions::answers::Refusal;
 use layout::sections::Sections;
 use layout::slices;
 use layout::slices::Examined;
+use lent_buffers::scratch;
 use relation::env_params::EnvironmentParameters;
 ghost use mathlib.Core.Path.{_≡_};
 ghost use mathlib.Core.List.{[], _∷_};

@@ -2,9 +2,9 @@
 use call_answers::numbers::number_of;
 use call_answers::verdicts;
 use call_answers::verdicts::LabradorAnswer;
-use commitments::ajtai_commitment;
-use commitments::common_instances;
+use commitment_bounds::common_instances;
 use definitions::answers::Proved;
+use inner_commitments::ajtai_commitment;
 use relation::env_params::EnvironmentParameters;
 use run_admission::RunAdmitted;
 use run_admission::admit_rows;

@@ -1,15 +1,14 @@
 // The outer commitments to what the prover sends: 14, 15 and 28; 16 and 29.
-use commitments::common_instances;
-use commitments::outer_commitments;
+use commitment_bounds::common_instances;
 use commitments::outer_commitments::Digits;
 use definitions::answers::Checked;
-use definitions::answers::FailedCheck;
 use definitions::answers::Refusal;
 use regions::Regions;
 use relation::env_params::EnvironmentParameters;
 use sizes::offsets;
 use sizes::slices;
-use verifier_common::equal;
+use verifier_outer::outer_commitments::check_u1;
+use verifier_outer::outer_commitments::check_u2;
 ghost use mathlib.Core.Path.{_≡_};
 ghost use Rattle.definitions.specs.Answer.{ofChecked};
 ghost use Rattle.protocol.specs.Parameters.{parameters};
@@ -18,80 +17,8 @@ ghost use Rattle.workspace.specs.Ready.{Ready};
 ghost use Rattle.workspace.specs.Holds.{Kept};
 ghost use Rattle.relation.specs.Parameters.{parametersOf};
 ghost use Rattle.verifier_common.specs.Work.{Received, Posed};
-ghost use Rattle.verifier_common.specs.Answers.{t-and-g-bounds, h-bound, u1-differs, u2-differs};
+ghost use Rattle.verifier_common.specs.Answers.{t-and-g-bounds, h-bound};
 ghost use Rattle.verifier_commitments.specs.Order.{first-commitment, second-commitment, commitments};
-
-// "28 u1 differs"
-pub fn check_u1(
-    job: &[u32],
-    transcript: &[u32],
-    p: EnvironmentParameters,
-    q: Regions,
-    scratch: &mut [u32],
-) -> Checked
-    requires { ⌜ Posed (now job) (now transcript) p × Ready (now job) p q (now scratch) ⌝ }
-    ensures { λ v. ⌜ ofChecked v ≡ u1-differs (now (job .entry)) (now (transcript .entry)) ⌝ }
-    ensures { λ v. ⌜ Kept (scratch-need (parameters (now (job .entry)))) (now (scratch .entry)) (now (scratch .exit)) ⌝ }
-{
-    let t = Digits {
-        at: offsets::of_transcript(p, 5),
-        cells: p.multiplicity * p.kappa,
-        parts: p.t_1,
-    };
-    let g = Digits {
-        at: offsets::of_transcript(p, 6),
-        cells: slices::triangle(p.multiplicity),
-        parts: p.t_2,
-    };
-    let b_at = offsets::of_job(p, 7);
-    let c_at = offsets::of_job(p, 8);
-    let rows = p.kappa_1;
-    outer_commitments::compute_u1(job, b_at, c_at, rows, transcript, t, g, p.b, scratch, q.u);
-    if equal::same_words(
-        transcript,
-        offsets::of_transcript(p, 0),
-        scratch,
-        q.u,
-        64 * rows,
-    ) {
-        Checked::Passed
-    } else {
-        Checked::Failed(FailedCheck::OuterCommitU1)
-    }
-}
-
-// "29 u2 differs"
-pub fn check_u2(
-    job: &[u32],
-    transcript: &[u32],
-    p: EnvironmentParameters,
-    q: Regions,
-    scratch: &mut [u32],
-) -> Checked
-    requires { ⌜ Posed (now job) (now transcript) p × Ready (now job) p q (now scratch) ⌝ }
-    ensures { λ v. ⌜ ofChecked v ≡ u2-differs (now (job .entry)) (now (transcript .entry)) ⌝ }
-    ensures { λ v. ⌜ Kept (scratch-need (parameters (now (job .entry)))) (now (scratch .entry)) (now (scratch .exit)) ⌝ }
-{
-    let h = Digits {
-        at: offsets::of_transcript(p, 7),
-        cells: slices::triangle(p.multiplicity),
-        parts: p.t_1,
-    };
-    let d_at = offsets::of_job(p, 9);
-    let rows = p.kappa_2;
-    outer_commitments::compute_u2(job, d_at, rows, transcript, h, p.b, scratch, q.u);
-    if equal::same_words(
-        transcript,
-        offsets::of_transcript(p, 3),
-        scratch,
-        q.u,
-        64 * rows,
-    ) {
-        Checked::Passed
-    } else {
-        Checked::Failed(FailedCheck::OuterCommitU2)
-    }
-}
 
 // "14 digits of t above B's bound, 15 of g above C's"
 pub fn check_t_and_g(transcript: &[u32], p: EnvironmentParameters) -> Checked

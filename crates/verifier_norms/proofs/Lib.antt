@@ -1,2 +1,1 @@
 pub mod Norms
-pub mod Terms

@@ -1,25 +1,22 @@
-// The norms and the constant terms of what the prover sends: checks 21, 22 and 23.
+// The norms of what the prover sends: checks 21 and 23, and 21 to 23 in order.
 use crate::numbers;
 use definitions::answers::Checked;
 use definitions::answers::FailedCheck;
 use definitions::answers::Verdict;
+use digit_norms::norm;
+use digit_norms::parts;
+use norm_bounds::bound;
 use relation::env_params::EnvironmentParameters;
-use rq_product::product;
-use rq_vector::bound;
-use rq_vector::norm;
-use rq_vector::parts;
 use sizes::offsets;
 use sizes::slices;
 use verifier_common::verdict;
+use verifier_constant_terms::constant_terms::check_constant_terms;
 ghost use mathlib.Core.Path.{_≡_};
 ghost use Rattle.definitions.specs.Answer.{ofChecked, ofVerdict};
-ghost use Prim.Native.Nat.{_+_, _≤_};
-ghost use lib.ListN.{length};
 ghost use Rattle.relation.specs.Parameters.{parametersOf};
 ghost use Rattle.verifier_common.specs.Work.{Received, Sent};
-ghost use Rattle.verifier_common.specs.Answers.{projection-norm, constant-terms};
+ghost use Rattle.verifier_common.specs.Answers.{projection-norm};
 ghost use Rattle.verifier_norms.specs.Order.{counted-sum, counted-norms};
-ghost use Rattle.verifier_norms.specs.Terms.{constant-term};
 
 // "21 norm of p above 128·beta_sq (norm and limit given)." A beta_sq below the norm is so small that the limit fits.
 pub fn check_projection_norm(transcript: &[u32], p: EnvironmentParameters) -> Checked
@@ -36,67 +33,6 @@ pub fn check_projection_norm(transcript: &[u32], p: EnvironmentParameters) -> Ch
     } else {
         Checked::Failed(FailedCheck::ProjectionNorm { norm, limit })
     }
-}
-
-// Σ psi[l]·b0[l] + Σ omega[j]·p[j], of a row of psi and one of omega.
-pub fn constant_term(
-    job: &[u32],
-    b0: usize,
-    l: usize,
-    randomness: &[u32],
-    psi: usize,
-    omega: usize,
-    transcript: &[u32],
-    projection: usize,
-) -> u32
-    requires { ⌜ (b0 + l ≤ length (now job)) × (psi + l ≤ length (now randomness)) × (omega + 256 ≤ length (now randomness)) ⌝ }
-    requires { ⌜ (projection + 256 ≤ length (now transcript)) × (l ≤ 64) ⌝ }
-    ensures { λ r. ⌜ r ≡ constant-term (now (job .entry)) b0 l (now (randomness .entry)) psi omega (now (transcript .entry)) projection ⌝ }
-{
-    let first = numbers::add_products(0, randomness, psi, job, b0, l);
-    let total = numbers::add_products(first, randomness, omega, transcript, projection, 256);
-    (total % product::MODULUS) as u32
-}
-
-// "22 for some k below" L, "the constant coefficient of b''_k is not Σ psi[k][l]·b0[l] + Σ omega[k][j]·p[j] (lowest k, both values)."
-pub fn check_constant_terms(
-    job: &[u32],
-    randomness: &[u32],
-    transcript: &[u32],
-    p: EnvironmentParameters,
-) -> Checked
-    requires { ⌜ Sent (now job) (now randomness) (now transcript) p ⌝ }
-    ensures { λ v. ⌜ ofChecked v ≡ constant-terms (now (job .entry)) (now (randomness .entry)) (now (transcript .entry)) ⌝ }
-{
-    let b0 = offsets::of_job(p, 2);
-    let l = p.constraint_l;
-    let psi = offsets::of_randomness(p, 1);
-    let omega = offsets::of_randomness(p, 2);
-    let projection = offsets::of_transcript(p, 1);
-    let at = offsets::of_transcript(p, 2);
-    let mut k = 0;
-    while k < p.const_agg_length {
-        let sent = transcript[at + 64 * k];
-        let computed = constant_term(
-            job,
-            b0,
-            l,
-            randomness,
-            psi + k * l,
-            omega + k * 256,
-            transcript,
-            projection,
-        );
-        if sent != computed {
-            return Checked::Failed(FailedCheck::B0Mismatch {
-                index: k,
-                sent,
-                computed,
-            });
-        }
-        k += 1;
-    }
-    Checked::Passed
 }
 
 // "23 digit norms of z with two" parts, "t and h with t1, g with t2 sum above beta_prime_sq (sum and limit)." The second part of z is the whole rest (document 02, Item 9).

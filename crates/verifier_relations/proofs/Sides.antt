@@ -1,4 +1,4 @@
--- The two sides of the checks 24 to 27, of the parameters and places that the code holds.
+-- The two sides of the checks 24 to 26, of the parameters and places that the code holds.
 use mathlib.Core.Path.{_≡_, refl, sym, ap, ap₂, fun-ext, subst, _∙_}
 use mathlib.Core.Bool.{Bool, cond}
 use mathlib.Core.List.{List, []}
@@ -11,38 +11,32 @@ use Rattle.definitions.specs.Rq.{Element, radd}
 use Rattle.definitions.specs.Ring.{words}
 use Rattle.inner_product.specs.Run.{Run, run}
 use Rattle.protocol.specs.Checks.{require, first}
-use Rattle.protocol.specs.Parameters.{Parameters, parameters, T, triangular}
-use Rattle.protocol.specs.Layout.{start, job-sections, randomness-sections}
+use Rattle.protocol.specs.Parameters.{parameters, triangular}
+use Rattle.protocol.specs.Layout.{start, job-sections}
 use Rattle.protocol.specs.Region.{Elements}
-use Rattle.protocol.specs.Views.{Public, Message, public, message}
-use Rattle.protocol.specs.Formulas.{_⊕_, _⊗_, sum, dot, pairs, a-sum, φ-sum, b-sum}
-use Rattle.protocol.specs.Verifier.{same, twice, check-24, check-25, check-26, check-27}
+use Rattle.protocol.specs.Views.{public, message}
+use Rattle.protocol.specs.Formulas.{_⊗_, sum, dot, pairs, φ-sum}
+use Rattle.protocol.specs.Verifier.{same, twice, check-24, check-25, check-26}
 use Rattle.rq_matrix.specs.Region.{vector, triangle-at}
 use Rattle.rq_matrix.proofs.Place.{rows-within}
-use Rattle.rq_matrix.proofs.Word.{stands-for, words-of-sum, words-of-vector}
-use Rattle.rq_matrix.proofs.Formula.{sum-of-t, sum-of-g, sum-of-h, sum-of-φ, sum-of-a}
-use Rattle.aggregate.specs.Weighed.{mixed}
+use Rattle.rq_matrix.proofs.Word.{words-of-vector}
+use Rattle.rq_matrix.proofs.Formula.{sum-of-t, sum-of-g, sum-of-h, sum-of-φ}
 use Rattle.aggregate.proofs.Grid.{row-run}
-use Rattle.aggregate.proofs.Laws.{b-sum-is}
 use Rattle.regions.specs.declared.Regions.{Regions}
 use Rattle.relation.specs.declared.env_params.EnvironmentParameters.{EnvironmentParameters}
 use Rattle.relation.specs.Parameters.{parametersOf}
 use Rattle.workspace.specs.Ready.{Ready}
 use Rattle.workspace.specs.Holds.{Holds}
-use Rattle.workspace.specs.Aggregated.{φ-words, a-words, c-words}
-use Rattle.workspace.proofs.Holds.{elements-held, vectors-held, triangle-held}
-use Rattle.workspace.proofs.Aggregated.{a-symmetric}
-use Rattle.workspace.proofs.Ready.{φ-end, a-end, g-end, c-end, t-end, u-end, b″-end, b-within, A-within, alpha-within, beta-within}
+use Rattle.workspace.specs.Aggregated.{φ-words, c-words}
+use Rattle.workspace.proofs.Holds.{elements-held, vectors-held}
+use Rattle.workspace.proofs.Ready.{φ-end, a-end, g-end, c-end, t-end, u-end, b″-end, A-within}
 use Rattle.verifier_common.specs.Answers.{az, z-inner, phi}
-use Rattle.verifier_common.specs.Work.{Received, Posed, Sent, equal}
+use Rattle.verifier_common.specs.Work.{Received, Posed, equal}
 use Rattle.verifier_relations.specs.Weighed.{challenges-in, lines-in, ChallengesWithin, LinesWithin, az-of, z-inner-of, phi-of}
 use Rattle.verifier_common.proofs.Runs.{require-equal}
+use Rattle.aggregated_relation.proofs.Sides.{words-of-twice}
 use Rattle.verifier_common.proofs.Verdicts.{first-failed}
-use Rattle.verifier_common.proofs.Sent.{transcript-at, reckoned, received, placed, b″-within, z-within, z-run, t-within}
-
--- the words of an element twice
-words-of-twice : (l a : List ℕ) (e : Element) → l ≡ radd a a → a ≡ words e → l ≡ words (twice e)
-words-of-twice l a e h p = words-of-sum l a a e e h (stands-for a e p) (stands-for a e p)
+use Rattle.verifier_common.proofs.Sent.{transcript-at, reckoned, received, placed, z-within, z-run, t-within}
 
 -- check 24 for row k, of challenges c
 abbrev pub az-test : (J X : List ℕ) → (ℕ → Element) → ℕ → Answer
@@ -50,85 +44,6 @@ az-test J X c k =
     let P = parameters J in
     let M = message P X in
     require (same (dot (P .n) (public J [] .A k) (M .z)) (sum (P .r) (λ i. M .t i k ⊗ c i))) (failed 24 [])
-
--- 27, of a job, a randomness and a transcript
-module _ (J R X : List ℕ) (p : EnvironmentParameters) (q : Regions) (S : List ℕ) (s : Sent J R X p) (ready : Ready J p q S) where
-  abbrev P : Parameters
-  P = parameters J
-
-  abbrev Y : Public
-  Y = public J R
-
-  abbrev M : Message
-  M = message P X
-
-  abbrev p′ : Parameters
-  p′ = parametersOf p
-
-  -- a lies within the scratch
-  a-within : q .a + 64 * triangular (p .multiplicity) ≤ length S
-  a-within =
-      placed J X p (s .posed) S (λ Q. q .a) T (q .a) refl
-      (omega (arith, a-end J p q S ready, g-end J p q S ready, c-end J p q S ready, t-end J p q S ready, u-end J p q S ready, b″-end J p q S ready))
-
-  -- few vectors
-  few-vectors : p .multiplicity ≤ 64
-  few-vectors = omega (arith, reckoned (s .posed) .within .r .1)
-
-  -- what the sum over a and g requires
-  pub products-requires : (at : ℕ) → at + 64 * triangular (p .multiplicity) ≤ length X
-      → (q .a + 64 * triangular (p .multiplicity) ≤ length S) × (at + 64 * triangular (p .multiplicity) ≤ length X) × (p .multiplicity ≤ 64)
-  products-requires at h = (a-within, h, few-vectors)
-
-  -- what the sum over h's diagonal requires
-  pub diagonal-requires : (at : ℕ) → at + 64 * triangular (p .multiplicity) ≤ length X → (at + 64 * triangular (p .multiplicity) ≤ length X) × (p .multiplicity ≤ 64)
-  diagonal-requires at h = (h, few-vectors)
-
-  -- what the aggregated b requires
-  pub mix-requires : (at alpha beta from : ℕ) → length J < 2 ^ 61 → length R < 2 ^ 61 → length X < 2 ^ 61
-      → at ≡ 31 + start (job-sections p′) 5 → alpha ≡ start (randomness-sections p′) 3 → beta ≡ start (randomness-sections p′) 4 → from ≡ transcript-at p′ 2
-      → Run J at 64 (p .«constraint_k») × Run R alpha 64 (p .«constraint_k») × Run R beta 64 (p .«const_agg_length») × Run X from 64 (p .«const_agg_length»)
-  mix-requires at alpha beta from j r x e f g h =
-      let z = reckoned (s .posed) in
-      let K : p .«constraint_k» ≤ 2 ^ 20 = omega (arith, z .within .K .1) in
-      let L : p .«const_agg_length» ≤ 2 ^ 20 = omega (arith, z .within .L .1) in (
-        row-run J at (p .«constraint_k») (placed J X p (s .posed) J (λ Q. 31 + start (job-sections Q) 5) (λ Q. Q .K) at e (b-within J p q S ready)) K j,
-        row-run R alpha (p .«constraint_k») (placed J X p (s .posed) R (λ Q. start (randomness-sections Q) 3) (λ Q. Q .K) alpha f (alpha-within 7 J R (s .drawn) (omega arith))) K r,
-        row-run R beta (p .«const_agg_length») (placed J X p (s .posed) R (λ Q. start (randomness-sections Q) 4) (λ Q. Q .L) beta g (beta-within 7 J R (s .drawn) (omega arith))) L r,
-        row-run X from (p .«const_agg_length») (b″-within J X p (s .posed) from h) L x,
-      )
-
-  -- check 27 by the boolean's value, of the words that are compared
-  pub relation-answer : (g-at h-at at alpha beta from : ℕ) (products doubled diagonal left b right : List ℕ) (t : Bool) → Holds S (q .a) (a-words J R)
-      → g-at ≡ transcript-at p′ 6 → h-at ≡ transcript-at p′ 7
-      → at ≡ 31 + start (job-sections p′) 5 → alpha ≡ start (randomness-sections p′) 3 → beta ≡ start (randomness-sections p′) 4 → from ≡ transcript-at p′ 2
-      → products ≡ words (pairs (p .multiplicity) (λ i j. triangle-at S (q .a) i j ⊗ triangle-at X g-at i j))
-      → diagonal ≡ words (sum (p .multiplicity) (λ i. triangle-at X h-at i i))
-      → b ≡ words (mixed J at 64 (p .«constraint_k») R alpha beta X from 64 (p .«const_agg_length»))
-      → doubled ≡ radd products products → left ≡ radd doubled diagonal → right ≡ radd b b
-      → t ≡ equal left right → cond t fine (failed 27 []) ≡ check-27 Y M
-  unfolding check-27
-  relation-answer g-at h-at at alpha beta from products doubled diagonal left b right t holds eg eh ea eα eβ ef hp hd hb h2 hl hr ht =
-      let x = pairs (P .r) (λ i j. a-sum Y i j ⊗ M .g i j) in
-      let y = sum (P .r) (λ i. M .h i i) in
-      let z = b-sum Y (M .b″) in
-      let px : products ≡ words x =
-      hp
-      ∙ ap (λ a. words (pairs (p .multiplicity) (λ i j. triangle-at S (q .a) i j ⊗ triangle-at X a i j))) eg
-      ∙ ap (λ Q. words (pairs (Q .r) (λ i j. triangle-at S (q .a) i j ⊗ triangle-at X (transcript-at Q 6) i j))) (s .posed .same)
-      ∙ ap words (sum-of-a J R X S (q .a) (triangle-held S (q .a) (P .r) (a-sum Y) (a-symmetric J R) holds)) in
-      let py : diagonal ≡ words y =
-      hd
-      ∙ ap (λ a. words (sum (p .multiplicity) (λ i. triangle-at X a i i))) eh
-      ∙ ap (λ Q. words (sum (Q .r) (λ i. triangle-at X (transcript-at Q 7) i i))) (s .posed .same) in
-      let pz : b ≡ words z =
-      hb
-      ∙ ap₂ (λ a c. words (mixed J a 64 (p .«constraint_k») R c beta X from 64 (p .«const_agg_length»))) ea eα
-      ∙ ap₂ (λ a c. words (mixed J (31 + start (job-sections p′) 5) 64 (p .«constraint_k») R (start (randomness-sections p′) 3) a X c 64 (p .«const_agg_length»))) eβ ef
-      ∙ ap (λ Q. words (mixed J (31 + start (job-sections Q) 5) 64 (Q .K) R (start (randomness-sections Q) 3) (start (randomness-sections Q) 4) X (transcript-at Q 2) 64 (Q .L))) (s .posed .same)
-      ∙ ap words (b-sum-is J R X (transcript-at P 2)) in
-      let l : left ≡ words (twice x ⊕ y) = words-of-sum left doubled diagonal (twice x) y hl (stands-for doubled (twice x) (words-of-twice doubled products x h2 px)) (stands-for diagonal y py) in
-      sym (require-equal (words (twice x ⊕ y)) (words (twice z)) (failed 27 []) t (ht ∙ ap₂ equal l (words-of-twice right b z hr pz)))
 
 -- 24, of a job and a transcript
 module _ (J X : List ℕ) (p : EnvironmentParameters) (q : Regions) (S : List ℕ) (s : Posed J X p) (ready : Ready J p q S) where

@@ -1,14 +1,10 @@
--- What the checks 24 to 27 find in their regions of the scratch.
+-- What the checks 24 to 26 find in a region of the scratch.
 use mathlib.Core.List.{List}
 use Prim.Native.Nat.{ℕ}
 use Rattle.regions.specs.declared.Regions.{Regions}
 use Rattle.workspace.specs.Holds.{Holds}
-use Rattle.workspace.specs.Aggregated.{a-words, c-words}
+use Rattle.workspace.specs.Aggregated.{c-words}
 
 -- the challenges c_i
 abbrev pub Challenged : (J R : List ℕ) → Regions → List ℕ → Type 0
 Challenged J R q S = Holds S (q .challenges) (c-words J R)
-
--- the triangle a_ij
-abbrev pub Multiplied : (J R : List ℕ) → Regions → List ℕ → Type 0
-Multiplied J R q S = Holds S (q .a) (a-words J R)

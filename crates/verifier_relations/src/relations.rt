@@ -1,5 +1,5 @@
-// The relations between what the prover sends and the statement: checks 24 to 27.
-use aggregate;
+// The relations between what the prover sends and the statement: checks 24 to 26, and 24 to 27 in order.
+use aggregated_relation::check_relation;
 use definitions::answers::Checked;
 use definitions::answers::FailedCheck;
 use inner_product;
@@ -17,9 +17,8 @@ ghost use Rattle.workspace.specs.Ready.{Ready};
 ghost use Rattle.workspace.specs.Holds.{Kept};
 ghost use Rattle.relation.specs.Parameters.{parametersOf};
 ghost use Rattle.verifier_common.specs.Work.{Received, Posed, Sent};
-ghost use Rattle.verifier_common.specs.Answers.{relation};
 ghost use Rattle.verifier_relations.specs.Order.{openings, aggregated, relations};
-ghost use Rattle.verifier_relations.specs.Held.{Challenged, Multiplied};
+ghost use Rattle.verifier_relations.specs.Held.{Challenged};
 ghost use Rattle.verifier_relations.specs.Weighed.{challenges-in, lines-in, ChallengesWithin, LinesWithin, az-of, z-inner-of, phi-of};
 
 // "24 A·z is not Σ t_i·c_i."
@@ -108,45 +107,6 @@ pub fn check_phi(
         Checked::Passed
     } else {
         Checked::Failed(FailedCheck::Phi)
-    }
-}
-
-// "27 twice Σ a_ij·g_ij plus Σ h_ii is not twice the aggregated b."
-pub fn check_relation(
-    job: &[u32],
-    randomness: &[u32],
-    transcript: &[u32],
-    p: EnvironmentParameters,
-    q: Regions,
-    scratch: &[u32],
-) -> Checked
-    requires { ⌜ Sent (now job) (now randomness) (now transcript) p × Ready (now job) p q (now scratch) × Multiplied (now job) (now randomness) q (now scratch) ⌝ }
-    ensures { λ v. ⌜ ofChecked v ≡ relation (now (job .entry)) (now (randomness .entry)) (now (transcript .entry)) ⌝ }
-{
-    let g_at = offsets::of_transcript(p, 6);
-    let h_at = offsets::of_transcript(p, 7);
-    let r = p.multiplicity;
-    let products = rq_matrix::sum_of_products(scratch, q.a, transcript, g_at, r);
-    let diagonal = rq_matrix::diagonal_sum(transcript, h_at, r);
-    let b = aggregate::mix(
-        job,
-        offsets::of_job(p, 5),
-        64,
-        p.constraint_k,
-        randomness,
-        offsets::of_randomness(p, 3),
-        offsets::of_randomness(p, 4),
-        transcript,
-        offsets::of_transcript(p, 2),
-        64,
-        p.const_agg_length,
-    );
-    let twice = products.add(products);
-    let left = twice.add(diagonal);
-    if equal::same(left, b.add(b)) {
-        Checked::Passed
-    } else {
-        Checked::Failed(FailedCheck::Relation)
     }
 }
 

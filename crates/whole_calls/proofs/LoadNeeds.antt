@@ -6,10 +6,10 @@ use Rattle.definitions.specs.Answer.{ofRefusal, number, place, result}
 use Rattle.protocol.specs.Parameters.{Parameters}
 use Rattle.protocol.specs.Load.{Given, load-parameters, needs-refusal, job-need, witness-need, randomness-need}
 use Rattle.relation.specs.declared.env_params.EnvironmentParameters.{EnvironmentParameters}
-use Rattle.relation.specs.declared.section_one.SectionOne.{SectionOne}
-use Rattle.relation.specs.declared.section_one.SectionOne.the-variants as S
+use Rattle.section_one.specs.declared.SectionOne.{SectionOne}
+use Rattle.section_one.specs.declared.SectionOne.the-variants as S
 use Rattle.relation.specs.Parameters.{parametersOf}
-use Rattle.relation.specs.SectionOne.{ofSectionOne, Reads}
+use Rattle.section_one.specs.SectionOne.{ofSectionOne, Reads}
 use Rattle.admission.proofs.Fit.{refusal-none}
 use Rattle.load_needs.specs.declared.Needs.{Needs}
 use Rattle.load_needs.specs.Given.{one-of, Lengths}

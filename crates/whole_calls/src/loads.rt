@@ -2,7 +2,7 @@
 use call_answers::verdicts;
 use call_answers::verdicts::LabradorAnswer;
 use load_needs::LabradorParameters;
-use relation::section_one::SectionOne;
+use section_one::SectionOne;
 ghost use mathlib.Core.Path.{_≡_};
 ghost use lib.ListN.{length};
 ghost use Rattle.protocol.specs.Load.{load-refusal};

@@ -3,7 +3,7 @@ use mathlib.Core.Path.{_≡_, sym, ap, _∙_}
 use borrow.Author.Needs.{needs}
 use Rattle.definitions.specs.Answer.{_then_}
 use Rattle.protocol.specs.Load.{load-parameters}
-use Rattle.relation.specs.SectionOne.{ofSectionOne}
+use Rattle.section_one.specs.SectionOne.{ofSectionOne}
 use Rattle.layout.proofs.Then.{goes-on}
 use Rattle.admission.proofs.Stages.{stops-at}
 use Rattle.load_needs.specs.Given.{given, fits-refusal}

@@ -5,7 +5,7 @@ use native.Mathlib.Omega.{arith}
 use borrow.Author.Needs.{needs}
 use lib.ListN.{length}
 use Rattle.verifier_common.proofs.Sent.{reckoned}
-use Rattle.verifier_norms.proofs.Terms.{Terms}
+use Rattle.verifier_constant_terms.proofs.Terms.{Terms}
 use Rattle.mistyped_entries.proofs.Row.{row-terms, lacking-is}
 use Rattle.mistyped_entries.proofs.row_lacking.Statement.{statement}
 use Rattle.mistyped_entries.proofs.row_lacking.Tie as tie

@@ -12,10 +12,10 @@ use Rattle.relation.specs.Parameters.{parametersOf}
 use Rattle.prover_sections.specs.Sections.{u₂-in}
 use Rattle.workspace.proofs.Ready.{ready-sized}
 use Rattle.prover_sections.proofs.SectionMade.{u₂-stored}
-use Rattle.prover_sections.proofs.TranscriptSections.{next-place, section-stored}
+use Rattle.prover_p_and_b.proofs.TranscriptSections.{next-place, section-stored}
 use Rattle.prover_commit.proofs.Lengths.{length-elements}
 use Rattle.prover_commit.proofs.Room.{placed, base-room, D-room, h-cells}
-use Rattle.prover_sections.proofs.SectionRoom.{fits-words, fits-count, section-room, count-room, words-room, fits-next, fits-end}
+use Rattle.prover_p_and_b.proofs.SectionRoom.{fits-words, fits-count, section-room, count-room, words-room, fits-next, fits-end}
 use Rattle.prover_sections.proofs.compute_u2.Statement.{statement}
 use Rattle.prover_sections.proofs.compute_u2.Tie as tie
 

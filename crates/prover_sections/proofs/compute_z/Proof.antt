@@ -11,8 +11,8 @@ use Rattle.protocol.specs.Layout.{sections}
 use Rattle.relation.specs.Parameters.{parametersOf}
 use Rattle.prover_sections.specs.Sections.{z-in}
 use Rattle.prover_commit.proofs.Lengths.{length-elements}
-use Rattle.prover_sections.proofs.TranscriptSections.{next-place, section-stored}
-use Rattle.prover_sections.proofs.SectionRoom.{fits-words, fits-count, section-room, count-room, words-room, fits-next, fits-end}
+use Rattle.prover_p_and_b.proofs.TranscriptSections.{next-place, section-stored}
+use Rattle.prover_p_and_b.proofs.SectionRoom.{fits-words, fits-count, section-room, count-room, words-room, fits-next, fits-end}
 use Rattle.prover_sections.proofs.compute_z.Statement.{statement}
 use Rattle.prover_sections.proofs.compute_z.Tie as tie
 

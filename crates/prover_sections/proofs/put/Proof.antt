@@ -4,7 +4,7 @@ use borrow.Author.Needs.{needs}
 use Rattle.admission.specs.declared.calls.Call.the-variants as C
 use Rattle.prover_commit.proofs.Answers.{drawn-known}
 use Rattle.prover_commit.proofs.Room.{placed, s-room}
-use Rattle.prover_sections.proofs.SectionRoom.{projects}
+use Rattle.prover_p_and_b.proofs.SectionRoom.{projects}
 use Rattle.prover_sections.proofs.Calls.{sections₁, sections₂, sections₃, sections₄, sections₅, sections-all, filled-known, room-known, put-known}
 use Rattle.prover_sections.proofs.put.Statement.{statement}
 use Rattle.prover_sections.proofs.put.Tie as tie

@@ -3,8 +3,9 @@ use mathlib.Core.List.{[], _∷_}
 use borrow.Author.Needs.{needs}
 use Rattle.relation.specs.Parameters.{parametersOf}
 use Rattle.prover_commit.proofs.Room.{placed}
-use Rattle.prover_sections.specs.Sections.{u₁-in, p-in, b″-in, u₂-in, last-in}
-use Rattle.prover_sections.proofs.TranscriptSections.{room-first, put-after, put-room}
+use Rattle.prover_p_and_b.specs.Sections.{p-in, b″-in}
+use Rattle.prover_sections.specs.Sections.{u₁-in, u₂-in, last-in}
+use Rattle.prover_p_and_b.proofs.TranscriptSections.{room-first, put-after, put-room}
 use Rattle.prover_sections.proofs.put_all.Statement.{statement}
 use Rattle.prover_sections.proofs.put_all.Tie as tie
 

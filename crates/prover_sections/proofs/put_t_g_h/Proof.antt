@@ -10,9 +10,9 @@ use Rattle.protocol.specs.Layout.{sections}
 use Rattle.protocol.specs.Parameters.{T}
 use Rattle.relation.specs.Parameters.{parametersOf}
 use Rattle.prover_sections.specs.Sections.{t-in, g-in, h-in}
-use Rattle.prover_sections.proofs.TranscriptSections.{next-place, section-copied, section-after, length-one, length-sections-append}
+use Rattle.prover_p_and_b.proofs.TranscriptSections.{next-place, section-copied, section-after, length-one, length-sections-append}
 use Rattle.prover_commit.proofs.Room.{small-product, fits-product}
-use Rattle.prover_sections.proofs.SectionRoom.{few-words, fits-words, fits-next, fits-end, sections-room, sections-end, room-1, room-2}
+use Rattle.prover_p_and_b.proofs.SectionRoom.{few-words, fits-words, fits-next, fits-end, sections-room, sections-end, room-1, room-2}
 use Rattle.prover_sections.proofs.put_t_g_h.Statement.{statement}
 use Rattle.prover_sections.proofs.put_t_g_h.Tie as tie
 

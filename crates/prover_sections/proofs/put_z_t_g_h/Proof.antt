@@ -3,7 +3,7 @@ use mathlib.Core.List.{[], _∷_}
 use borrow.Author.Needs.{needs}
 use Rattle.relation.specs.Parameters.{parametersOf}
 use Rattle.prover_sections.specs.Sections.{z-in, t-g-h-in}
-use Rattle.prover_sections.proofs.TranscriptSections.{room-first, put-after, put-room}
+use Rattle.prover_p_and_b.proofs.TranscriptSections.{room-first, put-after, put-room}
 use Rattle.prover_sections.proofs.put_z_t_g_h.Statement.{statement}
 use Rattle.prover_sections.proofs.put_z_t_g_h.Tie as tie
 

@@ -4,8 +4,8 @@ use Rattle.definitions.specs.Answer.{fine, _then_}
 use Rattle.protocol.specs.Parameters.{parameters}
 use Rattle.protocol.specs.Layout.{layout, ranged, job-sections, job-refusal}
 use Rattle.relation.specs.Parameters.{parametersOf}
-use Rattle.relation.specs.SectionOne.{section-one, ofSectionOne, Reads}
-use Rattle.relation.proofs.Limits.{sound}
+use Rattle.section_one.specs.SectionOne.{section-one, ofSectionOne, Reads}
+use Rattle.section_one.proofs.Limits.{sound}
 use Rattle.admission.specs.declared.answers.Checked.{Checked}
 use Rattle.admission.specs.Admission.{ofChecked}
 use Rattle.admission.proofs.Stages.{stops-at}

@@ -2,7 +2,7 @@
 use mathlib.Core.Path.{_≡_}
 use borrow.Author.Needs.{needs}
 use lib.ListN.{length}
-use Rattle.operands.proofs.Scans.{after-element}
+use Rattle.operand_scan.proofs.Scans.{after-element}
 use Rattle.operands.proofs.leaf.element_and_number.Statement.{statement}
 use Rattle.operands.proofs.leaf.element_and_number.Tie as tie
 

@@ -3,7 +3,7 @@ use mathlib.Core.Path.{_≡_}
 use native.Mathlib.Omega.{arith}
 use borrow.Author.Needs.{needs}
 use lib.ListN.{length}
-use Rattle.operands.proofs.Scans.{after-element}
+use Rattle.operand_scan.proofs.Scans.{after-element}
 use Rattle.operands.proofs.leaf.elements.Statement.{statement}
 use Rattle.operands.proofs.leaf.elements.Tie as tie
 

@@ -5,7 +5,7 @@ use native.Mathlib.Omega.{arith}
 use Rattle.definitions.specs.Answer.{fine, refused}
 use Rattle.relation.specs.Parameters.{parametersOf}
 use Rattle.verifier_common.specs.Answers.{h-bound}
-use Rattle.verifier_commitments.proofs.Outer.{base-large, h-cells, h-answer}
+use Rattle.verifier_outer.proofs.Outer.{base-large, h-cells, h-answer}
 use Rattle.verifier_commitments.proofs.outer_commitments.check_h.Statement.{statement}
 use Rattle.verifier_commitments.proofs.outer_commitments.check_h.Tie as tie
 

@@ -8,7 +8,7 @@ use Rattle.protocol.specs.Views.{message}
 use Rattle.protocol.specs.Prover.{t-norm, g-norm}
 use Rattle.relation.specs.Parameters.{parametersOf}
 use Rattle.verifier_common.specs.Answers.{bare}
-use Rattle.verifier_commitments.proofs.Outer.{base-large, few-t, t-cells, g-cells, t-answer, g-answer}
+use Rattle.verifier_outer.proofs.Outer.{base-large, few-t, t-cells, g-cells, t-answer, g-answer}
 use Rattle.verifier_commitments.proofs.outer_commitments.check_t_and_g.Statement.{statement}
 use Rattle.verifier_commitments.proofs.outer_commitments.check_t_and_g.Tie as tie
 

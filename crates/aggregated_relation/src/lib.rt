@@ -1,0 +1,52 @@
+// The verifier's check of the aggregated relation (verifier.rs): 27.
+use definitions::answers::Checked;
+use definitions::answers::FailedCheck;
+use regions::Regions;
+use relation::env_params::EnvironmentParameters;
+use sizes::offsets;
+use verifier_common::equal;
+ghost use mathlib.Core.Path.{_≡_};
+ghost use Rattle.definitions.specs.Answer.{ofChecked};
+ghost use Rattle.workspace.specs.Ready.{Ready};
+ghost use Rattle.verifier_common.specs.Work.{Sent};
+ghost use Rattle.verifier_common.specs.Answers.{relation};
+ghost use Rattle.aggregated_relation.specs.Held.{Multiplied};
+
+// "27 twice Σ a_ij·g_ij plus Σ h_ii is not twice the aggregated b."
+pub fn check_relation(
+    job: &[u32],
+    randomness: &[u32],
+    transcript: &[u32],
+    p: EnvironmentParameters,
+    q: Regions,
+    scratch: &[u32],
+) -> Checked
+    requires { ⌜ Sent (now job) (now randomness) (now transcript) p × Ready (now job) p q (now scratch) × Multiplied (now job) (now randomness) q (now scratch) ⌝ }
+    ensures { λ v. ⌜ ofChecked v ≡ relation (now (job .entry)) (now (randomness .entry)) (now (transcript .entry)) ⌝ }
+{
+    let g_at = offsets::of_transcript(p, 6);
+    let h_at = offsets::of_transcript(p, 7);
+    let r = p.multiplicity;
+    let products = rq_matrix::sum_of_products(scratch, q.a, transcript, g_at, r);
+    let diagonal = rq_matrix::diagonal_sum(transcript, h_at, r);
+    let b = aggregate::mix(
+        job,
+        offsets::of_job(p, 5),
+        64,
+        p.constraint_k,
+        randomness,
+        offsets::of_randomness(p, 3),
+        offsets::of_randomness(p, 4),
+        transcript,
+        offsets::of_transcript(p, 2),
+        64,
+        p.const_agg_length,
+    );
+    let twice = products.add(products);
+    let left = twice.add(diagonal);
+    if equal::same(left, b.add(b)) {
+        Checked::Passed
+    } else {
+        Checked::Failed(FailedCheck::Relation)
+    }
+}

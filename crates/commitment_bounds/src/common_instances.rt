@@ -1,0 +1,54 @@
+// The norm bounds of the commitments: of the vectors that A commits to, and of the digits that B, C and D do.
+use commitments::outer_commitments::Digits;
+use definitions::answers::Proved;
+use definitions::answers::Refusal;
+use definitions::answers::U128;
+use digit_norms::norm;
+use norm_bounds::bound;
+ghost use mathlib.Core.Path.{_≡_};
+ghost use Prim.Native.Nat.{_+_, _*_, _≤_, _<_, _^_};
+ghost use lib.Dec.{leb};
+ghost use lib.ListN.{length};
+ghost use Rattle.definitions.specs.Answer.{value128, ofProved};
+ghost use Rattle.protocol.specs.Checks.{first};
+ghost use Rattle.protocol.specs.Formulas.{norm-of};
+ghost use Rattle.commitments.specs.Cells.{digits-at, left-at, vector-norm, Cells};
+
+// 13: the first of r vectors of n elements whose norm is above the bound.
+pub fn check_witness(witness: &[u32], at: usize, n: usize, r: usize, bound: U128) -> Proved
+    requires { ⌜ (at + 64 * (r * n) ≤ length (now witness)) × (n ≤ 2 ^ 20) ⌝ }
+    ensures { λ result. ⌜ ofProved result ≡ first r (vector-norm (now (witness .entry)) at n (value128 bound)) ⌝ }
+{
+    let step = 64 * n;
+    let mut place = at;
+    let mut i = 0;
+    while i < r {
+        let total = norm::elements_norm(witness, place, n);
+        if bound::at_most(total, bound) {
+            place += step;
+            i += 1;
+        } else {
+            return Proved::Refused(Refusal::WitnessNorm(i));
+        }
+    }
+    Proved::Made
+}
+
+// Whether the norm of the digits of cells is at most a bound, and how many of the cells have a coefficient with something left.
+pub struct Bounded {
+    pub within: bool,
+    pub cells_left: usize,
+}
+
+// 14 to 16: the digits of cells against a bound. What the digits lose is counted beside their norm (document 02, Item 5).
+pub fn digits_within(from: &[u32], d: Digits, base: u32, bound: U128) -> Bounded
+    requires { ⌜ Cells (now from) d × (1 < base) ⌝ }
+    ensures { λ r. ⌜ r .within ≡ leb (norm-of (digits-at (now (from .entry)) d base)) (value128 bound) ⌝ }
+    ensures { λ r. ⌜ r .«cells_left» ≡ left-at (now (from .entry)) d base ⌝ }
+{
+    let total = norm::digits_norm(from, d.at, d.cells, base, d.parts);
+    Bounded {
+        within: bound::at_most(total.norm, bound),
+        cells_left: total.cells_left,
+    }
+}

@@ -1,0 +1,26 @@
+// The lent output: 2.
+use admission::answers::Checked;
+use admission::calls;
+use admission::calls::Call;
+use definitions::answers::Refusal;
+use relation::env_params::EnvironmentParameters;
+ghost use mathlib.Core.Path.{_≡_};
+ghost use Rattle.protocol.specs.Layout.{output-refusal};
+ghost use Rattle.protocol.specs.Prover.{made-sections};
+ghost use Rattle.relation.specs.Parameters.{parametersOf};
+ghost use Rattle.sizes.specs.Sizes.{Sized};
+ghost use Rattle.admission.specs.Admission.{callOf, ofChecked};
+
+// "Place is the length needed."
+pub fn check(lent: usize, p: EnvironmentParameters, call: Call) -> Checked
+    requires { ⌜ Sized (parametersOf p) ⌝ }
+    ensures { λ r. ⌜ ofChecked r ≡ output-refusal (made-sections (callOf call) (parametersOf p)) lent ⌝ }
+{
+    let made = calls::makes(call);
+    let need = sizes::buffers::output_length(p, made.from, made.makes);
+    if lent < need {
+        Checked::Refused(Refusal::OutputTooShort(need))
+    } else {
+        Checked::Fine
+    }
+}

@@ -1,0 +1,2 @@
+// Squared norms against their bounds: numbers of two words.
+pub mod bound;

@@ -1,0 +1,2 @@
+// The search for the first bad word of operands.
+pub mod scan;

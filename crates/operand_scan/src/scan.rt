@@ -1,0 +1,63 @@
+// The search for the first bad word, and the first of two answers.
+use definitions::answers::Operands;
+use zq::zq::Zq;
+ghost use mathlib.Core.Path.{_≡_};
+ghost use Prim.Native.Nat.{_+_, _^_, _<_};
+ghost use lib.ListN.{length};
+ghost use Rattle.definitions.specs.Zq.{Q};
+ghost use Rattle.definitions.specs.Answer.{ofOperands, below, _then_};
+ghost use Rattle.definitions.specs.Leaf.{signWords};
+ghost use Rattle.operand_scan.specs.Scan.{FirstNotBelow};
+
+// The index of the first word at or above the limit; the number of words where there is none.
+pub fn first_not_below(words: &[u32], limit: u32) -> usize
+    ensures { λ r. ⌜ FirstNotBelow limit (now (words .entry)) r ⌝ }
+{
+    let mut i = 0;
+    while i < words.len() {
+        if limit <= words[i] {
+            return i;
+        }
+        i += 1;
+    }
+    i
+}
+
+// Whether words are canonical, the first of them at a place.
+pub fn words_from(words: &[u32], place: u32) -> Operands
+    requires { ⌜ place + length (now words) < 2 ^ 32 ⌝ }
+    ensures { λ r. ⌜ ofOperands r ≡ below Q 6 place (now (words .entry)) ⌝ }
+{
+    let i = first_not_below(words, Zq::Q);
+    if i < words.len() {
+        Operands::Word(place + i as u32)
+    } else {
+        Operands::Fit
+    }
+}
+
+// Whether sign words are 0 or 1.
+pub fn sign_words(signs: &[u32]) -> Operands
+    requires { ⌜ length (now signs) < 2 ^ 32 ⌝ }
+    ensures { λ r. ⌜ ofOperands r ≡ signWords (now (signs .entry)) ⌝ }
+{
+    let i = first_not_below(signs, 2);
+    if i < signs.len() {
+        Operands::SignWord(i as u32)
+    } else {
+        Operands::Fit
+    }
+}
+
+// The first of two answers that is not fine.
+pub fn first(a: Operands, b: Operands) -> Operands
+    ensures { λ r. ⌜ ofOperands r ≡ ofOperands a then ofOperands b ⌝ }
+{
+    match a {
+        Operands::Fit => b,
+        Operands::ParameterOutOfLimits(p) => Operands::ParameterOutOfLimits(p),
+        Operands::Word(p) => Operands::Word(p),
+        Operands::SignWord(p) => Operands::SignWord(p),
+        Operands::BaseOrParts(p) => Operands::BaseOrParts(p),
+    }
+}

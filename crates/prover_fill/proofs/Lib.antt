@@ -1,0 +1,2 @@
+mod WithH
+mod Scratch

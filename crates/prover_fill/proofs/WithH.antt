@@ -1,0 +1,162 @@
+-- What the steps up to φ find and leave in the scratch, and b'' and h after it.
+use mathlib.Core.Path.{_≡_, ap, _∙_}
+use mathlib.Core.List.{List, _++_}
+use Prim.Native.Nat.{ℕ, _+_, _≤_}
+use native.Mathlib.Omega.{arith}
+use lib.ListN.{length, length-append}
+use Rattle.lists.specs.Part.{splice}
+use Rattle.lists.proofs.Splice.{length-splice}
+use Rattle.definitions.specs.declared.answers.Proved.{Proved}
+use Rattle.definitions.specs.declared.answers.Proved.the-variants as E
+use Rattle.protocol.specs.Parameters.{Parameters, parameters}
+use Rattle.protocol.specs.Layout.{scratch-need}
+use Rattle.regions.specs.declared.Regions.{Regions}
+use Rattle.relation.specs.declared.env_params.EnvironmentParameters.{EnvironmentParameters}
+use Rattle.workspace.specs.Ready.{Ready, Drawn}
+use Rattle.workspace.specs.Holds.{Holds, Kept}
+use Rattle.workspace.specs.Aggregated.{a″-words, φ″-words, φ-words}
+use Rattle.workspace.proofs.Kept.{kept-stored, kept-trans}
+use Rattle.workspace.proofs.Ready.{drawn-fewer, ready-changed, φ″-end, a″-end, φ-end, a-end, g-end, c-end, length-φ″, length-a″, length-φ}
+use Rattle.prover_commit.specs.Words.{t-words, g-words, b″-words, h-words}
+use Rattle.prover_commit.specs.Work.{Given, Where-made, Committed, Weighed, Aggregated, AllMade, with-h-words}
+use Rattle.prover_commit.proofs.Commitments.{from-made, held-stored, held-before, held-after, given-changed, a-room, kept-h, stands-h, held-h}
+use Rattle.prover_commit.proofs.Lengths.{length-h}
+use Rattle.prover_fill.proofs.Scratch as Scratch
+
+module _ (J R W : List ℕ) (p : EnvironmentParameters) (q : Regions) (S : List ℕ) (h : Given J W p q S) (d : Drawn 5 J R) where
+  abbrev P : Parameters
+  P = parameters J
+
+  -- φ'' and a'' together
+  abbrev both : List ℕ
+  both = φ″-words J R ++ a″-words J R
+
+  -- where they end
+  both-end : 0 + length both ≤ q .phi
+  both-end = omega (arith, length-append (φ″-words J R) (a″-words J R), length-φ″ J R, length-a″ J R, h .ready .regions .first, h .ready .regions .a2, h .ready .regions .phi)
+
+  φ-stop : q .phi + length (φ-words J R) ≤ q .a
+  φ-stop = omega (arith, length-φ J R, φ-end J p q S (h .ready))
+
+  a-stop : q .a + length (h-words J R W) ≤ q .g
+  a-stop = omega (arith, length-h J R W, a-end J p q S (h .ready))
+
+  g-first : q .g ≤ q .t
+  g-first = omega (arith, g-end J p q S (h .ready), c-end J p q S (h .ready))
+
+  h-room : q .a + length (h-words J R W) ≤ scratch-need P
+  h-room = omega (arith, length-h J R W, a-room J W p q S h)
+
+  -- t and g stand after what is stored
+  committed-after : (L L′ : List ℕ) (to : ℕ) (new : List ℕ) → L′ ≡ splice L to new → to + length new ≤ q .g → Committed J W q L → Committed J W q L′
+  committed-after L L′ to new e l c =
+      record { t = held-after L L′ to new e (q .t) (t-words J W) (omega (arith, g-first, l)) (c .t); g = held-after L L′ to new e (q .g) (g-words J W) l (c .g) }
+
+  -- a scratch of which the needed words changed
+  module _ (S₁ : List ℕ) (kept : Kept (scratch-need P) S S₁) where
+    given₁ : Given J W p q S₁
+    given₁ = given-changed J W p q S h S₁ (kept .size)
+
+    pub double-prime-needs : Ready J p q S₁ × Drawn 3 J R
+    double-prime-needs = (given₁ .ready, drawn-fewer 5 3 J R (omega arith) d)
+
+    -- into which φ'' and a'' were stored
+    module _ (S₂ : List ℕ) (e₂ : S₂ ≡ splice S₁ 0 both) where
+      size₂ : length S₂ ≡ length S
+      size₂ = ap length e₂ ∙ length-splice S₁ 0 both ∙ kept .size
+
+      φ″-held : Holds S₂ (q .phi2) (φ″-words J R)
+      φ″-held = Scratch.φ″-held J R W p q S₁ given₁ S₂ e₂
+
+      a″-held : Holds S₂ (q .a2) (a″-words J R)
+      a″-held = Scratch.a″-held J R W p q S₁ given₁ S₂ e₂
+
+      pub phi-needs : Ready J p q S₂ × Drawn 5 J R × Holds S₂ (q .phi2) (φ″-words J R)
+      phi-needs = (ready-changed J p q S (h .ready) S₂ size₂, d, φ″-held)
+
+      -- then φ
+      module _ (S₃ : List ℕ) (e₃ : S₃ ≡ splice S₂ (q .phi) (φ-words J R)) where
+        size₃ : length S₃ ≡ length S
+        size₃ = ap length e₃ ∙ length-splice S₂ (q .phi) (φ-words J R) ∙ size₂
+
+        pub φ-given : Given J W p q S₃
+        φ-given = given-changed J W p q S h S₃ size₃
+
+        pub φ-held : Holds S₃ (q .phi) (φ-words J R)
+        φ-held = held-stored S₂ S₃ (q .phi) (φ-words J R) e₃ (omega (arith, φ-stop, h-room, h .ready .room, size₂))
+
+        pub kept-φ : Kept (scratch-need P) S S₃
+        kept-φ = kept-stored (scratch-need P) S S₂ S₃ (q .phi) (φ-words J R) (kept-stored (scratch-need P) S S₁ S₂ 0 both kept e₂ (omega (arith, both-end, φ-stop, h-room))) e₃ (omega (arith, φ-stop, h-room))
+
+        pub weighed : (r : Proved) → r ≡ E.Made → Where-made r (Committed J W q S₁) → Weighed J R W q S₃
+        weighed r made w =
+            record {
+              committed = committed-after S₂ S₃ (q .phi) (φ-words J R) e₃ (omega (arith, φ-stop, a-stop))
+                  (committed-after S₁ S₂ 0 both e₂ (omega (arith, both-end, φ-stop, a-stop)) (from-made r (Committed J W q S₁) made w));
+              phi2 = held-before S₂ S₃ (q .phi) (φ-words J R) e₃ (q .phi2) (φ″-words J R) (omega (arith, length-φ″ J R, φ″-end J p q S (h .ready), a″-end J p q S (h .ready))) φ″-held;
+              a2 = held-before S₂ S₃ (q .phi) (φ-words J R) e₃ (q .a2) (a″-words J R) (omega (arith, length-a″ J R, a″-end J p q S (h .ready))) a″-held;
+              phi = φ-held;
+            }
+
+-- h after φ: a scratch with t, g and φ
+module _ (J R W : List ℕ) (p : EnvironmentParameters) (q : Regions) (S : List ℕ) (h : Given J W p q S) (S₁ : List ℕ) (kept : Kept (scratch-need (parameters J)) S S₁) (k : Weighed J R W q S₁) where
+  pub weighed-given : Given J W p q S₁
+  weighed-given = given-changed J W p q S h S₁ (kept .size)
+
+  g-before-t : q .g ≤ q .t
+  g-before-t = omega (arith, g-end J p q S (h .ready), c-end J p q S (h .ready))
+
+  -- and then h
+  module _ (S₂ : List ℕ) (e : S₂ ≡ with-h-words J R W p q S₁) where
+    pub h-kept : Kept (scratch-need (parameters J)) S S₂
+    h-kept = kept-trans (scratch-need (parameters J)) S S₁ S₂ kept (kept-h J W p q S₁ weighed-given R S₂ e)
+
+    pub h-aggregated : Aggregated J R W q S₂
+    h-aggregated =
+        record {
+          committed = record {
+            t = stands-h J W p q S₁ weighed-given R S₂ e (q .t) (t-words J W) g-before-t (k .committed .t);
+            g = stands-h J W p q S₁ weighed-given R S₂ e (q .g) (g-words J W) (omega arith) (k .committed .g);
+          };
+          h = held-h J W p q S₁ weighed-given R S₂ e;
+        }
+
+  -- or b'' first
+  module _ (S₂ : List ℕ) (e : S₂ ≡ splice S₁ (q .b2) (b″-words J R W)) where
+    stays : (at : ℕ) (ws : List ℕ) → at + length ws ≤ q .b2 → Holds S₁ at ws → Holds S₂ at ws
+    stays = Scratch.b″-before J R W p q S₁ weighed-given S₂ e
+
+    t-place : q .t + length (t-words J W) ≤ q .b2
+    t-place = Scratch.t-below J R W p q S₁ weighed-given
+
+    g-place : q .g + length (g-words J W) ≤ q .b2
+    g-place = omega (arith, Scratch.g-below J R W p q S₁ weighed-given, Scratch.c-below J R W p q S₁ weighed-given, t-place)
+
+    φ-place : q .phi + length (φ-words J R) ≤ q .b2
+    φ-place = omega (arith, length-φ J R, φ-end J p q S (h .ready), a-end J p q S (h .ready), g-place)
+
+    b-kept : Kept (scratch-need (parameters J)) S S₂
+    b-kept = kept-trans (scratch-need (parameters J)) S S₁ S₂ kept (Scratch.b″-kept J R W p q S₁ weighed-given S₂ e)
+
+    b-given : Given J W p q S₂
+    b-given = given-changed J W p q S h S₂ (b-kept .size)
+
+    pub h-needs : Given J W p q S₂ × Holds S₂ (q .phi) (φ-words J R)
+    h-needs = (b-given, stays (q .phi) (φ-words J R) φ-place (k .phi))
+
+    -- and then h
+    module _ (S₃ : List ℕ) (e′ : S₃ ≡ with-h-words J R W p q S₂) where
+      pub all-kept : Kept (scratch-need (parameters J)) S S₃
+      all-kept = kept-trans (scratch-need (parameters J)) S S₂ S₃ b-kept (kept-h J W p q S₂ b-given R S₃ e′)
+
+      pub all-made : AllMade J R W q S₃
+      all-made = (
+        record {
+          committed = record {
+            t = stands-h J W p q S₂ b-given R S₃ e′ (q .t) (t-words J W) g-before-t (stays (q .t) (t-words J W) t-place (k .committed .t));
+            g = stands-h J W p q S₂ b-given R S₃ e′ (q .g) (g-words J W) (omega arith) (stays (q .g) (g-words J W) g-place (k .committed .g));
+          };
+          h = held-h J W p q S₂ b-given R S₃ e′;
+        },
+        stands-h J W p q S₂ b-given R S₃ e′ (q .b2) (b″-words J R W) (omega (arith, g-place)) (Scratch.b″-held J R W p q S₁ weighed-given S₂ e),
+      )

@@ -1,0 +1,2 @@
+pub mod TranscriptSections
+pub mod SectionRoom

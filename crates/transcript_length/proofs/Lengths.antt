@@ -1,0 +1,29 @@
+-- The length of a transcript, of what is found of the job.
+use mathlib.Core.Path.{_≡_, sym, ap, _∙_}
+use mathlib.Core.List.{List}
+use Prim.Native.Nat.{ℕ}
+use Rattle.definitions.specs.declared.answers.Refusal.{Refusal}
+use Rattle.definitions.specs.Answer.{result}
+use Rattle.protocol.specs.Parameters.{parameters}
+use Rattle.protocol.specs.Layout.{span, transcript-sections, job-refusal}
+use Rattle.relation.specs.declared.env_params.EnvironmentParameters.{EnvironmentParameters}
+use Rattle.relation.specs.Parameters.{parametersOf}
+use Rattle.admission.specs.declared.answers.Admitted.{Admitted}
+use Rattle.admission.specs.declared.answers.Admitted.the-variants as A
+use Rattle.admission.specs.Admission.{ofAdmitted, At}
+use Rattle.admission.proofs.Fit.{refusal-none, fit-same}
+
+module _ (J : List ℕ) (x : Admitted) (e : ofAdmitted x ≡ job-refusal J) where
+  -- of a job that is refused
+  pub length-none : (r : Refusal) → x ≡ A.Refused r → 0 ≡ result (job-refusal J) (span (transcript-sections (parameters J))) 0
+  length-none r is =
+      let n = span (transcript-sections (parameters J)) in
+      refusal-none r n 0 ∙ ap (λ a. result a n 0) (sym (ap ofAdmitted is) ∙ e)
+
+  -- of a job that is refused nothing
+  pub length-found : (p : EnvironmentParameters) (length : ℕ) → At x (λ p. parametersOf p ≡ parameters J) → x ≡ A.Fit p → length ≡ span (transcript-sections (parametersOf p))
+      → length ≡ result (job-refusal J) (span (transcript-sections (parameters J))) 0
+  length-found p length at is h =
+      h
+      ∙ ap (λ P. span (transcript-sections P)) (fit-same J x p e at is)
+      ∙ ap (λ a. result a (span (transcript-sections (parameters J))) 0) (sym (ap ofAdmitted is) ∙ e)
