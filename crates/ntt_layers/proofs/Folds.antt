@@ -71,13 +71,13 @@ sum-bound d s h l =
     let q : s / 4294967296 ≤ 4294967295 = omega arith in
     reduced-bound d (s / 4294967296 * (32 * d) + s % 4294967296) h (omega (arith, product-bound (s / 4294967296) 4294967295 d q h))
 
--- what is left of a number folded twice once multiples of the prime are taken off is the remainder
-pub remainder-is : (d z r rest q : ℕ) → d ≤ 2175 → r ≡ reduced d z → rest + q * prime d ≡ r → rest < prime d → rest ≡ z % prime d
-remainder-is d z r rest q s e t l =
-    sym (mod-eq-of-lt l)
-    ∙ sym (add-mul-mod-self-right rest q (prime d))
-    ∙ ap (λ x. x % prime d) (t ∙ e)
-    ∙ ap (λ (x : Below (prime d)). x .0) (res-reduced-is d s (prime-pos d s) z)
+-- what is left once multiples of p are taken off is the remainder
+pub rest-is : (r p rest q : ℕ) → rest + q * p ≡ r → rest < p → rest ≡ r % p
+rest-is r p rest q t l = sym (mod-eq-of-lt l) ∙ sym (add-mul-mod-self-right rest q p) ∙ ap (λ x. x % p) t
+
+-- a number folded twice has its remainder
+pub reduced-mod : (d z : ℕ) → d ≤ 2175 → reduced d z % prime d ≡ z % prime d
+reduced-mod d z s = ap (λ (x : Below (prime d)). x .0) (res-reduced-is d s (prime-pos d s) z)
 
 -- 2^32 divided out of a number below 2^59
 pub montgomery-bound : (d q z : ℕ) → d ≤ 2175 → z < 576460752303423488 → montgomery d q z ≤ 285600000
