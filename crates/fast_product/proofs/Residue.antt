@@ -22,9 +22,9 @@ use Rattle.ntt_layers.specs.Fold.{prime}
 use Rattle.ntt_layers.specs.Words.{remaindersOf}
 use Rattle.ntt_layers.proofs.Residues.{Below, res, ModOps, mod-ring, res-less, res-reduced, res-add, res-mul, res-sub, res-Σ}
 use Rattle.ntt_layers.proofs.Folds.{prime-pos}
-use Rattle.ntt.specs.Roots.{delta, root, twiddleTable}
+use Rattle.ntt.specs.Roots.{delta, root, opposite, twiddleTable}
 use Rattle.ntt.specs.Transforms.{backwardOf}
-use Rattle.ntt.proofs.Roots.{primeOf, positive, rootIn, root-half, twiddle-pow, twiddles-fit}
+use Rattle.ntt.proofs.Roots.{primeOf, positive, rootIn, root-half, twiddle-pow, back-pow, twiddles-fit, backs-fit}
 use Rattle.ntt.proofs.Laws.{forward-bound, undone-bound, res-forward, res-backward}
 use Rattle.fast_product.specs.Kept.{valuesOf, sumsOf, inverse64, offset, scaledOf}
 
@@ -58,7 +58,7 @@ offset-is i h = agree 3 offset (λ i. 75557863690729951334400 % primeOf i) tt i 
 -- a value is below twice the prime
 pub value-bound : (i : ℕ) → i < 3 → (a : List ℕ) → Words a → (k : ℕ) → k < 64 → getD (valuesOf i a) k 0 ≤ 134285152
 unfolding valuesOf
-value-bound i hi a wa k h = forward-bound (delta i) twiddleTable (192 * i) (twiddles-fit i hi) a (λ k l. omega (arith, wa k l)) k h
+value-bound i hi a wa k h = forward-bound (delta i) (opposite i) twiddleTable (192 * i) (twiddles-fit i hi) a (λ k l. omega (arith, wa k l)) k h
 
 -- so are 64 products in a u64
 pub product-small : (x y : ℕ) → x ≤ 134285152 → y ≤ 134285152 → x * y ≤ 18032502047663104
@@ -113,7 +113,7 @@ module _ (i : ℕ) (hi : i < 3) (n : ℕ) (hn : n ≤ 64) (a b : ℕ → List �
   value-is : (c : List ℕ) → Words c → (k : ℕ) → k < 64 → r (getD (valuesOf i c) k 0) ≡ eval O 64 (P k) (extend O 64 (λ j. r (coeff c j)))
   unfolding valuesOf eval P
   value-is c wc k h =
-      res-forward (delta i) twiddleTable (192 * i) (twiddles-fit i hi) (positive i) (rootIn i) (root-half i hi) (λ j t hj ht. twiddle-pow i j t hi hj ht) c (λ k l. omega (arith, wc k l)) k h
+      res-forward (delta i) (opposite i) twiddleTable (192 * i) (twiddles-fit i hi) (positive i) (rootIn i) (root-half i hi) (λ j t hj ht. twiddle-pow i j t hi hj ht) c (λ k l. omega (arith, wc k l)) k h
       ∙ sum-ext O 64 (λ j. r (coeff c j) ⊗ pow O (rootIn i) (exponent 6 k * j)) (λ j. extend O 64 (λ j. r (coeff c j)) j ⊗ pow O (rootIn i) (exponent 6 k * j))
       (λ j l. ap (λ x. x ⊗ pow O (rootIn i) (exponent 6 k * j)) (sym (extend-below O (mod-ring (primeOf i) (positive i)) 64 (omega arith) (λ j. r (coeff c j)) j l)))
 
@@ -164,7 +164,7 @@ module _ (i : ℕ) (hi : i < 3) (n : ℕ) (hn : n ≤ 64) (a b : ℕ → List �
       → getD (scaledOf i (sumsOf i n a b)) k 0 ≡ x % primeOf i
   unfolding scaledOf remaindersOf
   scaled-at k x h e =
-      getD-table 64 (λ k. (getD (backwardOf (delta i) twiddleTable (192 * i) (sumsOf i n a b)) k 0 * inverse64 i + offset i) % primeOf i) k 0 h
+      getD-table 64 (λ k. (getD (backwardOf (delta i) (opposite i) twiddleTable (576 + 192 * i) (sumsOf i n a b)) k 0 * inverse64 i + offset i) % primeOf i) k 0 h
       ∙ ap (λ (y : Below (primeOf i)). y .0) whole
     where
       L : ℕ
@@ -174,7 +174,7 @@ module _ (i : ℕ) (hi : i < 3) (n : ℕ) (hn : n ≤ 64) (a b : ℕ → List �
       H = Σ n (λ m. high (a m) (b m) k)
 
       back : ℕ
-      back = getD (backwardOf (delta i) twiddleTable (192 * i) (sumsOf i n a b)) k 0
+      back = getD (backwardOf (delta i) (opposite i) twiddleTable (576 + 192 * i) (sumsOf i n a b)) k 0
 
       unit : r 64 ⊗ r (inverse64 i) ≡ one
       unit = sym (res-mul (primeOf i) (positive i) 64 (inverse64 i)) ∙ sym (res-less (primeOf i) (positive i) 1 (64 * inverse64 i) 63 (inverse-is i hi))
@@ -187,7 +187,7 @@ module _ (i : ℕ) (hi : i < 3) (n : ℕ) (hn : n ≤ 64) (a b : ℕ → List �
           res-add (primeOf i) (positive i) (back * inverse64 i) (offset i)
           ∙ ap₂ _⊕_
           (res-mul (primeOf i) (positive i) back (inverse64 i)
-          ∙ ap (λ z. z ⊗ r (inverse64 i)) (res-backward (delta i) twiddleTable (192 * i) (twiddles-fit i hi) (positive i) (rootIn i) (root-half i hi) (λ j t hj ht. twiddle-pow i j t hi hj ht) (sumsOf i n a b) sums-fit C sums-values k h)
+          ∙ ap (λ z. z ⊗ r (inverse64 i)) (res-backward (delta i) (opposite i) twiddleTable (576 + 192 * i) (backs-fit i hi) (positive i) (rootIn i) (root-half i hi) (λ j t hj ht. back-pow i j t hi hj ht) (sumsOf i n a b) sums-fit C sums-values k h)
           ∙ cancelled O (mod-ring (primeOf i) (positive i)) (r 64) (C k) (r (inverse64 i)) unit
           ∙ inner-at k h)
           (ap r (offset-is i hi) ∙ res-reduced (primeOf i) (positive i) 75557863690729951334400)
@@ -196,9 +196,9 @@ module _ (i : ℕ) (hi : i < 3) (n : ℕ) (hn : n ≤ 64) (a b : ℕ → List �
           ∙ sym (res-sub (primeOf i) (positive i) (L + 75557863690729951334400) H x 0 same)
 
 -- the way back stays below three times the prime
-pub back-small : (i : ℕ) → i < 3 → (s : List ℕ) → ((k : ℕ) → k < 64 → getD s k 0 < 2 ^ 64) → (k : ℕ) → k < 64 → getD (backwardOf (delta i) twiddleTable (192 * i) s) k 0 ≤ 285600000
+pub back-small : (i : ℕ) → i < 3 → (s : List ℕ) → ((k : ℕ) → k < 64 → getD s k 0 < 2 ^ 64) → (k : ℕ) → k < 64 → getD (backwardOf (delta i) (opposite i) twiddleTable (576 + 192 * i) s) k 0 ≤ 285600000
 unfolding backwardOf
-back-small i hi s sums k h = undone-bound (delta i) twiddleTable (192 * i) (twiddles-fit i hi) s sums 6 (omega arith) k h
+back-small i hi s sums k h = undone-bound (delta i) (opposite i) twiddleTable (576 + 192 * i) (backs-fit i hi) s sums 6 (omega arith) k h
 
 -- remainders are below the prime
 pub remainders-below : (d factor offset : ℕ) (x : List ℕ) → d ≤ 2175 → (k : ℕ) → k < 64 → getD (remaindersOf d factor offset x) k 0 < prime d

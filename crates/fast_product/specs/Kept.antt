@@ -6,13 +6,13 @@ use lib.ListN.{getD}
 use Rattle.lists.specs.Table.{table}
 use Rattle.lists.specs.Sum.{Σ}
 use Rattle.ntt_layers.specs.Words.{remaindersOf}
-use Rattle.ntt.specs.Roots.{delta, twiddleTable}
+use Rattle.ntt.specs.Roots.{delta, opposite, twiddleTable}
 use Rattle.ntt.specs.Transforms.{forwardOf, backwardOf}
 use Rattle.fast_product.specs.Join.{joinedOf}
 
 -- the values of an element modulo prime i
 unfoldable pub valuesOf : ℕ → List ℕ → List ℕ
-valuesOf i a = forwardOf (delta i) twiddleTable (192 * i) a
+valuesOf i a = forwardOf (delta i) (opposite i) twiddleTable (192 * i) a
 
 -- the values of an element modulo the three primes
 pub record Transform (a first second third : List ℕ) : Type 0 where
@@ -46,7 +46,7 @@ offset (suc (suc i)) = 24000906
 
 -- the remainders by prime i of the coefficients plus 4096·Q²
 unfoldable pub scaledOf : ℕ → List ℕ → List ℕ
-scaledOf i s = remaindersOf (delta i) (inverse64 i) (offset i) (backwardOf (delta i) twiddleTable (192 * i) s)
+scaledOf i s = remaindersOf (delta i) (inverse64 i) (offset i) (backwardOf (delta i) (opposite i) twiddleTable (576 + 192 * i) s)
 
 -- the coefficients modulo Q
 unfoldable pub backOf : List ℕ → List ℕ → List ℕ → List ℕ

@@ -37,9 +37,9 @@ pub fn transform(a: [u32; 64], w: &[u32]) -> Transformed
     requires { ⌜ now w ≡ twiddleTable ⌝ }
     ensures { λ r. ⌜ Transform a (r .first) (r .second) (r .third) ⌝ }
 {
-    let first = transforms::forward(a, w, 0, 639);
-    let second = transforms::forward(a, w, 192, 2047);
-    let third = transforms::forward(a, w, 384, 2175);
+    let first = transforms::forward(a, w, 0, 639, 3898195327);
+    let second = transforms::forward(a, w, 192, 2047, 130021375);
+    let third = transforms::forward(a, w, 384, 2175, 2442639231);
     Transformed {
         first,
         second,
@@ -97,19 +97,19 @@ pub fn back(sums: Sums, w: &[u32]) -> [u32; 64]
     let t = sums.second;
     let u = sums.third;
     let first = words::remainders(
-        transforms::backward(s, w, 0, 639),
+        transforms::backward(s, w, 576, 639, 3898195327),
         132119947,
         113276202,
         639,
     );
     let second = words::remainders(
-        transforms::backward(t, w, 192, 2047),
+        transforms::backward(t, w, 768, 2047, 130021375),
         132118561,
         4063362,
         2047,
     );
     let third = words::remainders(
-        transforms::backward(u, w, 384, 2175),
+        transforms::backward(u, w, 960, 2175, 2442639231),
         132118435,
         24000906,
         2175,

@@ -1,8 +1,8 @@
 -- The three primes and the powers of their roots (document 02, Item 7).
 use mathlib.Core.Bool.{cond}
 use mathlib.Core.List.{List}
-use Prim.Native.Nat.{ℕ, zero, suc, _+_, _*_, _/_, _%_}
-use lib.Dec.{eqb}
+use Prim.Native.Nat.{ℕ, zero, suc, _+_, _-_, _*_, _/_, _%_}
+use lib.Dec.{eqb, ltb}
 use Rattle.lists.specs.Table.{table}
 use Rattle.transform.specs.Layers.{exponent}
 use Rattle.ntt_layers.specs.Fold.{prime}
@@ -19,18 +19,32 @@ root zero = 43629474
 root (suc zero) = 42283728
 root (suc (suc i)) = 63428141
 
--- the entry of the table after entry k: 1 where a prime begins, else the one before times the root
-abbrev pub next : ℕ → ℕ → ℕ
-next k before = cond (eqb (suc k % 128) 0) 1 (before * root (suc k / 128) % prime (delta (suc k / 128)))
+-- minus its inverse modulo 2^32
+abbrev pub opposite : ℕ → ℕ
+opposite zero = 3898195327
+opposite (suc zero) = 130021375
+opposite (suc (suc i)) = 2442639231
 
--- entry k of the table: power k mod 128 of root k / 128
+-- 2^32 modulo it
+abbrev pub scale : ℕ → ℕ
+scale i = 4294967296 % prime (delta i)
+
+-- the entry of the table after entry k: 2^32 where a prime begins, else the one before times the root
+abbrev pub next : ℕ → ℕ → ℕ
+next k before = cond (eqb (suc k % 128) 0) (scale (suc k / 128)) (before * root (suc k / 128) % prime (delta (suc k / 128)))
+
+-- entry k of the table: power k mod 128 of root k / 128, times 2^32
 unfoldable pub entry : ℕ → ℕ
-entry zero = 1
+entry zero = scale 0
 entry (suc k) = next k (entry k)
 
 -- where the power stands that layer j of prime i takes at t, for m = 192·i + 32·j + t
+abbrev pub layerIndex : ℕ → ℕ
+layerIndex m = m / 192 * 128 + exponent (m % 192 / 32) (m % 192 % 32) / 2
+
+-- after 576 of these those of the way back, where t goes from 31 down: power 31 − t is minus the inverse of power t
 abbrev pub indexOf : ℕ → ℕ
-indexOf m = m / 192 * 128 + exponent (m % 192 / 32) (m % 192 % 32) / 2
+indexOf m = layerIndex (cond (ltb m 576) m ((m - 576) / 32 * 32 + (31 - (m - 576) % 32)))
 
 -- that power
 unfoldable pub twiddle : ℕ → ℕ
@@ -38,4 +52,4 @@ twiddle m = entry (indexOf m)
 
 -- all of them
 unfoldable pub twiddleTable : List ℕ
-twiddleTable = table 576 twiddle
+twiddleTable = table 1152 twiddle

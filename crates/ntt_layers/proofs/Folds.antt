@@ -1,9 +1,10 @@
 -- A fold keeps the remainder, and brings a number down.
 use mathlib.Core.Path.{_≡_, sym, ap, _∙_}
 use Prim.Native.Nat.{ℕ, _+_, _-_, _*_, _/_, _%_, _≤_, _<_, _^_}
-use native.Mathlib.Nat.{mul-le-mul, div-add-mod', mod-eq-of-lt, add-mul-mod-self-right}
+use native.Mathlib.Nat.{mul-le-mul, mul-assoc, mul-comm, mul-zero, add-mul, add-mod-mod, div-add-mod', mod-eq-of-lt, add-mul-mod-self-right}
 use native.Mathlib.Omega.{arith}
-use Rattle.ntt_layers.specs.Fold.{prime, fold, reduced}
+use Rattle.definitions.proofs.Modulo.{mul-mod-first, mul-mod-second}
+use Rattle.ntt_layers.specs.Fold.{prime, fold, reduced, montgomery, Opposite, inverse32}
 use Rattle.ntt_layers.specs.Words.{reducedSum}
 use Rattle.ntt_layers.proofs.Residues.{Below, res, res-less}
 
@@ -70,10 +71,58 @@ sum-bound d s h l =
     let q : s / 4294967296 ≤ 4294967295 = omega arith in
     reduced-bound d (s / 4294967296 * (32 * d) + s % 4294967296) h (omega (arith, product-bound (s / 4294967296) 4294967295 d q h))
 
--- what is left of a number folded twice once multiples of the prime are taken off is the remainder
-pub remainder-is : (d z r rest q : ℕ) → d ≤ 2175 → r ≡ reduced d z → rest + q * prime d ≡ r → rest < prime d → rest ≡ z % prime d
-remainder-is d z r rest q s e t l =
-    sym (mod-eq-of-lt l)
-    ∙ sym (add-mul-mod-self-right rest q (prime d))
-    ∙ ap (λ x. x % prime d) (t ∙ e)
-    ∙ ap (λ (x : Below (prime d)). x .0) (res-reduced-is d s (prime-pos d s) z)
+-- what is left once multiples of p are taken off is the remainder
+pub rest-is : (r p rest q : ℕ) → rest + q * p ≡ r → rest < p → rest ≡ r % p
+rest-is r p rest q t l = sym (mod-eq-of-lt l) ∙ sym (add-mul-mod-self-right rest q p) ∙ ap (λ x. x % p) t
+
+-- a number folded twice has its remainder
+pub reduced-mod : (d z : ℕ) → d ≤ 2175 → reduced d z % prime d ≡ z % prime d
+reduced-mod d z s = ap (λ (x : Below (prime d)). x .0) (res-reduced-is d s (prime-pos d s) z)
+
+-- 2^32 divided out of a number below 2^59
+pub montgomery-bound : (d q z : ℕ) → d ≤ 2175 → z < 576460752303423488 → montgomery d q z ≤ 285600000
+unfolding montgomery
+montgomery-bound d q z s l =
+    let m : z * q % 4294967296 ≤ 4294967295 = omega arith in
+    let p : prime d ≤ 134217728 = omega arith in
+    let b : z * q % 4294967296 * prime d ≤ 4294967295 * 134217728 = mul-le-mul m p in
+    omega arith
+
+module _ (d q : ℕ) (opposite : Opposite d q) where
+  -- 2^32 and its inverse
+  pub inverse32-is : inverse32 d q * 4294967296 ≡ q * prime d + 1
+  inverse32-is = omega (arith, div-add-mod' (q * prime d + 1) 4294967296)
+
+  -- the multiple of the prime makes a multiple of 2^32
+  whole : (z : ℕ) → (z + z * q % 4294967296 * prime d) % 4294967296 ≡ 0
+  whole z =
+      sym (add-mod-mod z (z * q % 4294967296 * prime d) 4294967296)
+      ∙ ap (λ x. (z + x) % 4294967296) (mul-mod-first 4294967296 (z * q) (prime d))
+      ∙ add-mod-mod z (z * q * prime d) 4294967296
+      ∙ ap (λ x. x % 4294967296) (order z q (prime d))
+      ∙ sym (mul-mod-second 4294967296 z (q * prime d + 1))
+      ∙ ap (λ x. z * x % 4294967296) opposite
+      ∙ ap (λ x. x % 4294967296) (mul-zero z)
+    where
+      order : (z q p : ℕ) → z + z * q * p ≡ z * (q * p + 1)
+      order z q p = omega (arith, mul-assoc z q p)
+
+  montgomery-is : (z : ℕ) → montgomery d q z * 4294967296 ≡ z + z * q % 4294967296 * prime d
+  unfolding montgomery
+  montgomery-is z = omega (arith, div-add-mod' (z + z * q % 4294967296 * prime d) 4294967296, whole z)
+
+  -- the number times the inverse of 2^32
+  pub res-montgomery : (pos : 0 < prime d) (z : ℕ) → res (prime d) pos (montgomery d q z) ≡ res (prime d) pos (z * inverse32 d q)
+  res-montgomery pos z =
+      res-less (prime d) pos (montgomery d q z) (montgomery d q z * (q * prime d + 1)) (montgomery d q z * q) (more (montgomery d q z) q (prime d))
+      ∙ ap (res (prime d) pos) (ap (λ x. montgomery d q z * x) (sym inverse32-is) ∙ turn (montgomery d q z) (inverse32 d q) 4294967296 ∙ ap (λ x. x * inverse32 d q) (montgomery-is z))
+      ∙ sym (res-less (prime d) pos (z * inverse32 d q) ((z + z * q % 4294967296 * prime d) * inverse32 d q) (z * q % 4294967296 * inverse32 d q) (apart z (z * q % 4294967296) (prime d) (inverse32 d q)))
+    where
+      more : (m q p : ℕ) → m + m * q * p ≡ m * (q * p + 1)
+      more m q p = omega (arith, mul-assoc m q p)
+
+      turn : (m i w : ℕ) → m * (i * w) ≡ m * w * i
+      turn m i w = ap (λ x. m * x) (mul-comm i w) ∙ sym (mul-assoc m w i)
+
+      apart : (z m p i : ℕ) → z * i + m * i * p ≡ (z + m * p) * i
+      apart z m p i = ap (λ x. z * i + x) (mul-assoc m i p ∙ ap (λ x. m * x) (mul-comm i p) ∙ sym (mul-assoc m p i)) ∙ sym (add-mul z (m * p) i)

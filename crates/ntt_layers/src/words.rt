@@ -12,7 +12,7 @@ pub fn fold_words(x: [u32; 64], d: u64) -> [u32; 64]
 {
     let mut out = [0u32; 64];
     for k in 0..64 {
-        out[k] = fold::fold(wide(x[k]), d) as u32;
+        out[k] = fold::fold_word(x[k], d as u32);
     }
     out
 }
@@ -37,7 +37,10 @@ pub fn remainders(x: [u32; 64], factor: u64, offset: u64, d: u64) -> [u32; 64]
 {
     let mut out = [0u32; 64];
     for k in 0..64 {
-        out[k] = fold::remainder(wide(x[k]) * factor + offset, d) as u32;
+        out[k] = fold::rest(
+            fold::reduce(wide(x[k]) * (factor % fold::WORD) + offset, d) as u32,
+            d as u32,
+        );
     }
     out
 }

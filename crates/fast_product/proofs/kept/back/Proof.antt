@@ -6,7 +6,7 @@ use borrow.Author.Needs.{needs}
 use lib.ListN.{getD}
 use Rattle.ntt.specs.Roots.{twiddleTable}
 use Rattle.ntt.specs.Transforms.{Twiddles, backwardOf}
-use Rattle.ntt.proofs.Roots.{twiddles-fit}
+use Rattle.ntt.proofs.Roots.{backs-fit}
 use mir.Val.{Fits}
 use mir.Syntax.{w64}
 use Rattle.ntt_layers.specs.Words.{remaindersOf}
@@ -17,32 +17,32 @@ use Rattle.fast_product.proofs.kept.back.Statement.{statement}
 use Rattle.fast_product.proofs.kept.back.Tie as tie
 
 backward-requires : tie.Need-backward-requires
-backward-requires c κs = subst (λ l. Twiddles 639 l 0) (sym (c .before .before .before .before .pre)) (twiddles-fit 0 (omega arith))
+backward-requires c κs = subst (λ l. Twiddles 639 3898195327 l 576) (sym (c .before .before .before .before .pre)) (backs-fit 0 (omega arith))
 
 remainders-requires : tie.Need-remainders-requires
 remainders-requires c κs =
     let s = c .before .before .before .before .before .args in
-    let e : c .backward .result ≡ backwardOf 639 twiddleTable 0 (s .sums .first) = c .backward .ensures ∙ ap (λ l. backwardOf 639 l 0 (s .sums .first)) (c .before .before .before .before .before .pre) in
+    let e : c .backward .result ≡ backwardOf 639 3898195327 twiddleTable 576 (s .sums .first) = c .backward .ensures ∙ ap (λ l. backwardOf 639 3898195327 l 576 (s .sums .first)) (c .before .before .before .before .before .pre) in
     let sums : (k : ℕ) → k < 64 → getD (s .sums .first) k 0 < 2 ^ 64 = λ k l. let f : Fits w64 (getD (s .sums .first) k 0) = search needs in omega arith in
     (omega arith, omega arith, omega arith, λ k l. subst (λ y. getD y k 0 ≤ 285600000) (sym e) (back-small 0 (omega arith) (s .sums .first) sums k l))
 
 backward-requires-2 : tie.Need-backward-requires-2
-backward-requires-2 c κs = subst (λ l. Twiddles 2047 l 192) (sym (c .before .before .before .before .before .before .pre)) (twiddles-fit 1 (omega arith))
+backward-requires-2 c κs = subst (λ l. Twiddles 2047 130021375 l 768) (sym (c .before .before .before .before .before .before .pre)) (backs-fit 1 (omega arith))
 
 remainders-requires-2 : tie.Need-remainders-requires-2
 remainders-requires-2 c κs =
     let s = c .before .before .before .before .before .before .before .args in
-    let e : c .backward2 .result ≡ backwardOf 2047 twiddleTable 192 (s .sums .second) = c .backward2 .ensures ∙ ap (λ l. backwardOf 2047 l 192 (s .sums .second)) (c .before .before .before .before .before .before .before .pre) in
+    let e : c .backward2 .result ≡ backwardOf 2047 130021375 twiddleTable 768 (s .sums .second) = c .backward2 .ensures ∙ ap (λ l. backwardOf 2047 130021375 l 768 (s .sums .second)) (c .before .before .before .before .before .before .before .pre) in
     let sums : (k : ℕ) → k < 64 → getD (s .sums .second) k 0 < 2 ^ 64 = λ k l. let f : Fits w64 (getD (s .sums .second) k 0) = search needs in omega arith in
     (omega arith, omega arith, omega arith, λ k l. subst (λ y. getD y k 0 ≤ 285600000) (sym e) (back-small 1 (omega arith) (s .sums .second) sums k l))
 
 backward-requires-3 : tie.Need-backward-requires-3
-backward-requires-3 c κs = subst (λ l. Twiddles 2175 l 384) (sym (c .before .before .before .before .before .before .before .before .pre)) (twiddles-fit 2 (omega arith))
+backward-requires-3 c κs = subst (λ l. Twiddles 2175 2442639231 l 960) (sym (c .before .before .before .before .before .before .before .before .pre)) (backs-fit 2 (omega arith))
 
 remainders-requires-3 : tie.Need-remainders-requires-3
 remainders-requires-3 c κs =
     let s = c .before .before .before .before .before .before .before .before .before .args in
-    let e : c .backward3 .result ≡ backwardOf 2175 twiddleTable 384 (s .sums .third) = c .backward3 .ensures ∙ ap (λ l. backwardOf 2175 l 384 (s .sums .third)) (c .before .before .before .before .before .before .before .before .before .pre) in
+    let e : c .backward3 .result ≡ backwardOf 2175 2442639231 twiddleTable 960 (s .sums .third) = c .backward3 .ensures ∙ ap (λ l. backwardOf 2175 2442639231 l 960 (s .sums .third)) (c .before .before .before .before .before .before .before .before .before .pre) in
     let sums : (k : ℕ) → k < 64 → getD (s .sums .third) k 0 < 2 ^ 64 = λ k l. let f : Fits w64 (getD (s .sums .third) k 0) = search needs in omega arith in
     (omega arith, omega arith, omega arith, λ k l. subst (λ y. getD y k 0 ≤ 285600000) (sym e) (back-small 2 (omega arith) (s .sums .third) sums k l))
 
@@ -59,10 +59,10 @@ unfolding scaledOf backOf
 returns c =
     c .join-all .ensures
     ∙ ap₂ (λ x y. joinedOf x y (c .before .remainders3 .result))
-    (c .before .before .before .before .before .remainders .ensures ∙ ap (remaindersOf 639 132119947 113276202) (c .before .before .before .before .before .before .backward .ensures ∙ ap (λ l. backwardOf 639 l 0 (c .before .before .before .before .before .before .before .before .before .before .before .args .sums .first)) (c .before .before .before .before .before .before .before .before .before .before .before .pre)))
-    (c .before .before .before .remainders2 .ensures ∙ ap (remaindersOf 2047 132118561 4063362) (c .before .before .before .before .backward2 .ensures ∙ ap (λ l. backwardOf 2047 l 192 (c .before .before .before .before .before .before .before .before .before .before .before .args .sums .second)) (c .before .before .before .before .before .before .before .before .before .before .before .pre)))
+    (c .before .before .before .before .before .remainders .ensures ∙ ap (remaindersOf 639 132119947 113276202) (c .before .before .before .before .before .before .backward .ensures ∙ ap (λ l. backwardOf 639 3898195327 l 576 (c .before .before .before .before .before .before .before .before .before .before .before .args .sums .first)) (c .before .before .before .before .before .before .before .before .before .before .before .pre)))
+    (c .before .before .before .remainders2 .ensures ∙ ap (remaindersOf 2047 132118561 4063362) (c .before .before .before .before .backward2 .ensures ∙ ap (λ l. backwardOf 2047 130021375 l 768 (c .before .before .before .before .before .before .before .before .before .before .before .args .sums .second)) (c .before .before .before .before .before .before .before .before .before .before .before .pre)))
     ∙ ap (joinedOf (scaledOf 0 (c .before .before .before .before .before .before .before .before .before .before .before .args .sums .first)) (scaledOf 1 (c .before .before .before .before .before .before .before .before .before .before .before .args .sums .second)))
-    (c .before .remainders3 .ensures ∙ ap (remaindersOf 2175 132118435 24000906) (c .before .before .backward3 .ensures ∙ ap (λ l. backwardOf 2175 l 384 (c .before .before .before .before .before .before .before .before .before .before .before .args .sums .third)) (c .before .before .before .before .before .before .before .before .before .before .before .pre)))
+    (c .before .remainders3 .ensures ∙ ap (remaindersOf 2175 132118435 24000906) (c .before .before .backward3 .ensures ∙ ap (λ l. backwardOf 2175 2442639231 l 960 (c .before .before .before .before .before .before .before .before .before .before .before .args .sums .third)) (c .before .before .before .before .before .before .before .before .before .before .before .pre)))
 
 pub back-spec : {M : Type 1} → statement M
 back-spec =

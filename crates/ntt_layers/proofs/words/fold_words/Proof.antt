@@ -8,7 +8,6 @@ use Rattle.lists.specs.Table.{padded}
 use Rattle.lists.proofs.Padded.{padded-none, padded-next, padded-done}
 use Rattle.ntt_layers.specs.Fold.{fold}
 use Rattle.ntt_layers.specs.Words.{foldedOf}
-use Rattle.ntt_layers.proofs.Folds.{fold-word}
 use Rattle.ntt_layers.proofs.words.fold_words.Statement.{statement}
 use Rattle.ntt_layers.proofs.words.fold_words.Tie as tie
 
@@ -21,14 +20,8 @@ abbrev μ-loop : tie.MeasureT-loop
 loop-holds : tie.Need-loop-holds Inv-loop μ-loop
 loop-holds c = (omega arith, padded-none 64 0 _)
 
-fold-requires : tie.Need-fold-requires Inv-loop μ-loop
-fold-requires c κs = (omega (arith, c .wide .ensures .1), c .before .before .before .pre)
-
-cast-out : tie.Need-cast-out Inv-loop μ-loop
-cast-out c = omega (arith, c .fold .ensures, fold-word (c .before .before .before .before .args .d) (c .before .wide .result) (c .before .before .before .before .pre) (c .before .wide .ensures .1))
-
 loop-again : tie.Need-loop-again Inv-loop μ-loop
-loop-again c = (omega arith, padded-next 64 0 _ _ _ _ (c .before .before .before .loop .inv .1) (omega arith) (c .fold .ensures ∙ ap (fold (c .before .before .before .before .args .d)) (c .before .wide .ensures .0)))
+loop-again c = (omega arith, padded-next 64 0 _ _ _ _ (c .before .before .loop .inv .1) (omega arith) (c .fold-word .ensures))
 
 returns : tie.Need-returns Inv-loop μ-loop
 unfolding foldedOf
@@ -43,9 +36,8 @@ fold-words-spec =
     loop-holds
     (λ c. omega arith)
     (λ c. omega arith)
-    (λ c κs. search needs)
-    fold-requires
-    cast-out
+    (λ c. omega (arith, c .before .before .pre))
+    (λ c κs. c .before .before .pre)
     (λ c. omega arith)
     (λ c. omega arith)
     (λ c. omega arith)

@@ -1,15 +1,15 @@
 -- `remainders` meets its contract. The invariant: the first k entries are the definition's, and the later ones zero.
-use mathlib.Core.Path.{_≡_, _∙_, ap}
-use Prim.Native.Nat.{_+_, _-_, _*_, _%_, _≤_}
+use mathlib.Core.Path.{_≡_, _∙_, ap, ap₂}
+use Prim.Native.Nat.{ℕ, _+_, _-_, _*_, _%_, _≤_, _<_}
 use native.Mathlib.Omega.{arith}
 use borrow.Author.Needs.{needs}
-use lib.ListN.{getD, set}
+use lib.ListN.{getD}
 use Rattle.lists.specs.Table.{padded}
 use Rattle.lists.proofs.Padded.{padded-none, padded-next, padded-done}
-use Rattle.ntt_layers.specs.Fold.{prime, fold}
+use Rattle.ntt_layers.specs.Fold.{prime}
 use Rattle.ntt_layers.specs.Words.{remaindersOf}
-use native.Mathlib.Nat.{mul-le-mul, mod-lt}
-use Rattle.ntt_layers.proofs.Folds.{prime-pos}
+use native.Mathlib.Nat.{mul-le-mul}
+use Rattle.ntt_layers.proofs.Folds.{reduced-mod}
 use Rattle.ntt_layers.proofs.words.remainders.Statement.{statement}
 use Rattle.ntt_layers.proofs.words.remainders.Tie as tie
 
@@ -22,36 +22,35 @@ abbrev μ-loop : tie.MeasureT-loop
 loop-holds : tie.Need-loop-holds Inv-loop μ-loop
 loop-holds c = (omega arith, padded-none 64 0 _)
 
-mul-remainder : tie.Need-mul-remainder Inv-loop μ-loop
-mul-remainder c =
-    let h = c .before .before .before .pre in
-    let x : c .wide .result ≤ 285600000 = omega (arith, c .wide .ensures .0, h .3 (c .before .before .loop .k) (omega arith)) in
-    let q : c .wide .result * c .before .before .before .args .factor ≤ 285600000 * 134217727 = mul-le-mul {n₁ = c .wide .result} {m₁ = c .before .before .before .args .factor} {n₂ = 285600000} {m₂ = 134217727} x (omega (arith, h .1)) in
-    omega arith
+-- the product that is reduced
+within : (x factor offset : ℕ) → x ≤ 285600000 → factor < 134217728 → offset < 134217728 → x * (factor % 4294967296) + offset < 576460752303423488
+within x factor offset hx hf ho = omega (arith, mul-le-mul {n₁ = x} {m₁ = factor % 4294967296} {n₂ = 285600000} {m₂ = 134217727} hx (omega arith))
 
-add-remainder : tie.Need-add-remainder Inv-loop μ-loop
-add-remainder c =
-    let h = c .before .before .before .pre in
-    let x : c .wide .result ≤ 285600000 = omega (arith, c .wide .ensures .0, h .3 (c .before .before .loop .k) (omega arith)) in
-    let q : c .wide .result * c .before .before .before .args .factor ≤ 285600000 * 134217727 = mul-le-mul {n₁ = c .wide .result} {m₁ = c .before .before .before .args .factor} {n₂ = 285600000} {m₂ = 134217727} x (omega (arith, h .1)) in
-    omega (arith, h .2)
+small : (c : tie.After-wide Inv-loop μ-loop) → c .wide .result ≤ 285600000
+small c = omega (arith, c .wide .ensures .0, c .before .before .before .pre .3 (c .before .before .loop .k) (omega arith))
 
-remainder-requires : tie.Need-remainder-requires Inv-loop μ-loop
-remainder-requires c κs =
-    let h = c .before .before .before .pre in
-    let x : c .wide .result ≤ 285600000 = omega (arith, c .wide .ensures .0, h .3 (c .before .before .loop .k) (omega arith)) in
-    let q : c .wide .result * c .before .before .before .args .factor ≤ 285600000 * 134217727 = mul-le-mul {n₁ = c .wide .result} {m₁ = c .before .before .before .args .factor} {n₂ = 285600000} {m₂ = 134217727} x (omega (arith, h .1)) in
-    (omega (arith, h .2), h .0)
+mul-reduce : tie.Need-mul-reduce Inv-loop μ-loop
+mul-reduce c = omega (arith, within (c .wide .result) (c .before .before .before .args .factor) 0 (small c) (c .before .before .before .pre .1) (omega arith))
 
-cast-out : tie.Need-cast-out Inv-loop μ-loop
-cast-out c =
-    let s = c .before .before .before .before .args in
-    omega (arith, c .remainder .ensures, mod-lt (c .before .wide .result * s .factor + s .offset) (prime-pos (s .d) (c .before .before .before .before .pre .0)))
+add-reduce : tie.Need-add-reduce Inv-loop μ-loop
+add-reduce c = omega (arith, within (c .wide .result) (c .before .before .before .args .factor) (c .before .before .before .args .offset) (small c) (c .before .before .before .pre .1) (c .before .before .before .pre .2))
+
+reduce-requires : tie.Need-reduce-requires Inv-loop μ-loop
+reduce-requires c κs =
+    (within (c .wide .result) (c .before .before .before .args .factor) (c .before .before .before .args .offset) (small c) (c .before .before .before .pre .1) (c .before .before .before .pre .2), c .before .before .before .pre .0)
 
 loop-again : tie.Need-loop-again Inv-loop μ-loop
 loop-again c =
-    let s = c .before .before .before .before .args in
-    (omega arith, padded-next 64 0 _ _ _ _ (c .before .before .before .loop .inv .1) (omega arith) (c .remainder .ensures ∙ ap (λ x. (x * s .factor + s .offset) % prime (s .d)) (c .before .wide .ensures .0)))
+    let s = c .before .before .before .before .before .args in
+    let h = c .before .before .before .before .before .pre in
+    let f : s .factor % 4294967296 ≡ s .factor = omega (arith, h .1) in (
+      omega arith,
+      padded-next 64 0 _ _ _ _ (c .before .before .before .before .loop .inv .1) (omega arith)
+          (c .rest .ensures
+          ∙ ap (λ x. x % prime (s .d)) (c .before .reduce .ensures .0)
+          ∙ reduced-mod (s .d) (c .before .before .wide .result * (s .factor % 4294967296) + s .offset) (h .0)
+          ∙ ap₂ (λ x y. (x * y + s .offset) % prime (s .d)) (c .before .before .wide .ensures .0) f),
+    )
 
 returns : tie.Need-returns Inv-loop μ-loop
 unfolding remaindersOf
@@ -67,10 +66,12 @@ remainders-spec =
     (λ c. omega arith)
     (λ c. omega arith)
     (λ c κs. search needs)
-    mul-remainder
-    add-remainder
-    remainder-requires
-    cast-out
+    mul-reduce
+    add-reduce
+    reduce-requires
+    (λ c. omega (arith, c .reduce .ensures .1))
+    (λ c. omega (arith, c .before .before .before .before .pre .0))
+    (λ c κs. (c .reduce .ensures .1, c .before .before .before .before .pre .0))
     (λ c. omega arith)
     (λ c. omega arith)
     (λ c. omega arith)
