@@ -25,18 +25,18 @@ opposite zero = 3898195327
 opposite (suc zero) = 130021375
 opposite (suc (suc i)) = 2442639231
 
--- 2^32 modulo it
-abbrev pub scale : ℕ → ℕ
-scale i = 4294967296 % prime (delta i)
-
--- the entry of the table after entry k: 2^32 where a prime begins, else the one before times the root
+-- the entry of the table after entry k: 1 where a prime begins, else the one before times the root
 abbrev pub next : ℕ → ℕ → ℕ
-next k before = cond (eqb (suc k % 128) 0) (scale (suc k / 128)) (before * root (suc k / 128) % prime (delta (suc k / 128)))
+next k before = cond (eqb (suc k % 128) 0) 1 (before * root (suc k / 128) % prime (delta (suc k / 128)))
 
--- entry k of the table: power k mod 128 of root k / 128, times 2^32
+-- entry k of the table: power k mod 128 of root k / 128
 unfoldable pub entry : ℕ → ℕ
-entry zero = scale 0
+entry zero = 1
 entry (suc k) = next k (entry k)
+
+-- entry k times 2^32, modulo its prime
+unfoldable pub scaled : ℕ → ℕ
+scaled k = entry k * 4294967296 % prime (delta (k / 128))
 
 -- where the power stands that layer j of prime i takes at t, for m = 192·i + 32·j + t
 abbrev pub layerIndex : ℕ → ℕ
@@ -46,9 +46,9 @@ layerIndex m = m / 192 * 128 + exponent (m % 192 / 32) (m % 192 % 32) / 2
 abbrev pub indexOf : ℕ → ℕ
 indexOf m = layerIndex (cond (ltb m 576) m ((m - 576) / 32 * 32 + (31 - (m - 576) % 32)))
 
--- that power
+-- that power, times 2^32
 unfoldable pub twiddle : ℕ → ℕ
-twiddle m = entry (indexOf m)
+twiddle m = scaled (indexOf m)
 
 -- all of them
 unfoldable pub twiddleTable : List ℕ
