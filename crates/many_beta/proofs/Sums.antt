@@ -1,10 +1,10 @@
 -- φ is alpha's part with beta's added, element by element; what a step requires and leaves.
 use mathlib.Core.Path.{_≡_, refl, sym, ap, ap₂, subst, _∙_}
-use mathlib.Core.List.{List}
+use mathlib.Core.List.{List, _++_}
 use Prim.Native.Nat.{ℕ, _+_, _*_, _≤_, _<_, _^_}
 use native.Mathlib.Nat.{mul-le-mul}
 use native.Mathlib.Omega.{arith}
-use lib.ListN.{length}
+use lib.ListN.{length, length-append}
 use Rattle.lists.specs.Part.{part, splice}
 use Rattle.lists.proofs.Splice.{part-splice-before}
 use Rattle.algebra.specs.Ops as Ops
@@ -23,10 +23,10 @@ use Rattle.aggregate.proofs.Grid.{row-run}
 use Rattle.aggregate.proofs.Laws.{randomness-at}
 use Rattle.workspace.specs.Ready.{Ready, Drawn}
 use Rattle.workspace.specs.Holds.{Holds}
-use Rattle.workspace.specs.Aggregated.{φ″-words, φ-words}
-use Rattle.workspace.proofs.Holds.{vectors-held, vectors-list-held}
+use Rattle.workspace.specs.Aggregated.{a″-words, φ″-words, φ-words}
+use Rattle.workspace.proofs.Holds.{holds-after, vectors-held, vectors-list-held}
 use Rattle.workspace.proofs.Aggregated.{table-vectors}
-use Rattle.workspace.proofs.Ready.{φ″-end, a″-end, φ-end, a-end, g-end, c-end, t-end, u-end, b″-end, beta-within}
+use Rattle.workspace.proofs.Ready.{length-φ″, length-a″, φ″-end, a″-end, φ-end, a-end, g-end, c-end, t-end, u-end, b″-end, beta-within}
 use Rattle.many_phi.specs.AlphaPart.{alpha-part, alpha-words}
 use Rattle.many_beta.specs.Beta.{beta-part, added-words, Addable}
 
@@ -61,6 +61,13 @@ module _ (J R S : List ℕ) (p : EnvironmentParameters) (q : Regions) (ready : R
     where
       both : ℕ → Element
       both c = run S (q .phi) 64 c ⊕ beta-part R (randomness-at J 4) S (q .phi2) (P .r * P .n) (P .L) c
+
+  -- φ'' and a'' are stored before φ
+  pub double-leaves-φ : (S′ : List ℕ) → S′ ≡ splice S 0 (φ″-words J R ++ a″-words J R) → Holds S (q .phi) (alpha-words J R) → Holds S′ (q .phi) (alpha-words J R)
+  double-leaves-φ S′ e h =
+      subst (λ l. Holds l (q .phi) (alpha-words J R)) (sym e)
+      (holds-after S (q .phi) (alpha-words J R) 0 (φ″-words J R ++ a″-words J R)
+      (omega (arith, length-append (φ″-words J R) (a″-words J R), length-φ″ J R, length-a″ J R, ready .regions .first, φ″-end J p q S ready, a″-end J p q S ready)) h)
 
   -- by the parameters and the place that the code holds
   module _ (at : ℕ) (e : at ≡ start (randomness-sections (parametersOf p)) 4) where

@@ -1,17 +1,24 @@
 // φ of a transcript whose window may hold alpha's part of it (document 02, Item 11): beta's part is added there, or φ is made as in the single call.
+use definitions::answers::Checked;
 use inner_product;
 use regions::Regions;
 use relation::env_params::EnvironmentParameters;
 use sizes::offsets;
+use verifier_relations::relations;
 use words;
 use workspace;
 ghost use mathlib.Core.Path.{_≡_};
-ghost use mathlib.Core.Bool.{true};
 ghost use Rattle.lists.specs.Part.{splice};
+ghost use Rattle.definitions.specs.Answer.{ofChecked};
+ghost use Rattle.protocol.specs.Parameters.{parameters};
+ghost use Rattle.protocol.specs.Layout.{scratch-need};
 ghost use Rattle.workspace.specs.Ready.{Ready, Drawn};
-ghost use Rattle.workspace.specs.Holds.{Holds};
+ghost use Rattle.workspace.specs.Holds.{Holds, Kept};
 ghost use Rattle.workspace.specs.Aggregated.{φ″-words, φ-words};
-ghost use Rattle.many_phi.specs.AlphaPart.{alpha-words};
+ghost use Rattle.verifier_common.specs.Work.{Sent};
+ghost use Rattle.verifier_relations.specs.Held.{Challenged};
+ghost use Rattle.verifier_relations.specs.Order.{aggregated};
+ghost use Rattle.many_phi.specs.AlphaPart.{Alpha-if};
 ghost use Rattle.many_beta.specs.Beta.{added-words, Addable};
 
 // The aggregated elements weighed by beta added to those of a region behind them.
@@ -54,7 +61,7 @@ pub fn phi(
     weighed: bool,
 )
     requires { ⌜ Ready (now job) p q (now window) × Drawn 5 (now job) (now randomness) × Holds (now window) (q .phi2) (φ″-words (now job) (now randomness)) ⌝ }
-    requires { ⌜ (weighed ≡ true → Holds (now window) (q .phi) (alpha-words (now job) (now randomness))) ⌝ }
+    requires { ⌜ Alpha-if weighed (now job) (now randomness) (q .phi) (now window) ⌝ }
     ensures { λ _. ⌜ now (window .exit) ≡ splice (now (window .entry)) (q .phi) (φ-words (now (job .entry)) (now (randomness .entry))) ⌝ }
 {
     if weighed {
@@ -72,4 +79,24 @@ pub fn phi(
     } else {
         workspace::phi(job, randomness, p, q, window);
     }
+}
+
+// 26 and 27, in order, of the aggregated constraints.
+pub fn check_aggregated(
+    job: &[u32],
+    randomness: &[u32],
+    transcript: &[u32],
+    p: EnvironmentParameters,
+    q: Regions,
+    window: &mut [u32],
+    weighed: bool,
+) -> Checked
+    requires { ⌜ Sent (now job) (now randomness) (now transcript) p × Ready (now job) p q (now window) × Challenged (now job) (now randomness) q (now window) ⌝ }
+    requires { ⌜ Alpha-if weighed (now job) (now randomness) (q .phi) (now window) ⌝ }
+    ensures { λ v. ⌜ ofChecked v ≡ aggregated (now (job .entry)) (now (randomness .entry)) (now (transcript .entry)) ⌝ }
+    ensures { λ v. ⌜ Kept (scratch-need (parameters (now (job .entry)))) (now (window .entry)) (now (window .exit)) ⌝ }
+{
+    workspace::double_prime(job, randomness, p, q, window);
+    phi(job, randomness, p, q, window, weighed);
+    relations::check_phi_and_relation(job, randomness, transcript, p, q, window)
 }

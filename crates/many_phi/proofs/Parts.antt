@@ -47,6 +47,12 @@ alphas-within : (P : Parameters) → start (randomness-sections P) 3 + 64 * P .K
 unfolding start span
 alphas-within P = omega arith
 
+-- r·n elements
+pub length-alpha : (J R : List ℕ) → length (alpha-words J R) ≡ 64 * (parameters J .r * parameters J .n)
+length-alpha J R =
+    let P = parameters J in
+    length-flat (rows (P .r) (P .n) (alpha-part J R)) ∙ ap (λ n. 64 * n) (length-rows (P .r) (alpha-part J R) (P .n))
+
 module _ (J : List ℕ) (count : ℕ) (R : List ℕ) where
   abbrev P : Parameters
   P = parameters J
@@ -77,7 +83,7 @@ module _ (J : List ℕ) (count : ℕ) (R : List ℕ) where
   pub parts-are : (S : List ℕ) → Weighed (windows-of P count) J (job-at J 4) R S (P .r * P .n) → Alpha-parts J count R S
   parts-are S w m h =
       let ws = alpha-words J (randomness-part P count R m) in
-      let size : length ws ≡ 64 * (P .r * P .n) = length-flat (rows (P .r) (P .n) (alpha-part J (randomness-part P count R m))) ∙ ap (λ n. 64 * n) (length-rows (P .r) (alpha-part J (randomness-part P count R m)) (P .n)) in
+      let size = length-alpha J (randomness-part P count R m) in
       part-of-part S (m * scratch-need P) (scratch-need P) (phi-at P) (length ws) (omega (arith, size, phi-end)) ∙ subst (λ ws. Holds S (m * scratch-need P + phi-at P) ws) (words-are m) (w m h)
 
   -- what `weigh` requires

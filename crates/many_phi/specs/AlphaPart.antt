@@ -1,6 +1,6 @@
 -- The part of φ that alpha weighs, in the windows of all transcripts.
 use mathlib.Core.Path.{_≡_}
-use mathlib.Core.Bool.{Bool, false, cond}
+use mathlib.Core.Bool.{Bool, true, false, cond}
 use mathlib.Core.List.{List}
 use Prim.Native.Nat.{ℕ, _+_, _*_, _≤_, _<_}
 use lib.Dec.{ltb, leb}
@@ -22,6 +22,10 @@ module _ (J R : List ℕ) where
   -- r vectors of them
   abbrev pub alpha-words : List ℕ
   alpha-words = flat (rows (parameters J .r) (parameters J .n) alpha-part)
+
+-- where a flag is set, it stands in a slice from a place on
+abbrev pub Alpha-if : Bool → (J R : List ℕ) → (at : ℕ) → List ℕ → Type 0
+Alpha-if weighed J R at S = weighed ≡ true → Holds S at (alpha-words J R)
 
 -- where φ stands in a window: after φ'' and a''
 abbrev pub phi-at : Parameters → ℕ
