@@ -1,5 +1,6 @@
 -- What stores into the windows of a scratch leave, and what they add.
 use mathlib.Core.Path.{_≡_, refl, sym, ap, ap₂, subst, _∙_}
+use mathlib.Core.Bool.{Bool, true, false, true≢false}
 use mathlib.Core.Logic.{_⊎_, inl, inr}
 use mathlib.Core.List.{List, [], _∷_, _++_, flatMap}
 use Prim.Native.Nat.{ℕ, _+_, _-_, _*_, _≤_, _<_}
@@ -11,7 +12,7 @@ use lib.Seq.{take-add, drop-drop}
 use Rattle.lists.specs.Table.{table}
 use Rattle.lists.specs.Part.{part, splice}
 use Rattle.lists.proofs.Table.{table-suc}
-use Rattle.lists.proofs.Splice.{length-splice, length-part, getD-part, part-splice-before, part-splice-after, part-splice-same}
+use Rattle.lists.proofs.Splice.{length-part, getD-part, part-splice-before, part-splice-after, part-splice-same}
 use Rattle.algebra.proofs.Dot.{dot-ext}
 use Rattle.definitions.specs.Rq.{Element}
 use Rattle.definitions.specs.Ring.{RqOps, words, element}
@@ -83,6 +84,14 @@ holds-next S at n f size h e =
     ∙ take-add (length a) (length (words (f n))) (drop at S)
     ∙ ap₂ _++_ h (ap (take (length (words (f n)))) (drop-drop (length a) at S) ∙ ap₂ (λ p m. part S p m) (ap (λ x. at + x) size) (length-words (f n)) ∙ e))
 
+-- one of the first m + 1 that takes part is one of the first m, where that one does not
+below : (takes : ℕ → Bool) (m i : ℕ) → takes m ≡ false → i < m + 1 → takes i ≡ true → i < m
+below takes m i no-part l t = by (decLt i m)
+  where
+    by : Dec (i < m) → i < m
+    by (yes less) = less
+    by (no more) = let same : m ≡ i = omega arith in absurd (true≢false (sym t ∙ ap takes (sym same) ∙ no-part))
+
 module _ (v : Windows) where
   -- a store at the start of a window
   module _ (S₀ S S′ : List ℕ) (m place : ℕ) (new : List ℕ) (at : place ≡ m * v .need) (small : length new + 4096 ≤ v .need) (h : m < v .count) (e : S′ ≡ splice S place new) where
@@ -104,22 +113,26 @@ module _ (v : Windows) where
   beside-trans S S′ S″ a b = record { products = λ i l. b .products i l ∙ a .products i l; kept = kept-trans (v .count * v .need) S S′ S″ (a .kept) (b .kept) }
 
   -- one more transcript's alphas
-  pub alphas-next : (R S S′ : List ℕ) (m place from : ℕ) → place ≡ m * v .need → from ≡ m * v .len + v .alpha → 192 * v .k ≤ v .need → S′ ≡ splice S place (kept-words R from (v .k)) → Keeps S′ place R from (v .k)
-      → Alphas v R S m → Alphas v R S′ (m + 1)
-  alphas-next R S S′ m place from p f small e k before i l = by (decLt i m)
+  pub alphas-next : (takes : ℕ → Bool) (R S S′ : List ℕ) (m place from : ℕ) → place ≡ m * v .need → from ≡ m * v .len + v .alpha → 192 * v .k ≤ v .need → S′ ≡ splice S place (kept-words R from (v .k)) → Keeps S′ place R from (v .k)
+      → Alphas v takes R S m → Alphas v takes R S′ (m + 1)
+  alphas-next takes R S S′ m place from p f small e k before i l t = by (decLt i m)
     where
       by : Dec (i < m) → Keeps S′ (i * v .need) R (i * v .len + v .alpha) (v .k)
-      by (yes less) = keeps-before S (i * v .need) R (i * v .len + v .alpha) S′ place (kept-words R from (v .k)) (v .k) e (omega (arith, p, rows-within i m (v .need) less)) (before i less)
+      by (yes less) = keeps-before S (i * v .need) R (i * v .len + v .alpha) S′ place (kept-words R from (v .k)) (v .k) e (omega (arith, p, rows-within i m (v .need) less)) (before i less t)
       by (no more) =
           let same : m ≡ i = omega arith in
           subst (λ i. Keeps S′ (i * v .need) R (i * v .len + v .alpha) (v .k)) same (subst (λ q. Keeps S′ q R (m * v .len + v .alpha) (v .k)) p (subst (λ q. Keeps S′ place R q (v .k)) f k))
 
-  pub stored-none : (S column : List ℕ) (at : ℕ) → Stored v S column at S 0
-  stored-none S column at = record { stored = λ i l. absurd (omega arith); others = λ i o m h d. refl; kept = kept-refl (v .count * v .need) S }
+  -- one that takes no part
+  pub alphas-skip : (takes : ℕ → Bool) (R S : List ℕ) (m : ℕ) → takes m ≡ false → Alphas v takes R S m → Alphas v takes R S (m + 1)
+  alphas-skip takes R S m no-part before i l t = before i (below takes m i no-part l t) t
+
+  pub stored-none : (takes : ℕ → Bool) (S column : List ℕ) (at : ℕ) → Stored v takes S column at S 0
+  stored-none takes S column at = record { stored = λ i l. absurd (omega arith); others = λ i o m h d. refl; kept = kept-refl (v .count * v .need) S }
 
   -- one more window's element
-  module _ (S₀ S S′ column : List ℕ) (at m start : ℕ) (new : List ℕ) (p : start ≡ m * v .need) (h : m < v .count) (e : S′ ≡ splice S (start + at) new) (made : new ≡ words (kept-dot S start column 0 (v .k))) (g : Storable v S₀ column at)
-      (before : Stored v S₀ column at S m) where
+  module _ (takes : ℕ → Bool) (S₀ S S′ column : List ℕ) (at m start : ℕ) (new : List ℕ) (p : start ≡ m * v .need) (h : m < v .count) (e : S′ ≡ splice S (start + at) new) (made : new ≡ words (kept-dot S start column 0 (v .k))) (g : Storable v takes S₀ column at)
+      (before : Stored v takes S₀ column at S m) where
     size : length new ≡ 64
     size = ap length made ∙ length-words (kept-dot S start column 0 (v .k))
 
@@ -143,36 +156,40 @@ module _ (v : Windows) where
     others-next i o n l (inl d) (no a) (no b) = let k : i ≡ m = omega arith in part-splice-before 0 S (start + at) new (i * v .need + o) n (omega (arith, p, ap (λ i. i * v .need) k))
     others-next i o n l (inr d) (no a) (no b) = let k : i ≡ m = omega arith in part-splice-after 0 S (start + at) new (i * v .need + o) n (omega (arith, p, size, ap (λ i. i * v .need) k))
 
-    pub stored-next : Stored v S₀ column at S′ (m + 1)
+    pub stored-next : Stored v takes S₀ column at S′ (m + 1)
     stored-next = record {
-      stored = λ i l. by i l (decLt i m);
+      stored = λ i l t. by i l t (decLt i m);
       others = λ i o n l d. ap (λ x. part x (i * v .need + o) n) e ∙ others-next i o n l d (decLt i m) (decLt m i) ∙ before .others i o n l d;
       kept = kept-stored (v .count * v .need) S₀ S S′ (start + at) new (before .kept) e (omega (arith, p, size, g .inside, rows-within m (v .count) (v .need) h));
     }
       where
-        by : (i : ℕ) → i < m + 1 → Dec (i < m) → part S′ (i * v .need + at) 64 ≡ words (kept-dot S₀ (i * v .need) column 0 (v .k))
-        by i l (yes less) =
+        by : (i : ℕ) → i < m + 1 → takes i ≡ true → Dec (i < m) → part S′ (i * v .need + at) 64 ≡ words (kept-dot S₀ (i * v .need) column 0 (v .k))
+        by i l t (yes less) =
             ap (λ x. part x (i * v .need + at) 64) e
             ∙ part-splice-before 0 S (start + at) new (i * v .need + at) 64 (omega (arith, p, g .inside, rows-within i m (v .need) less))
-            ∙ before .stored i less
-        by i l (no more) =
+            ∙ before .stored i less t
+        by i l t (no more) =
             let k : m ≡ i = omega arith in
             subst (λ i. part S′ (i * v .need + at) 64 ≡ words (kept-dot S₀ (i * v .need) column 0 (v .k))) k
             (ap₂ (λ x q. part x (q + at) 64) e (sym p) ∙ ap (λ n. part (splice S (start + at) new) (start + at) n) (sym size) ∙ part-splice-same 0 S (start + at) new (omega (arith, size, within)) ∙ made ∙ ap words same-dot)
 
+  -- the next window, left out
+  pub stored-skip : (takes : ℕ → Bool) (S₀ S column : List ℕ) (at m : ℕ) → takes m ≡ false → Stored v takes S₀ column at S m → Stored v takes S₀ column at S (m + 1)
+  stored-skip takes S₀ S column at m no-part before = record { stored = λ i l t. before .stored i (below takes m i no-part l t) t; others = before .others; kept = before .kept }
+
   -- none yet
-  pub weighed-none : (J : List ℕ) (place : ℕ) (R S : List ℕ) → Weighed v J place R S 0
+  pub weighed-none : (takes : ℕ → Bool) (J : List ℕ) (place : ℕ) (R S : List ℕ) → Weighed v takes J place R S 0
   unfolding table flatMap flat
-  weighed-none J place R S i l = refl
+  weighed-none takes J place R S i l t = refl
 
   -- a column's elements stored in all windows
-  module _ (J : List ℕ) (place : ℕ) (R S S′ column : List ℕ) (c r s : ℕ) (fit : Fitting v r s) (h : c < v .width) (col : Column column J (place + 64 * c) (64 * v .width) (v .k)) (done : Stored v S column (v .phi + 64 * c) S′ (v .count)) where
+  module _ (takes : ℕ → Bool) (J : List ℕ) (place : ℕ) (R S S′ column : List ℕ) (c r s : ℕ) (fit : Fitting v r s) (h : c < v .width) (col : Column column J (place + 64 * c) (64 * v .width) (v .k)) (done : Stored v takes S column (v .phi + 64 * c) S′ (v .count)) where
     abbrev at : ℕ
     at = v .phi + 64 * c
 
-    pub alphas-stay : Alphas v R S (v .count) → Alphas v R S′ (v .count)
-    alphas-stay a i l =
-        keeps-same S S′ (i * v .need) R (i * v .len + v .alpha) (v .k) (done .kept .size) (λ o m b. done .others i o m (omega (arith, fit .values, fit .elements)) (inl (omega (arith, fit .values)))) (a i l)
+    pub alphas-stay : Alphas v takes R S (v .count) → Alphas v takes R S′ (v .count)
+    alphas-stay a i l t =
+        keeps-same S S′ (i * v .need) R (i * v .len + v .alpha) (v .k) (done .kept .size) (λ o m b. done .others i o m (omega (arith, fit .values, fit .elements)) (inl (omega (arith, fit .values)))) (a i l t)
 
     pub beside-stay : (S₀ : List ℕ) → Beside v S₀ S → Beside v S₀ S′
     beside-stay S₀ b = beside-trans S₀ S S′ b record {
@@ -180,11 +197,11 @@ module _ (v : Windows) where
       kept = done .kept;
     }
 
-    pub weighed-next : Alphas v R S (v .count) → Weighed v J place R S c → Weighed v J place R S′ (c + 1)
-    weighed-next a w i l =
+    pub weighed-next : Alphas v takes R S (v .count) → Weighed v takes J place R S c → Weighed v takes J place R S′ (c + 1)
+    weighed-next a w i l t =
         holds-next S′ (i * v .need + v .phi) c (alpha-element v J place R i) size
-        (ap (λ n. part S′ (i * v .need + v .phi) n) size ∙ done .others i (v .phi) (64 * c) (omega (arith, fit .elements, h)) (inl (omega arith)) ∙ ap (λ n. part S (i * v .need + v .phi) n) (sym size) ∙ w i l)
-        (ap (λ q. part S′ q 64) there ∙ done .stored i l ∙ ap words product)
+        (ap (λ n. part S′ (i * v .need + v .phi) n) size ∙ done .others i (v .phi) (64 * c) (omega (arith, fit .elements, h)) (inl (omega arith)) ∙ ap (λ n. part S (i * v .need + v .phi) n) (sym size) ∙ w i l t)
+        (ap (λ q. part S′ q 64) there ∙ done .stored i l t ∙ ap words product)
       where
         size : length (flat (table c (alpha-element v J place R i))) ≡ 64 * c
         size = length-flat-table c (alpha-element v J place R i)
@@ -194,6 +211,6 @@ module _ (v : Windows) where
 
         product : kept-dot S (i * v .need) column 0 (v .k) ≡ alpha-element v J place R i c
         product =
-            kept-dot-is S (i * v .need) R (i * v .len + v .alpha) column 0 (col .gathered) 0 (v .k) (fit .few) (a i l) (col .keeps)
+            kept-dot-is S (i * v .need) R (i * v .len + v .alpha) column 0 (col .gathered) 0 (v .k) (fit .few) (a i l t) (col .keeps)
             ∙ dot-ext RqOps (v .k) (run R (i * v .len + v .alpha) 64) (run R (i * v .len + v .alpha) 64) (run (col .gathered) 0 64) (run J (place + 64 * c) (64 * v .width)) (λ m b. refl)
             (λ m b. ap (λ q. element (part (col .gathered) q 64)) (zero-add (64 * m)) ∙ ap element (col .same m b))

@@ -1,5 +1,6 @@
 -- The job's φ_k weighed by the alphas of every transcript, in the windows of a scratch.
 use mathlib.Core.Path.{_≡_}
+use mathlib.Core.Bool.{Bool, true}
 use mathlib.Core.Logic.{_⊎_}
 use mathlib.Core.List.{List}
 use Prim.Native.Nat.{ℕ, _+_, _-_, _*_, _≤_, _<_, _^_}
@@ -50,35 +51,37 @@ module _ (v : Windows) where
     pub short : scratch < 2 ^ 61
     pub brief : randomness < 2 ^ 61
 
-  -- the alphas of the first n transcripts are kept, each at its window's start
-  abbrev pub Alphas : (R S : List ℕ) → ℕ → Type 0
-  Alphas R S n = (i : ℕ) → i < n → Keeps S (window-at i) R (alpha-at i) (v .k)
-
-  -- values as small as those of alphas, and a place behind them in every window
-  pub record Storable (S column : List ℕ) (at : ℕ) : Type 0 where
-    pub few : v .k ≤ 64
-    pub values : 192 * v .k ≤ at
-    pub inside : at + 64 ≤ v .need
-    pub room : v .count * v .need ≤ length S
-    pub column-values : AllValues column 0 (v .k)
-    pub alpha-values : (i : ℕ) → i < v .count → AllValues S (window-at i) (v .k)
-
   -- the rows' products, and what lies beyond the windows, are as they were
   pub record Beside (S S′ : List ℕ) : Type 0 where
     pub products : (i : ℕ) → i < v .count → part S′ (window-at i + (v .need - 4096)) 4096 ≡ part S (window-at i + (v .need - 4096)) 4096
     pub kept : Kept (v .count * v .need) S S′
 
-  -- an element is stored in every window at one place: the inner product of alpha with the column; beside it each window is as it was
+  -- element c of the φ_k weighed by the alphas of transcript i
+  abbrev pub alpha-element : (J : List ℕ) → (at : ℕ) → List ℕ → (i c : ℕ) → Element
+  alpha-element J at R i c = weighed-by R (alpha-at i) J (at + 64 * c) (64 * v .width) (v .k)
+
+-- of the transcripts that take part
+module _ (v : Windows) (takes : ℕ → Bool) where
+  -- the alphas of those of the first n are kept, each at its window's start
+  abbrev pub Alphas : (R S : List ℕ) → ℕ → Type 0
+  Alphas R S n = (i : ℕ) → i < n → takes i ≡ true → Keeps S (window-at v i) R (alpha-at v i) (v .k)
+
+  -- values as small as those of alphas, and a place behind them in every window
+  pub record Storable (S column : List ℕ) (at : ℕ) : Type 0 where
+    pub count : v .count ≤ 8
+    pub few : v .k ≤ 64
+    pub values : 192 * v .k ≤ at
+    pub inside : at + 64 ≤ v .need
+    pub room : v .count * v .need ≤ length S
+    pub column-values : AllValues column 0 (v .k)
+    pub alpha-values : (i : ℕ) → i < v .count → takes i ≡ true → AllValues S (window-at v i) (v .k)
+
+  -- an element is stored in their windows at one place: the inner product of alpha with the column; beside it each window is as it was
   pub record Stored (S column : List ℕ) (at : ℕ) (S′ : List ℕ) (n : ℕ) : Type 0 where
-    pub stored : (i : ℕ) → i < n → part S′ (window-at i + at) 64 ≡ words (kept-dot S (window-at i) column 0 (v .k))
-    pub others : (i o m : ℕ) → o + m ≤ v .need → (o + m ≤ at) ⊎ (at + 64 ≤ o) → part S′ (window-at i + o) m ≡ part S (window-at i + o) m
+    pub stored : (i : ℕ) → i < n → takes i ≡ true → part S′ (window-at v i + at) 64 ≡ words (kept-dot S (window-at v i) column 0 (v .k))
+    pub others : (i o m : ℕ) → o + m ≤ v .need → (o + m ≤ at) ⊎ (at + 64 ≤ o) → part S′ (window-at v i + o) m ≡ part S (window-at v i + o) m
     pub kept : Kept (v .count * v .need) S S′
 
-  module _ (J : List ℕ) (at : ℕ) (R : List ℕ) where
-    -- element c of the φ_k weighed by the alphas of transcript i
-    abbrev pub alpha-element : (i c : ℕ) → Element
-    alpha-element i c = weighed-by R (alpha-at i) J (at + 64 * c) (64 * v .width) (v .k)
-
-    -- the first n of them stand in every window
-    abbrev pub Weighed : (S : List ℕ) → ℕ → Type 0
-    Weighed S n = (i : ℕ) → i < v .count → Holds S (window-at i + v .phi) (flat (table n (alpha-element i)))
+  -- the first n elements of the φ_k weighed by alpha stand in each of their windows
+  abbrev pub Weighed : (J : List ℕ) → (at : ℕ) → (R S : List ℕ) → ℕ → Type 0
+  Weighed J at R S n = (i : ℕ) → i < v .count → takes i ≡ true → Holds S (window-at v i + v .phi) (flat (table n (alpha-element v J at R i)))

@@ -1,11 +1,12 @@
-// Σ_k alpha_k·φ_k of every transcript of a call (document 02, Item 11): each φ_k of the job is transformed once, and taken with the alphas of all
-// transcripts, which are kept transformed in their windows of the scratch.
+// Σ_k alpha_k·φ_k of the transcripts of a call that take part (document 02, Item 11): each φ_k of the job is transformed once, and taken with the alphas of
+// all of them, which are kept transformed in their windows of the scratch.
 use kept_vectors;
 use ntt::table;
 use words;
 ghost use mathlib.Core.Path.{_≡_};
+ghost use mathlib.Core.Bool.{false};
 ghost use Prim.Native.Nat.{_*_, _≤_};
-ghost use lib.ListN.{length};
+ghost use lib.ListN.{length, getD};
 ghost use Rattle.inner_product.specs.Run.{Run};
 ghost use Rattle.protocol.specs.Kept.{Kept};
 ghost use Rattle.ntt.specs.Roots.{twiddleTable};
@@ -44,17 +45,19 @@ pub fn gather(from: &[u32], at: usize, step: usize, n: usize, out: &mut [u32])
     }
 }
 
-// The alphas of every transcript, transformed into its window.
-pub fn keep_alphas(randomness: &[u32], v: Windows, w: &[u32], scratch: &mut [u32])
+// The alphas of every transcript that takes part, transformed into its window.
+pub fn keep_alphas(randomness: &[u32], v: Windows, takes: [bool; 8], w: &[u32], scratch: &mut [u32])
     requires { ⌜ (now w ≡ twiddleTable) × Fitting v (length (now randomness)) (length (now scratch)) ⌝ }
-    ensures { λ _. ⌜ Alphas v (now (randomness .entry)) (now (scratch .exit)) (v .count) ⌝ }
+    ensures { λ _. ⌜ Alphas v (λ m. getD takes m false) (now (randomness .entry)) (now (scratch .exit)) (v .count) ⌝ }
     ensures { λ _. ⌜ Beside v (now (scratch .entry)) (now (scratch .exit)) ⌝ }
 {
     let mut from = v.alpha;
     let mut start = 0;
     let mut m = 0;
     while m < v.count {
-        kept_vectors::keep(randomness, from, v.k, w, scratch, start);
+        if takes[m] {
+            kept_vectors::keep(randomness, from, v.k, w, scratch, start);
+        }
         from += v.len;
         start += v.need;
         m += 1;
@@ -72,34 +75,50 @@ pub fn keep_column(from: &[u32], at: usize, step: usize, n: usize, w: &[u32], ou
     kept_vectors::keep(&gathered, 0, n, w, out, 0);
 }
 
-// The inner products of every transcript's alphas with a kept column, each stored at one place of its window.
-pub fn store_element(column: &[u32], v: Windows, at: usize, w: &[u32], scratch: &mut [u32])
-    requires { ⌜ (now w ≡ twiddleTable) × Storable v (now scratch) (now column) at ⌝ }
-    ensures { λ _. ⌜ Stored v (now (scratch .entry)) (now (column .entry)) at (now (scratch .exit)) (v .count) ⌝ }
+// The inner products of their alphas with a kept column, each stored at one place of its window.
+pub fn store_element(
+    column: &[u32],
+    v: Windows,
+    takes: [bool; 8],
+    at: usize,
+    w: &[u32],
+    scratch: &mut [u32],
+)
+    requires { ⌜ (now w ≡ twiddleTable) × Storable v (λ m. getD takes m false) (now scratch) (now column) at ⌝ }
+    ensures { λ _. ⌜ Stored v (λ m. getD takes m false) (now (scratch .entry)) (now (column .entry)) at (now (scratch .exit)) (v .count) ⌝ }
 {
     let mut start = 0;
     let mut m = 0;
     while m < v.count {
-        let e = kept_vectors::inner_product(scratch, start, column, 0, v.k, w);
-        words::store(scratch, start + at, e);
+        if takes[m] {
+            let e = kept_vectors::inner_product(scratch, start, column, 0, v.k, w);
+            words::store(scratch, start + at, e);
+        }
         start += v.need;
         m += 1;
     }
 }
 
-// Σ_k alpha_k·φ_k of every transcript into its window, of the job's φ_k from `at` on.
-pub fn weigh(job: &[u32], at: usize, randomness: &[u32], v: Windows, scratch: &mut [u32])
+// Σ_k alpha_k·φ_k of each of them into its window, of the job's φ_k from `at` on.
+pub fn weigh(
+    job: &[u32],
+    at: usize,
+    randomness: &[u32],
+    v: Windows,
+    takes: [bool; 8],
+    scratch: &mut [u32],
+)
     requires { ⌜ Grid (now job) at (v .width) (v .k) × Fitting v (length (now randomness)) (length (now scratch)) ⌝ }
-    ensures { λ _. ⌜ Weighed v (now (job .entry)) at (now (randomness .entry)) (now (scratch .exit)) (v .width) ⌝ }
+    ensures { λ _. ⌜ Weighed v (λ m. getD takes m false) (now (job .entry)) at (now (randomness .entry)) (now (scratch .exit)) (v .width) ⌝ }
     ensures { λ _. ⌜ Beside v (now (scratch .entry)) (now (scratch .exit)) ⌝ }
 {
     let w = table::twiddles();
     let mut column = [0u32; 12288];
-    keep_alphas(randomness, v, &w, scratch);
+    keep_alphas(randomness, v, takes, &w, scratch);
     let mut c = 0;
     while c < v.width {
         keep_column(job, at + 64 * c, 64 * v.width, v.k, &w, &mut column);
-        store_element(&column, v, v.phi + 64 * c, &w, scratch);
+        store_element(&column, v, takes, v.phi + 64 * c, &w, scratch);
         c += 1;
     }
 }

@@ -14,7 +14,7 @@ use Rattle.definitions.specs.Ring.{RqOps, element}
 use Rattle.inner_product.specs.Run.{run}
 use Rattle.protocol.specs.Parameters.{Parameters, parameters}
 use Rattle.protocol.specs.Layout.{start, randomness-sections}
-use Rattle.protocol.specs.Views.{Public, public, element-at}
+use Rattle.protocol.specs.Views.{Public, public}
 use Rattle.protocol.specs.Formulas.{flat, sum, _⊕_, _⊗_, φ″, φ-sum}
 use Rattle.regions.specs.declared.Regions.{Regions}
 use Rattle.relation.specs.declared.env_params.EnvironmentParameters.{EnvironmentParameters}

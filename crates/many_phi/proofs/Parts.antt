@@ -1,5 +1,5 @@
 -- What stands in the windows, by the job and each transcript's own randomness.
-use mathlib.Core.Path.{_≡_, refl, sym, ap, ap₂, subst, _∙_}
+use mathlib.Core.Path.{_≡_, sym, ap, subst, _∙_}
 use mathlib.Core.Bool.{Bool, true, false, cond}
 use mathlib.Core.List.{List}
 use Prim.Native.Nat.{ℕ, _+_, _*_, _≤_, _<_, _^_}
@@ -13,10 +13,9 @@ use Rattle.lists.specs.Part.{part}
 use Rattle.lists.proofs.Part.{part-of-part}
 use Rattle.algebra.specs.Ops as Ops
 use Rattle.algebra.proofs.Dot.{dot-ext}
-use Rattle.definitions.specs.Rq.{Element}
 use Rattle.definitions.specs.Ring.{RqOps, element}
 use Rattle.inner_product.specs.Run.{run}
-use Rattle.protocol.specs.Parameters.{Parameters, parameters, T}
+use Rattle.protocol.specs.Parameters.{Parameters, parameters}
 use Rattle.protocol.specs.Layout.{span, start, randomness-sections, scratch-need}
 use Rattle.protocol.specs.Views.{public, element-at}
 use Rattle.protocol.specs.Formulas.{flat, rows}
@@ -80,11 +79,11 @@ module _ (J : List ℕ) (count : ℕ) (R : List ℕ) where
   phi-end = omega arith
 
   -- what stands in a window
-  pub parts-are : (S : List ℕ) → Weighed (windows-of P count) J (job-at J 4) R S (P .r * P .n) → Alpha-parts J count R S
-  parts-are S w m h =
+  pub parts-are : (passes : ℕ → Bool) (S : List ℕ) → Weighed (windows-of P count) passes J (job-at J 4) R S (P .r * P .n) → Alpha-parts J count passes R S
+  parts-are passes S w m h t =
       let ws = alpha-words J (randomness-part P count R m) in
       let size = length-alpha J (randomness-part P count R m) in
-      part-of-part S (m * scratch-need P) (scratch-need P) (phi-at P) (length ws) (omega (arith, size, phi-end)) ∙ subst (λ ws. Holds S (m * scratch-need P + phi-at P) ws) (words-are m) (w m h)
+      part-of-part S (m * scratch-need P) (scratch-need P) (phi-at P) (length ws) (omega (arith, size, phi-end)) ∙ subst (λ ws. Holds S (m * scratch-need P + phi-at P) ws) (words-are m) (w m h t)
 
   -- what `weigh` requires
   pub grid : Sound J → Laid J 31 (job-sections P) → Grid J (job-at J 4) (P .r * P .n) (P .K)

@@ -2,7 +2,7 @@
 use mathlib.Core.Path.{_≡_}
 use mathlib.Core.Bool.{Bool, true, false, cond}
 use mathlib.Core.List.{List}
-use Prim.Native.Nat.{ℕ, _+_, _*_, _≤_, _<_}
+use Prim.Native.Nat.{ℕ, _+_, _*_, _<_}
 use lib.Dec.{ltb, leb}
 use Rattle.lists.specs.Part.{part}
 use Rattle.definitions.specs.Rq.{Element}
@@ -31,11 +31,11 @@ Alpha-if weighed J R at S = weighed ≡ true → Holds S at (alpha-words J R)
 abbrev pub phi-at : Parameters → ℕ
 phi-at P = 64 * (P .L * (P .r * P .n)) + 64 * (P .L * T P)
 
--- alpha's part of φ stands where φ does, in the window of every transcript
-abbrev pub Alpha-parts : (J : List ℕ) → (count : ℕ) → (R S : List ℕ) → Type 0
-Alpha-parts J count R S =
+-- alpha's part of φ stands where φ does, in the window of every transcript that passes
+abbrev pub Alpha-parts : (J : List ℕ) → (count : ℕ) → (passes : ℕ → Bool) → (R S : List ℕ) → Type 0
+Alpha-parts J count passes R S =
     let P = parameters J in
-    (m : ℕ) → m < count → Holds (window P S m) (phi-at P) (alpha-words J (randomness-part P count R m))
+    (m : ℕ) → m < count → passes m ≡ true → Holds (window P S m) (phi-at P) (alpha-words J (randomness-part P count R m))
 
 -- the products of the rows are as they were
 abbrev pub Products-stay : Parameters → (count : ℕ) → (S S′ : List ℕ) → Type 0

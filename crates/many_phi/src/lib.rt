@@ -8,9 +8,9 @@ use sizes::buffers;
 use sizes::offsets;
 use sizes::slices;
 ghost use mathlib.Core.Path.{_≡_};
-ghost use mathlib.Core.Bool.{true};
+ghost use mathlib.Core.Bool.{true, false};
 ghost use Prim.Native.Nat.{_≤_, _<_, _^_};
-ghost use lib.ListN.{length};
+ghost use lib.ListN.{length, getD};
 ghost use Rattle.protocol.specs.Parameters.{parameters};
 ghost use Rattle.protocol.specs.Kept.{Kept};
 ghost use Rattle.protocol.specs.Many.{many-need};
@@ -54,23 +54,24 @@ pub fn shared(v: Windows, handed: usize) -> bool
     v.count * v.len <= handed
 }
 
-// Alpha's part of φ into every window, where it is made for all together.
+// Alpha's part of φ into the window of every transcript that passes, where it is made for all together.
 pub fn alpha_parts(
     job: &[u32],
     randomness: &[u32],
     p: EnvironmentParameters,
     count: usize,
+    passes: [bool; 8],
     scratch: &mut [u32],
 ) -> bool
     requires { ⌜ Given (now job) count (length (now scratch)) p ⌝ }
     ensures { λ r. ⌜ r ≡ shares (windows-of (parameters (now (job .entry))) count) (length (now (randomness .entry))) ⌝ }
-    ensures { λ r. ⌜ (r ≡ true → Alpha-parts (now (job .entry)) count (now (randomness .entry)) (now (scratch .exit))) ⌝ }
+    ensures { λ r. ⌜ (r ≡ true → Alpha-parts (now (job .entry)) count (λ m. getD passes m false) (now (randomness .entry)) (now (scratch .exit))) ⌝ }
     ensures { λ r. ⌜ Products-stay (parameters (now (job .entry))) count (now (scratch .entry)) (now (scratch .exit)) ⌝ }
     ensures { λ r. ⌜ Kept (many-need (parameters (now (job .entry))) count) (now (scratch .entry)) (now (scratch .exit)) ⌝ }
 {
     let v = windows(p, count);
     if shared(v, randomness.len()) {
-        many_alpha::weigh(job, offsets::of_job(p, 4), randomness, v, scratch);
+        many_alpha::weigh(job, offsets::of_job(p, 4), randomness, v, passes, scratch);
         return true;
     }
     false

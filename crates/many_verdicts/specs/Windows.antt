@@ -32,9 +32,13 @@ Part-weighed weighed J count R m scratch =
     let P = parameters J in
     Alpha-if weighed J (randomness-part P count R m) (phi-at P) (window P scratch m)
 
--- that of every transcript
-abbrev pub All-weighed : Bool → (J : List ℕ) → (count : ℕ) → (R scratch : List ℕ) → Type 0
-All-weighed weighed J count R scratch = weighed ≡ true → Alpha-parts J count R scratch
+-- where transcript m passes 7 to 10
+abbrev pub Weighed-if-passing : Bool → (J : List ℕ) → (count : ℕ) → (R T : List ℕ) → (m : ℕ) → (scratch : List ℕ) → Type 0
+Weighed-if-passing weighed J count R T m scratch = passes (parameters J) count R T m ≡ true → Part-weighed weighed J count R m scratch
+
+-- that of every transcript that does
+abbrev pub All-weighed : Bool → (J : List ℕ) → (count : ℕ) → (R T scratch : List ℕ) → Type 0
+All-weighed weighed J count R T scratch = weighed ≡ true → Alpha-parts J count (passes (parameters J) count R T) R scratch
 
 -- "those past the number marked unused": the number 4294967295 and zeros
 abbrev pub unused : LabradorVerdict

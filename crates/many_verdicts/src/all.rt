@@ -41,7 +41,7 @@ pub fn verdicts(
     weighed: bool,
 ) -> [LabradorVerdict; 8]
     requires { ⌜ Given (now job) count (length (now scratch)) p × TranscriptsFound (parameters (now job)) count (now transcripts) found ⌝ }
-    requires { ⌜ Rows-ready (now job) count (now randomness) (now transcripts) (now scratch) × All-weighed weighed (now job) count (now randomness) (now scratch) ⌝ }
+    requires { ⌜ Rows-ready (now job) count (now randomness) (now transcripts) (now scratch) × All-weighed weighed (now job) count (now randomness) (now transcripts) (now scratch) ⌝ }
     ensures { λ r. ⌜ r ≡ verdicts-of (now (job .entry)) count (now (randomness .entry)) (now (transcripts .entry)) ⌝ }
     ensures { λ r. ⌜ Kept (many-need (parameters (now (job .entry))) count) (now (scratch .entry)) (now (scratch .exit)) ⌝ }
 {

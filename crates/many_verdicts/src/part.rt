@@ -21,7 +21,7 @@ ghost use Rattle.admission.specs.Admission.{Verifiable, ofChecked};
 ghost use Rattle.call_answers.specs.Calls.{labradorVerdict};
 ghost use Rattle.many_admission.specs.Admitted.{Given};
 ghost use Rattle.many_phi.specs.AlphaPart.{Alpha-if, phi-at};
-ghost use Rattle.many_verdicts.specs.Windows.{Part-ready, Ready-if-passing, Part-weighed};
+ghost use Rattle.many_verdicts.specs.Windows.{Part-ready, Ready-if-passing, Part-weighed, Weighed-if-passing};
 
 // With the parts of transcript m lent on, and its window of the scratch.
 fn judge_window(
@@ -101,7 +101,8 @@ pub fn verdict(
 ) -> LabradorVerdict
     requires { ⌜ Given (now job) count (length (now scratch)) p × (m < count) ⌝ }
     requires { ⌜ ofChecked found ≡ part-refusal (parameters (now job)) count (now randomness) (now transcripts) m ⌝ }
-    requires { ⌜ Ready-if-passing (now job) count (now randomness) (now transcripts) m (now scratch) × Part-weighed weighed (now job) count (now randomness) m (now scratch) ⌝ }
+    requires { ⌜ Ready-if-passing (now job) count (now randomness) (now transcripts) m (now scratch) ⌝ }
+    requires { ⌜ Weighed-if-passing weighed (now job) count (now randomness) (now transcripts) m (now scratch) ⌝ }
     ensures { λ v. ⌜ v ≡ labradorVerdict (part-verdict (now (job .entry)) count (now (randomness .entry)) (now (transcripts .entry)) m) ⌝ }
     ensures { λ v. ⌜ Kept (many-need (parameters (now (job .entry))) (m + 1)) (now (scratch .entry)) (now (scratch .exit)) ⌝ }
 {

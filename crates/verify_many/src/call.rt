@@ -19,8 +19,8 @@ ghost use Rattle.many_verdicts.specs.Windows.{verdicts-of};
 ghost use Rattle.verify_many.specs.Answers.{manyVerdicts};
 
 // The work of a call that is not refused as a whole: 9 and 10 of each transcript, the rows of A, B, C and D, each once for all that pass these, alpha's part of
-// φ for all together, and the verdicts, each after 7 and 8. A transcript that passes 7 to 10 takes part in every row; one that is refused by 7 or 8 alone does
-// too, every one takes part in alpha's part, and nothing is taken of one that is refused.
+// φ for all of these together, and the verdicts, each after 7 and 8. A transcript that passes 7 to 10 takes part in all of it; one that is refused by 7 or 8
+// alone does too, and nothing is taken of it.
 fn work(
     job: &[u32],
     randomness: &[u32],
@@ -36,7 +36,7 @@ fn work(
     let found = parts::check_transcripts(transcripts, p, count);
     let passes = parts::passing_parts(found);
     row_products(job, p, count, passes, transcripts, scratch);
-    let weighed = alpha_parts(job, randomness, p, count, scratch);
+    let weighed = alpha_parts(job, randomness, p, count, passes, scratch);
     let out = verdicts(
         job,
         randomness,

@@ -1,9 +1,9 @@
 -- `gather` meets its contract. The invariant: the first m elements are copied.
-use mathlib.Core.Path.{_≡_, refl, ap, subst, _∙_}
+use mathlib.Core.Path.{_≡_, subst}
 use Prim.Native.Nat.{_+_, _-_, _*_, _≤_}
 use native.Mathlib.Omega.{arith}
 use lib.ListN.{length}
-use Rattle.lists.proofs.Splice.{length-splice, length-part}
+use Rattle.lists.proofs.Splice.{length-part}
 use Rattle.protocol.specs.Kept.{Kept}
 use Rattle.workspace.proofs.Kept.{kept-refl, kept-weaken, kept-stored}
 use Rattle.many_alpha.specs.Alpha.{Gathered}

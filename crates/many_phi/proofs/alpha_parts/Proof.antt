@@ -1,12 +1,11 @@
 -- `alpha_parts` meets its contract.
 use mathlib.Core.Path.{_≡_, refl, sym, ap, subst, _∙_}
 use mathlib.Core.Bool.{true, false, true≢false}
-use Prim.Native.Nat.{_+_, _*_, _≤_, _<_, _^_}
+use Prim.Native.Nat.{_+_, _*_, _≤_}
 use native.Mathlib.Omega.{arith}
-use borrow.Author.Needs.{needs}
-use lib.ListN.{length}
+use lib.ListN.{length, getD}
 use Rattle.protocol.specs.Parameters.{parameters}
-use Rattle.protocol.specs.Layout.{span, start, job-sections, randomness-sections}
+use Rattle.protocol.specs.Layout.{start, job-sections}
 use Rattle.relation.specs.Parameters.{parametersOf}
 use Rattle.admission.proofs.Ready.{job-sound, job-laid, job-sized}
 use Rattle.aggregate_psi.specs.Grid.{Grid}
@@ -58,10 +57,10 @@ returns c =
     let P = parameters J in
     let e = c .before .before .weigh .ensures in
     let v = windows-are (c .before .before .before .before .before .before .before) in
-    let beside = subst (λ v. Beside v (s .scratch .now) (c .before .before .weigh .last .1 .1 .1 .1 .0)) v (e .1) in (
+    let beside = subst (λ v. Beside v (s .scratch .now) (c .before .before .weigh .last .1 .1 .1 .1 .1 .0)) v (e .1) in (
       sym (c .before .before .before .before .before .if1 .taken) ∙ shared-is (c .before .before .before .before .before .before),
       (
-        λ t. parts-are J (s .count) R _ (subst (λ v. Weighed v J (job-at J 4) R (c .before .before .weigh .last .1 .1 .1 .1 .0) (v .width)) v (subst (λ at. Weighed (c .before .before .before .before .before .before .before .windows .result) J at R (c .before .before .weigh .last .1 .1 .1 .1 .0) (c .before .before .before .before .before .before .before .windows .result .width)) (place-is (c .before .before .before .before)) (e .0))),
+        λ t. parts-are J (s .count) R (λ m. getD (s .passes) m false) _ (subst (λ v. Weighed v (λ m. getD (s .passes) m false) J (job-at J 4) R (c .before .before .weigh .last .1 .1 .1 .1 .1 .0) (v .width)) v (subst (λ at. Weighed (c .before .before .before .before .before .before .before .windows .result) (λ m. getD (s .passes) m false) J at R (c .before .before .weigh .last .1 .1 .1 .1 .1 .0) (c .before .before .before .before .before .before .before .windows .result .width)) (place-is (c .before .before .before .before)) (e .0))),
         (beside .products, beside .kept),
       ),
     )

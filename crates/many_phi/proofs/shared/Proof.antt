@@ -2,7 +2,6 @@
 use Prim.Native.Nat.{_*_, _≤_}
 use native.Mathlib.Nat.{mul-le-mul}
 use native.Mathlib.Omega.{arith}
-use borrow.Author.Needs.{needs}
 use Rattle.many_phi.proofs.Shares.{one, few, narrow, tested}
 use Rattle.many_phi.proofs.shared.Statement.{statement}
 use Rattle.many_phi.proofs.shared.Tie as tie

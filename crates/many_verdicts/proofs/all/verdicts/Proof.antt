@@ -67,7 +67,7 @@ verdict-requires c κs =
         found-part P (parametersOf (a .p)) (a .count) (a .randomness .now) (a .transcripts .now) (l .m) _ _ (g .same) (c .before .check-part .ensures) (s .pre .0 .1 (l .m) taken),
         (
           λ pass. subst (λ w. Rows-done (a .job .now) (transcript-part P (a .count) (a .transcripts .now) (l .m)) w (row-count P)) same (s .pre .1 .0 (l .m) taken pass),
-          λ t. subst (λ w. Holds w (phi-at P) (alpha-words (a .job .now) (randomness-part P (a .count) (a .randomness .now) (l .m)))) same (s .pre .1 .1 t (l .m) taken),
+          λ pass t. subst (λ w. Holds w (phi-at P) (alpha-words (a .job .now) (randomness-part P (a .count) (a .randomness .now) (l .m)))) same (s .pre .1 .1 t (l .m) taken pass),
         ),
       ),
     )

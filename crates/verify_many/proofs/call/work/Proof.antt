@@ -12,7 +12,7 @@ use Rattle.relation.specs.Parameters.{parametersOf}
 use Rattle.sizes.specs.Sizes.{Sized}
 use Rattle.admission.proofs.Ready.{job-sized}
 use Rattle.workspace.proofs.Kept.{kept-trans}
-use Rattle.verify_many.proofs.Rows.{of-job, rowable, still-given, rows-stay, rows-ready, cleared, length-cleared}
+use Rattle.verify_many.proofs.Rows.{of-job, rowable, still-given, rows-stay, rows-ready, parts-ready, cleared, length-cleared}
 use Rattle.verify_many.proofs.call.work.Statement.{statement}
 use Rattle.verify_many.proofs.call.work.Tie as tie
 
@@ -34,7 +34,7 @@ alpha-parts-requires c κs =
     still-given (a .job .now) (a .randomness .now) (a .transcripts .now) (a .count) (length (a .scratch .now)) (a .p) (s .pre) (c .before .before .before .before .before .before .check-transcripts .result) (c .before .before .before .before .before .passing-parts .result) (c .before .before .before .before .before .passing-parts .ensures) (c .before .before .before .row-products .ensures .1) refl
 
 -- beyond the windows the scratch is as it was after alpha's part
-kept : (c : tie.After-alpha-parts) → let s = c .before .before .before .before .before .before .before .before .before .before .before .before .args in Kept (many-need (parameters (s .job .now)) (s .count)) (s .scratch .now) (c .alpha-parts .last .1 .1 .1 .1 .0)
+kept : (c : tie.After-alpha-parts) → let s = c .before .before .before .before .before .before .before .before .before .before .before .before .args in Kept (many-need (parameters (s .job .now)) (s .count)) (s .scratch .now) (c .alpha-parts .last .1 .1 .1 .1 .1 .0)
 kept c = kept-trans _ _ _ _ (c .before .before .before .before .row-products .ensures .1) (c .alpha-parts .ensures .1 .1 .1)
 
 verdicts-requires : tie.Need-verdicts-requires
@@ -51,7 +51,7 @@ verdicts-requires c κs =
       (still-given (a .job .now) (a .randomness .now) (a .transcripts .now) (a .count) (length (a .scratch .now)) (a .p) (s .pre) (f .check-transcripts .result) (g .passing-parts .result) (g .passing-parts .ensures) (kept e) refl, of-job (a .job .now) (a .randomness .now) (a .transcripts .now) (a .count) (length (a .scratch .now)) (a .p) (s .pre) (f .check-transcripts .result) (g .passing-parts .result) (g .passing-parts .ensures) (f .check-transcripts .ensures)),
       (
         rows-ready (a .job .now) (a .randomness .now) (a .transcripts .now) (a .count) (length (a .scratch .now)) (a .p) (s .pre) (f .check-transcripts .result) (g .passing-parts .result) (g .passing-parts .ensures) (kept e) refl (f .check-transcripts .ensures) done,
-        e .alpha-parts .ensures .1 .0,
+        parts-ready (a .job .now) (a .randomness .now) (a .transcripts .now) (a .count) (length (a .scratch .now)) (a .p) (s .pre) (f .check-transcripts .result) (g .passing-parts .result) (g .passing-parts .ensures) (kept e) refl (f .check-transcripts .ensures) (e .alpha-parts .result) (e .alpha-parts .ensures .1 .0),
       ),
     )
 
