@@ -1,5 +1,6 @@
 -- The products stand in the window while the challenges are stored before them; the order of the checks.
-use mathlib.Core.Path.{_≡_, ap, ap₂, _∙_}
+use mathlib.Core.Path.{_≡_, sym, ap, ap₂, subst, _∙_}
+use mathlib.Core.Bool.{Bool}
 use mathlib.Core.List.{List}
 use Prim.Native.Nat.{ℕ, _+_, _*_, _≤_}
 use native.Mathlib.Nat.{mul-le-mul-left}
@@ -15,7 +16,11 @@ use Rattle.relation.specs.Parameters.{parametersOf}
 use Rattle.workspace.specs.Ready.{Ready}
 use Rattle.workspace.specs.Aggregated.{c-words}
 use Rattle.workspace.proofs.Kept.{kept-refl, kept-stored}
-use Rattle.workspace.proofs.Ready.{length-c}
+use Rattle.workspace.specs.Holds.{Holds}
+use Rattle.workspace.proofs.Holds.{holds-before}
+use Rattle.workspace.proofs.Ready.{length-c, φ-end, a-end, g-end}
+use Rattle.many_phi.specs.AlphaPart.{alpha-words, Alpha-if, phi-at}
+use Rattle.many_phi.proofs.Parts.{length-alpha}
 use Rattle.verifier_common.specs.Answers.{t-and-g-bounds, h-bound, u1-differs, u2-differs}
 use Rattle.verifier_commitments.specs.Order.{commitments}
 
@@ -31,6 +36,19 @@ module _ (J R X : List ℕ) (p : EnvironmentParameters) (q : Regions) (W W′ : 
   unfolding Rows-done
   products-stay e n done =
       kept-stored (products-at (parameters J)) W W W′ (q .challenges) (c-words J R) (kept-refl (products-at (parameters J)) W) e (omega (arith, length-c J R, before-products)) .beyond ∙ done
+
+-- alpha's part of φ stands there too
+pub alpha-stays : (weighed : Bool) (J R : List ℕ) (p : EnvironmentParameters) (q : Regions) (W W′ : List ℕ) → Ready J p q W → W′ ≡ splice W (q .challenges) (c-words J R) → Alpha-if weighed J R (q .phi) W → Alpha-if weighed J R (q .phi) W′
+alpha-stays weighed J R p q W W′ ready e held t =
+    subst (λ l. Holds l (q .phi) (alpha-words J R)) (sym e)
+    (holds-before W (q .phi) (alpha-words J R) (q .challenges) (c-words J R) (omega (arith, length-alpha J R, φ-end J p q W ready, a-end J p q W ready, g-end J p q W ready)) (held t))
+
+-- by the place of φ that the job's parameters fix
+pub alpha-placed : (weighed : Bool) (J R : List ℕ) (p : EnvironmentParameters) (q : Regions) (W : List ℕ) → Ready J p q W → Alpha-if weighed J R (phi-at (parameters J)) W → Alpha-if weighed J R (q .phi) W
+alpha-placed weighed J R p q W ready held t =
+    let laid = ready .regions in
+    let place : phi-at (parameters J) ≡ q .phi = omega (arith, laid .first, laid .a2, laid .phi) in
+    subst (λ a. Holds W a (alpha-words J R)) place (held t)
 
 -- the checks of the commitments by what is found of 28 and 29
 pub found : (J X : List ℕ) (p : EnvironmentParameters) → parametersOf p ≡ parameters J → (u1 u2 : Checked) → ofChecked u1 ≡ u1-differs J X → ofChecked u2 ≡ u2-differs J X

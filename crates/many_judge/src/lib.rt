@@ -1,6 +1,7 @@
 // The checks of one transcript after the rows' products stand in its window of the scratch (document 02, Item 11).
 use definitions::answers::Checked;
 use definitions::answers::Verdict;
+use many_beta;
 use many_checks;
 use regions::Regions;
 use relation::env_params::EnvironmentParameters;
@@ -25,6 +26,7 @@ ghost use Rattle.verifier_common.specs.Answers.{az, t-and-g-bounds, h-bound};
 ghost use Rattle.verifier_relations.specs.Held.{Challenged};
 ghost use Rattle.verifier_relations.specs.Order.{relations};
 ghost use Rattle.verifier.specs.Order.{rest};
+ghost use Rattle.many_phi.specs.AlphaPart.{Alpha-if, phi-at};
 
 // 24 to 27, in order, with what is found of 24.
 fn check_relations(
@@ -35,9 +37,10 @@ fn check_relations(
     q: Regions,
     window: &mut [u32],
     opened: Checked,
+    weighed: bool,
 ) -> Checked
     requires { ⌜ Sent (now job) (now randomness) (now transcript) p × Ready (now job) p q (now window) × Challenged (now job) (now randomness) q (now window) ⌝ }
-    requires { ⌜ ofChecked opened ≡ az (now job) (now randomness) (now transcript) ⌝ }
+    requires { ⌜ ofChecked opened ≡ az (now job) (now randomness) (now transcript) × Alpha-if weighed (now job) (now randomness) (q .phi) (now window) ⌝ }
     ensures { λ v. ⌜ ofChecked v ≡ relations (now (job .entry)) (now (randomness .entry)) (now (transcript .entry)) ⌝ }
     ensures { λ v. ⌜ Kept (scratch-need (parameters (now (job .entry)))) (now (window .entry)) (now (window .exit)) ⌝ }
 {
@@ -48,7 +51,7 @@ fn check_relations(
     let Checked::Passed = second else {
         return second;
     };
-    relations::check_aggregated(job, randomness, transcript, p, q, window)
+    many_beta::check_aggregated(job, randomness, transcript, p, q, window, weighed)
 }
 
 // 14, 15, 28, 16 and 29, in order, with what is found of 28 and 29.
@@ -83,9 +86,10 @@ fn check_rest(
     p: EnvironmentParameters,
     q: Regions,
     window: &mut [u32],
+    weighed: bool,
 ) -> Checked
     requires { ⌜ Sent (now job) (now randomness) (now transcript) p × Ready (now job) p q (now window) ⌝ }
-    requires { ⌜ Rows-done (now job) (now transcript) (now window) (row-count (parameters (now job))) ⌝ }
+    requires { ⌜ Rows-done (now job) (now transcript) (now window) (row-count (parameters (now job))) × Alpha-if weighed (now job) (now randomness) (q .phi) (now window) ⌝ }
     ensures { λ v. ⌜ ofChecked v ≡ rest (now (job .entry)) (now (randomness .entry)) (now (transcript .entry)) ⌝ }
     ensures { λ v. ⌜ Kept (scratch-need (parameters (now (job .entry)))) (now (window .entry)) (now (window .exit)) ⌝ }
 {
@@ -93,7 +97,7 @@ fn check_rest(
     let opened = many_checks::check_az(job, transcript, p, q, window);
     let u1 = many_checks::check_u1(job, transcript, p, window);
     let u2 = many_checks::check_u2(job, transcript, p, window);
-    let first = check_relations(job, randomness, transcript, p, q, window, opened);
+    let first = check_relations(job, randomness, transcript, p, q, window, opened, weighed);
     let Checked::Passed = first else {
         return first;
     };
@@ -107,10 +111,12 @@ pub fn judge(
     transcript: &[u32],
     p: EnvironmentParameters,
     window: &mut [u32],
+    weighed: bool,
 ) -> Verdict
     requires { ⌜ Verifiable (now job) (now randomness) (now transcript) (length (now window)) p ⌝ }
     requires { ⌜ length (now window) ≡ scratch-need (parameters (now job)) ⌝ }
     requires { ⌜ Rows-done (now job) (now transcript) (now window) (row-count (parameters (now job))) ⌝ }
+    requires { ⌜ Alpha-if weighed (now job) (now randomness) (phi-at (parameters (now job))) (now window) ⌝ }
     ensures { λ v. ⌜ ofVerdict v ≡ verdict-of (now (job .entry)) (now (randomness .entry)) (now (transcript .entry)) ⌝ }
     ensures { λ v. ⌜ length (now (window .exit)) ≡ length (now (window .entry)) ⌝ }
 {
@@ -119,6 +125,6 @@ pub fn judge(
     let Verdict::Accepted(cells_left) = first else {
         return first;
     };
-    let rest = check_rest(job, randomness, transcript, p, q, window);
+    let rest = check_rest(job, randomness, transcript, p, q, window, weighed);
     verdict::verdict_of(rest, cells_left)
 }

@@ -11,7 +11,7 @@ ghost use Rattle.protocol.specs.Kept.{Kept};
 ghost use Rattle.protocol.specs.Many.{many-need};
 ghost use Rattle.call_answers.specs.Calls.{failedCheck};
 ghost use Rattle.many_admission.specs.Admitted.{Given, TranscriptsFound};
-ghost use Rattle.many_verdicts.specs.Windows.{Rows-ready, verdicts-of};
+ghost use Rattle.many_verdicts.specs.Windows.{Rows-ready, All-weighed, verdicts-of};
 
 // Eight times a number and zeros.
 pub fn eight(number: u32) -> [LabradorVerdict; 8]
@@ -38,9 +38,10 @@ pub fn verdicts(
     count: usize,
     found: [Checked; 8],
     scratch: &mut [u32],
+    weighed: bool,
 ) -> [LabradorVerdict; 8]
     requires { ⌜ Given (now job) count (length (now scratch)) p × TranscriptsFound (parameters (now job)) count (now transcripts) found ⌝ }
-    requires { ⌜ Rows-ready (now job) count (now randomness) (now transcripts) (now scratch) ⌝ }
+    requires { ⌜ Rows-ready (now job) count (now randomness) (now transcripts) (now scratch) × All-weighed weighed (now job) count (now randomness) (now transcripts) (now scratch) ⌝ }
     ensures { λ r. ⌜ r ≡ verdicts-of (now (job .entry)) count (now (randomness .entry)) (now (transcripts .entry)) ⌝ }
     ensures { λ r. ⌜ Kept (many-need (parameters (now (job .entry))) count) (now (scratch .entry)) (now (scratch .exit)) ⌝ }
 {
@@ -49,7 +50,17 @@ pub fn verdicts(
     while m < count {
         let sent = found[m];
         let one = check_part(randomness, p, count, m, sent);
-        let v = part::verdict(job, randomness, transcripts, p, count, m, one, scratch);
+        let v = part::verdict(
+            job,
+            randomness,
+            transcripts,
+            p,
+            count,
+            m,
+            one,
+            scratch,
+            weighed,
+        );
         out[m] = v;
         m += 1;
     }

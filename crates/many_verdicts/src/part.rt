@@ -20,7 +20,8 @@ ghost use Rattle.protocol.specs.Many.{many-need, part-refusal, part-verdict, ro
 ghost use Rattle.admission.specs.Admission.{Verifiable, ofChecked};
 ghost use Rattle.call_answers.specs.Calls.{labradorVerdict};
 ghost use Rattle.many_admission.specs.Admitted.{Given};
-ghost use Rattle.many_verdicts.specs.Windows.{Part-ready, Ready-if-passing};
+ghost use Rattle.many_phi.specs.AlphaPart.{Alpha-if, phi-at};
+ghost use Rattle.many_verdicts.specs.Windows.{Part-ready, Ready-if-passing, Part-weighed, Weighed-if-passing};
 
 // With the parts of transcript m lent on, and its window of the scratch.
 fn judge_window(
@@ -30,17 +31,26 @@ fn judge_window(
     p: EnvironmentParameters,
     m: usize,
     scratch: &mut [u32],
+    weighed: bool,
 ) -> Verdict
     requires { ⌜ Verifiable (now job) (now randomness) (now transcript) (scratch-need (parameters (now job))) p ⌝ }
     requires { ⌜ (m < 8) × (many-need (parameters (now job)) (m + 1) ≤ length (now scratch)) ⌝ }
     requires { ⌜ Rows-done (now job) (now transcript) (window (parameters (now job)) (now scratch) m) (row-count (parameters (now job))) ⌝ }
+    requires { ⌜ Alpha-if weighed (now job) (now randomness) (phi-at (parameters (now job))) (window (parameters (now job)) (now scratch) m) ⌝ }
     ensures { λ v. ⌜ ofVerdict v ≡ verdict-of (now (job .entry)) (now (randomness .entry)) (now (transcript .entry)) ⌝ }
     ensures { λ v. ⌜ Kept (many-need (parameters (now (job .entry))) (m + 1)) (now (scratch .entry)) (now (scratch .exit)) ⌝ }
 {
     let need = buffers::scratch_length(p);
     let from = m * need;
     let to = from + need;
-    judge(job, randomness, transcript, p, &mut scratch[from..to])
+    judge(
+        job,
+        randomness,
+        transcript,
+        p,
+        &mut scratch[from..to],
+        weighed,
+    )
 }
 
 // Of transcript m, which passes 7 to 10.
@@ -52,10 +62,11 @@ fn judge_part(
     count: usize,
     m: usize,
     scratch: &mut [u32],
+    weighed: bool,
 ) -> Verdict
     requires { ⌜ Given (now job) count (length (now scratch)) p × (m < count) ⌝ }
     requires { ⌜ part-refusal (parameters (now job)) count (now randomness) (now transcripts) m ≡ fine ⌝ }
-    requires { ⌜ Part-ready (now job) count (now transcripts) m (now scratch) ⌝ }
+    requires { ⌜ Part-ready (now job) count (now transcripts) m (now scratch) × Part-weighed weighed (now job) count (now randomness) m (now scratch) ⌝ }
     ensures { λ v. ⌜ ofVerdict v ≡ part-verdict (now (job .entry)) count (now (randomness .entry)) (now (transcripts .entry)) m ⌝ }
     ensures { λ v. ⌜ Kept (many-need (parameters (now (job .entry))) (m + 1)) (now (scratch .entry)) (now (scratch .exit)) ⌝ }
 {
@@ -72,6 +83,7 @@ fn judge_part(
         p,
         m,
         scratch,
+        weighed,
     )
 }
 
@@ -85,17 +97,19 @@ pub fn verdict(
     m: usize,
     found: Checked,
     scratch: &mut [u32],
+    weighed: bool,
 ) -> LabradorVerdict
     requires { ⌜ Given (now job) count (length (now scratch)) p × (m < count) ⌝ }
     requires { ⌜ ofChecked found ≡ part-refusal (parameters (now job)) count (now randomness) (now transcripts) m ⌝ }
     requires { ⌜ Ready-if-passing (now job) count (now randomness) (now transcripts) m (now scratch) ⌝ }
+    requires { ⌜ Weighed-if-passing weighed (now job) count (now randomness) (now transcripts) m (now scratch) ⌝ }
     ensures { λ v. ⌜ v ≡ labradorVerdict (part-verdict (now (job .entry)) count (now (randomness .entry)) (now (transcripts .entry)) m) ⌝ }
     ensures { λ v. ⌜ Kept (many-need (parameters (now (job .entry))) (m + 1)) (now (scratch .entry)) (now (scratch .exit)) ⌝ }
 {
     match found {
         Checked::Refused(refusal) => verdicts::verdict_of(Verdict::Refused(refusal)),
         Checked::Fine => {
-            let judged = judge_part(job, randomness, transcripts, p, count, m, scratch);
+            let judged = judge_part(job, randomness, transcripts, p, count, m, scratch, weighed);
             verdicts::verdict_of(judged)
         }
     }

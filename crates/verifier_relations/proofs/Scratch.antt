@@ -13,7 +13,7 @@ use Rattle.relation.specs.declared.env_params.EnvironmentParameters.{Environmen
 use Rattle.workspace.specs.Ready.{Ready}
 use Rattle.workspace.specs.Holds.{Holds, Kept}
 use Rattle.workspace.specs.Aggregated.{a″-words, φ″-words, φ-words, a-words, c-words}
-use Rattle.workspace.proofs.Kept.{kept-refl, kept-stored}
+use Rattle.workspace.proofs.Kept.{kept-refl, kept-trans, kept-stored}
 use Rattle.workspace.proofs.Holds.{holds-stored, holds-before, holds-after, holds-first, holds-second}
 use Rattle.workspace.proofs.Ready.{length-φ″, length-a″, length-φ, length-a, length-c, ready-changed, regions-end, φ″-end, a″-end, φ-end, a-end, g-end, c-end, t-end, u-end}
 
@@ -92,3 +92,24 @@ module _ (J R : List ℕ) (p : EnvironmentParameters) (q : Regions) (S : List �
     pub double-leaves-c : Holds S (q .challenges) (c-words J R) → Holds S′ (q .challenges) (c-words J R)
     double-leaves-c h =
         subst (λ l. Holds l (q .challenges) (c-words J R)) (sym e) (holds-after S (q .challenges) (c-words J R) 0 (φ″-words J R ++ a″-words J R) double-end h)
+
+-- a scratch that φ'' and a'' are stored into, and then φ
+pub record Summed (J R : List ℕ) (p : EnvironmentParameters) (q : Regions) (S S′ : List ℕ) : Type 0 where
+  pub ready : Ready J p q S′
+  pub kept : Kept (scratch-need (parameters J)) S S′
+  pub challenges : Holds S′ (q .challenges) (c-words J R)
+  pub φ : Holds S′ (q .phi) (φ-words J R)
+  pub a″ : Holds S′ (q .a2) (a″-words J R)
+
+pub summed : (J R : List ℕ) (p : EnvironmentParameters) (q : Regions) (S S′ S″ : List ℕ) → Ready J p q S → S′ ≡ splice S 0 (φ″-words J R ++ a″-words J R) → S″ ≡ splice S′ (q .phi) (φ-words J R)
+    → Holds S (q .challenges) (c-words J R) → Summed J R p q S S″
+summed J R p q S S′ S″ ready e f h =
+    let d = double-made J R p q S ready S′ e in
+    let m = φ-made J R p q S′ (d .ready) S″ f in
+    record {
+      ready = m .ready;
+      kept = kept-trans (scratch-need (parameters J)) S S′ S″ (d .kept) (m .kept);
+      challenges = φ-leaves-c J R p q S′ (d .ready) S″ f (double-leaves-c J R p q S ready S′ e h);
+      φ = m .holds;
+      a″ = φ-leaves-a″ J R p q S′ (d .ready) S″ f (a″-made J R p q S ready S′ e);
+    }

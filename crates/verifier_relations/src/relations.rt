@@ -14,7 +14,8 @@ ghost use Rattle.definitions.specs.Answer.{ofChecked};
 ghost use Rattle.protocol.specs.Parameters.{parameters};
 ghost use Rattle.protocol.specs.Layout.{scratch-need};
 ghost use Rattle.workspace.specs.Ready.{Ready};
-ghost use Rattle.workspace.specs.Holds.{Kept};
+ghost use Rattle.workspace.specs.Holds.{Holds, Kept};
+ghost use Rattle.workspace.specs.Aggregated.{φ-words, a″-words};
 ghost use Rattle.relation.specs.Parameters.{parametersOf};
 ghost use Rattle.verifier_common.specs.Work.{Received, Posed, Sent};
 ghost use Rattle.verifier_relations.specs.Order.{openings, aggregated, relations};
@@ -132,6 +133,28 @@ pub fn check_openings(
     check_z_inner(transcript, p, q, scratch)
 }
 
+// 26 and 27, in order, of the φ and a'' in their regions.
+pub fn check_phi_and_relation(
+    job: &[u32],
+    randomness: &[u32],
+    transcript: &[u32],
+    p: EnvironmentParameters,
+    q: Regions,
+    scratch: &mut [u32],
+) -> Checked
+    requires { ⌜ Sent (now job) (now randomness) (now transcript) p × Ready (now job) p q (now scratch) × Challenged (now job) (now randomness) q (now scratch) ⌝ }
+    requires { ⌜ Holds (now scratch) (q .phi) (φ-words (now job) (now randomness)) × Holds (now scratch) (q .a2) (a″-words (now job) (now randomness)) ⌝ }
+    ensures { λ v. ⌜ ofChecked v ≡ aggregated (now (job .entry)) (now (randomness .entry)) (now (transcript .entry)) ⌝ }
+    ensures { λ v. ⌜ Kept (scratch-need (parameters (now (job .entry)))) (now (scratch .entry)) (now (scratch .exit)) ⌝ }
+{
+    let first = check_phi(transcript, p, q, scratch);
+    let Checked::Passed = first else {
+        return first;
+    };
+    workspace::a(job, randomness, p, q, scratch);
+    check_relation(job, randomness, transcript, p, q, scratch)
+}
+
 // 26 and 27, in order, of the aggregated constraints.
 pub fn check_aggregated(
     job: &[u32],
@@ -147,12 +170,7 @@ pub fn check_aggregated(
 {
     workspace::double_prime(job, randomness, p, q, scratch);
     workspace::phi(job, randomness, p, q, scratch);
-    let first = check_phi(transcript, p, q, scratch);
-    let Checked::Passed = first else {
-        return first;
-    };
-    workspace::a(job, randomness, p, q, scratch);
-    check_relation(job, randomness, transcript, p, q, scratch)
+    check_phi_and_relation(job, randomness, transcript, p, q, scratch)
 }
 
 // 24 to 27, in order.

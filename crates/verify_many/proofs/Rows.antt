@@ -11,7 +11,7 @@ use Rattle.lists.specs.Table.{table}
 use Rattle.lists.proofs.Table.{getD-table}
 use Rattle.definitions.specs.Answer.{Answer, fine, accepted, refused, failed, result}
 use Rattle.protocol.specs.Parameters.{Parameters, parameters}
-use Rattle.protocol.specs.Layout.{randomness-refusal, transcript-refusal}
+use Rattle.protocol.specs.Layout.{randomness-refusal, transcript-refusal, scratch-need}
 use Rattle.protocol.specs.Kept.{Kept}
 use Rattle.protocol.specs.Prover.{zeroed}
 use Rattle.protocol.specs.Many as Many
@@ -26,7 +26,10 @@ use Rattle.many_admission.specs.Admitted.{Given, TranscriptsFound, found-of, pa
 use Rattle.many_admission.proofs.Found.{passing-is}
 use Rattle.many_admission.proofs.Passing.{part-laid}
 use Rattle.many_rows.specs.Rows.{Rowable}
-use Rattle.many_verdicts.specs.Windows.{Rows-ready}
+use Rattle.many_phi.specs.AlphaPart.{Alpha-parts, Products-stay}
+use Rattle.many_windows.proofs.Windows.{done-of, of-done}
+use Rattle.rq_matrix.proofs.Place.{rows-within}
+use Rattle.many_verdicts.specs.Windows.{Rows-ready, All-weighed}
 
 -- an answer that is taken for fine is
 fine-if : (x : Answer) → result x true false ≡ true → x ≡ fine
@@ -59,6 +62,10 @@ module _ (J R T : List ℕ) (count scratch : ℕ) (p : EnvironmentParameters) (g
     laid = λ m h pass. part-laid (parameters J) count T found (of-job all) m h (sym (passes-at m h) ∙ pass);
   }
 
+  -- a transcript that passes 7 to 10 takes part
+  takes : TranscriptsFound (parametersOf p) count T found → (m : ℕ) → m < count → Many.passes (parameters J) count R T m ≡ true → getD passes m false ≡ true
+  takes all m h pass = passes-at m h ∙ passing-is (found-of found m) ∙ ap (λ x. result x true false) (of-job all m h ∙ sent-fine (parameters J) count R T m pass)
+
   -- with the scratch after the rows
   module _ {need : ℕ} {S S′ : List ℕ} (kept : Kept need S S′) (size : length S ≡ scratch) where
     pub still-given : Given J count (length S′) p
@@ -66,7 +73,19 @@ module _ (J R T : List ℕ) (count scratch : ℕ) (p : EnvironmentParameters) (g
 
     -- the rows are done of every transcript that passes 7 to 10, since it passes 9 and 10
     pub rows-ready : TranscriptsFound (parametersOf p) count T found → All-rows-done J count (λ m. getD passes m false) T S′ (row-count (parameters J)) → Rows-ready J count R T S′
-    rows-ready all done m h pass = done m h (passes-at m h ∙ passing-is (found-of found m) ∙ ap (λ x. result x true false) (of-job all m h ∙ sent-fine (parameters J) count R T m pass))
+    rows-ready all done m h pass = done m h (takes all m h pass)
+
+    -- so is alpha's part of φ
+    pub parts-ready : TranscriptsFound (parametersOf p) count T found → (weighed : Bool) → (weighed ≡ true → Alpha-parts J count (λ m. getD passes m false) R S′) → All-weighed weighed J count R T S′
+    parts-ready all weighed parts t m h pass = parts t m h (takes all m h pass)
+
+-- the rows' products stay where they stand
+pub rows-stay : (J T : List ℕ) (count : ℕ) (passes : ℕ → Bool) (ρ : ℕ) (S S′ : List ℕ) → many-need (parameters J) count ≤ length S → Kept (many-need (parameters J) count) S S′ → Products-stay (parameters J) count S S′
+    → All-rows-done J count passes T S ρ → All-rows-done J count passes T S′ ρ
+rows-stay J T count passes ρ S S′ room kept same done m h pass =
+    let X = transcript-part (parameters J) count T m in
+    let inside = rows-within m count (scratch-need (parameters J)) h in
+    of-done J X S′ m ρ (omega (arith, inside, room, kept .size)) (same m h ∙ done-of J X S m ρ (omega (arith, inside, room)) (done m h pass))
 
 -- the scratch after the rows, the verdicts, and the words of all windows set to zero
 module _ (n : ℕ) {need : ℕ} {S S₁ S₂ S₃ : List ℕ} (rows : Kept need S S₁) (judged : Kept need S₁ S₂) (clear : S₃ ≡ splice S₂ 0 (replicate n 0)) where

@@ -5,6 +5,7 @@ use call_answers::verdicts::LabradorVerdict;
 use many_admission::parts;
 use many_admission::whole;
 use many_admission::whole::ManyAdmitted;
+use many_phi::alpha_parts;
 use many_rows::row_products;
 use many_verdicts::all::verdicts;
 use relation::env_params::EnvironmentParameters;
@@ -17,8 +18,9 @@ ghost use Rattle.many_admission.specs.Admitted.{Given};
 ghost use Rattle.many_verdicts.specs.Windows.{verdicts-of};
 ghost use Rattle.verify_many.specs.Answers.{manyVerdicts};
 
-// The work of a call that is not refused as a whole: 9 and 10 of each transcript, the rows of A, B, C and D, each once for all that pass these, and the
-// verdicts, each after 7 and 8. A transcript that passes 7 to 10 takes part in every row; one that is refused by 7 or 8 alone does too, and nothing is taken of it.
+// The work of a call that is not refused as a whole: 9 and 10 of each transcript, the rows of A, B, C and D, each once for all that pass these, alpha's part of
+// φ for all of these together, and the verdicts, each after 7 and 8. A transcript that passes 7 to 10 takes part in all of it; one that is refused by 7 or 8
+// alone does too, and nothing is taken of it.
 fn work(
     job: &[u32],
     randomness: &[u32],
@@ -34,7 +36,17 @@ fn work(
     let found = parts::check_transcripts(transcripts, p, count);
     let passes = parts::passing_parts(found);
     row_products(job, p, count, passes, transcripts, scratch);
-    let out = verdicts(job, randomness, transcripts, p, count, found, scratch);
+    let weighed = alpha_parts(job, randomness, p, count, passes, scratch);
+    let out = verdicts(
+        job,
+        randomness,
+        transcripts,
+        p,
+        count,
+        found,
+        scratch,
+        weighed,
+    );
     let need = whole::need(p, count);
     words::clear(scratch, need);
     out

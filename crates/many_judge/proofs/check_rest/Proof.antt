@@ -12,7 +12,7 @@ use Rattle.verifier_common.proofs.Verdicts.{goes-on, stops}
 use Rattle.verifier_relations.proofs.Sides.{az-held}
 use Rattle.verifier_relations.proofs.Scratch.{Made, challenges-made}
 use Rattle.verifier_commitments.specs.Order.{commitments}
-use Rattle.many_judge.proofs.Window.{products-stay, found}
+use Rattle.many_judge.proofs.Window.{products-stay, alpha-stays, found}
 use Rattle.many_judge.proofs.check_rest.Statement.{statement}
 use Rattle.many_judge.proofs.check_rest.Tie as tie
 
@@ -38,7 +38,7 @@ products : (c : tie.After-generate-challenges)
     Rows-done (s .job .now) (s .transcript .now) (c .generate-challenges .last .1 .1 .1 .0) (row-count (parameters (s .job .now)))
 products c =
     let s = c .before .before .before .before .before .before in
-    products-stay (s .args .job .now) (s .args .randomness .now) (s .args .transcript .now) (s .args .p) (s .args .q) (s .args .window .now) _ (s .pre .0 .1) (stored c) _ (s .pre .1)
+    products-stay (s .args .job .now) (s .args .randomness .now) (s .args .transcript .now) (s .args .p) (s .args .q) (s .args .window .now) _ (s .pre .0 .1) (stored c) _ (s .pre .1 .0)
 
 check-az-requires : tie.Need-check-az-requires
 check-az-requires c κs =
@@ -61,7 +61,7 @@ check-relations-requires c κs =
     let s = c .before .before .before .before .before .before .before .before .before .before .before .before .before .before .before in
     let a = s .args in
     let held = az-held (a .job .now) (a .randomness .now) (a .transcript .now) (a .p) (a .q) _ (s .pre .0 .1 .same) (drawn g .holds) in
-    ((s .pre .0 .0, drawn g .ready, drawn g .holds), c .before .before .before .before .before .check-az .ensures ∙ held)
+    ((s .pre .0 .0, drawn g .ready, drawn g .holds), (c .before .before .before .before .before .check-az .ensures ∙ held, alpha-stays (a .weighed) (a .job .now) (a .randomness .now) (a .p) (a .q) (a .window .now) _ (s .pre .0 .1) (stored g) (s .pre .1 .1)))
 
 returns : tie.Need-returns
 returns c =

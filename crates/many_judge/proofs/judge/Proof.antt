@@ -8,6 +8,7 @@ use Rattle.verifier_common.proofs.Verdicts.{accepts-on, refuses}
 use Rattle.verifier_norms.specs.Order.{norms}
 use Rattle.verifier.specs.Order.{rest}
 use Rattle.verifier.proofs.Whole.{norms-unaccepted, groups-are, sent-of, ready-of, few-regions}
+use Rattle.many_judge.proofs.Window.{alpha-placed}
 use Rattle.many_judge.proofs.judge.Statement.{statement}
 use Rattle.many_judge.proofs.judge.Tie as tie
 
@@ -17,7 +18,8 @@ lay-out-requires c κs = few-regions _ _ _ _ _ (c .before .before .before .befor
 check-rest-requires : tie.Need-check-rest-requires
 check-rest-requires c κs =
     let s = c .before .before .before .before .before .before .before .before .before .before in
-    ((sent-of _ _ _ _ _ (s .pre .0), ready-of _ _ _ _ _ (s .pre .0) _ (s .args .window .now) refl (c .before .before .before .before .before .lay-out .ensures)), s .pre .1 .1)
+    let ready = ready-of _ _ _ _ _ (s .pre .0) _ (s .args .window .now) refl (c .before .before .before .before .before .lay-out .ensures) in
+    ((sent-of _ _ _ _ _ (s .pre .0), ready), (s .pre .1 .1 .0, alpha-placed (s .args .weighed) (s .args .job .now) (s .args .randomness .now) (s .args .p) _ (s .args .window .now) ready (s .pre .1 .1 .1)))
 
 returns : tie.Need-returns
 returns c =

@@ -16,6 +16,8 @@ use Rattle.relation.specs.Parameters.{parametersOf}
 use Rattle.admission.proofs.Ready.{job-sized}
 use Rattle.call_answers.specs.declared.verdicts.LabradorVerdict.{LabradorVerdict}
 use Rattle.call_answers.specs.Calls.{labradorVerdict}
+use Rattle.workspace.specs.Holds.{Holds}
+use Rattle.many_phi.specs.AlphaPart.{alpha-words, phi-at}
 use Rattle.workspace.proofs.Kept.{kept-refl, kept-trans, kept-weaken}
 use Rattle.many_verdicts.specs.Windows.{unused}
 use Rattle.many_verdicts.proofs.Windows.{same-window}
@@ -27,11 +29,11 @@ abbrev of-part : (J : List ℕ) (count : ℕ) (R T : List ℕ) → ℕ → Labra
 of-part J count R T m = labradorVerdict (part-verdict J count R T m)
 
 abbrev Inv-loop : tie.InvT-loop
-Inv-loop job randomness transcripts p count scratch₀ found out₀ m₀ scratch out m =
+Inv-loop job randomness transcripts p count scratch₀ weighed found out₀ m₀ scratch out m =
     (m ≤ count) × (out ≡ padded 8 m unused (of-part job count randomness transcripts)) × Kept (many-need (parameters job) m) scratch₀ scratch
 
 abbrev μ-loop : tie.MeasureT-loop
-μ-loop job randomness transcripts p count scratch₀ found out₀ m₀ scratch out m = count - m
+μ-loop job randomness transcripts p count scratch₀ weighed found out₀ m₀ scratch out m = count - m
 
 loop-holds : tie.Need-loop-holds Inv-loop μ-loop
 loop-holds c =
@@ -58,11 +60,15 @@ verdict-requires c κs =
     let P = parameters (a .job .now) in
     let k = l .inv .2 in
     let g = s .pre .0 .0 in
-    let taken = c .before .before .before .loop-test .taken in (
+    let taken = c .before .before .before .loop-test .taken in
+    let same = sym (same-window (a .scratch .now) (l .scratch) (l .m) (scratch-need P) k) in (
       (record { fit = g .fit; same = g .same; few = g .few; room = subst (λ n. many-need P (a .count) ≤ n) (sym (k .size)) (g .room) }, taken),
       (
         found-part P (parametersOf (a .p)) (a .count) (a .randomness .now) (a .transcripts .now) (l .m) _ _ (g .same) (c .before .check-part .ensures) (s .pre .0 .1 (l .m) taken),
-        λ pass. subst (λ w. Rows-done (a .job .now) (transcript-part P (a .count) (a .transcripts .now) (l .m)) w (row-count P)) (sym (same-window (a .scratch .now) (l .scratch) (l .m) (scratch-need P) k)) (s .pre .1 (l .m) taken pass),
+        (
+          λ pass. subst (λ w. Rows-done (a .job .now) (transcript-part P (a .count) (a .transcripts .now) (l .m)) w (row-count P)) same (s .pre .1 .0 (l .m) taken pass),
+          λ pass t. subst (λ w. Holds w (phi-at P) (alpha-words (a .job .now) (randomness-part P (a .count) (a .randomness .now) (l .m)))) same (s .pre .1 .1 t (l .m) taken pass),
+        ),
       ),
     )
 

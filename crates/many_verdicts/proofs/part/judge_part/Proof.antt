@@ -13,6 +13,7 @@ use Rattle.relation.specs.Parameters.{parametersOf}
 use Rattle.sizes.specs.Sizes.{Sized}
 use Rattle.admission.proofs.Ready.{job-sized}
 use Rattle.many_parts.proofs.Cut.{in-order, between}
+use Rattle.many_phi.specs.AlphaPart.{Alpha-if, phi-at}
 use Rattle.many_admission.proofs.Verdicts.{part-verifiable, part-judged}
 use Rattle.many_verdicts.proofs.part.judge_part.Statement.{statement}
 use Rattle.many_verdicts.proofs.part.judge_part.Tie as tie
@@ -56,7 +57,13 @@ judge-window-requires c κs =
     let g = s .pre .0 .0 in
     let more : (a .m + 1) * need ≤ a .count * need = mul-le-mul-right need (omega arith) in (
       part-verifiable (a .job .now) (a .count) (a .randomness .now) (a .transcripts .now) (a .m) (g .fit) _ _ (randomness-is r) (transcript-is t) (s .pre .1 .0) (a .p) (g .same),
-      ((omega (arith, g .few), omega (arith, more, g .room)), subst (λ T. Rows-done (a .job .now) T (window (parameters (a .job .now)) (a .scratch .now) (a .m)) (row-count (parameters (a .job .now)))) (sym (transcript-is t)) (s .pre .1 .1)),
+      (
+        (omega (arith, g .few), omega (arith, more, g .room)),
+        (
+          subst (λ T. Rows-done (a .job .now) T (window (parameters (a .job .now)) (a .scratch .now) (a .m)) (row-count (parameters (a .job .now)))) (sym (transcript-is t)) (s .pre .1 .1 .0),
+          subst (λ R. Alpha-if (a .weighed) (a .job .now) R (phi-at (parameters (a .job .now))) (window (parameters (a .job .now)) (a .scratch .now) (a .m))) (sym (randomness-is r)) (s .pre .1 .1 .1),
+        ),
+      ),
     )
 
 returns : tie.Need-returns

@@ -8,6 +8,7 @@ use Rattle.protocol.specs.Parameters.{parameters}
 use Rattle.protocol.specs.Layout.{scratch-need}
 use Rattle.protocol.specs.Many.{Rows-done, row-count}
 use Rattle.admission.specs.Admission.{Verifiable}
+use Rattle.many_phi.specs.AlphaPart.{Alpha-if, phi-at}
 use Rattle.verifier.proofs.Whole.{call-sized}
 use Rattle.many_verdicts.proofs.Windows.{inside, lent-window, lent-length, kept-window}
 use Rattle.many_verdicts.proofs.part.judge_window.Statement.{statement}
@@ -34,7 +35,13 @@ judge-requires c κs =
     let l = lent-length (s .args .scratch .now) (s .args .m) need (k .scratch-length .result) (need-is k) (s .pre .1 .0 .1) in
     let w = lent-window (s .args .scratch .now) (s .args .m) need (k .scratch-length .result) (need-is k) (s .pre .1 .0 .1) in (
       subst (λ n. Verifiable (s .args .job .now) (s .args .randomness .now) (s .args .transcript .now) n (s .args .p)) (sym l) (s .pre .0),
-      (l, subst (λ w. Rows-done (s .args .job .now) (s .args .transcript .now) w (row-count (parameters (s .args .job .now)))) (sym w) (s .pre .1 .1)),
+      (
+        l,
+        (
+          subst (λ w. Rows-done (s .args .job .now) (s .args .transcript .now) w (row-count (parameters (s .args .job .now)))) (sym w) (s .pre .1 .1 .0),
+          subst (λ w. Alpha-if (s .args .weighed) (s .args .job .now) (s .args .randomness .now) (phi-at (parameters (s .args .job .now))) w) (sym w) (s .pre .1 .1 .1),
+        ),
+      ),
     )
 
 returns : tie.Need-returns

@@ -16,7 +16,8 @@ judge-part-requires c κs =
     let s = k .before .before .before .before .before .before in
     let is = k .enum-told .given .1 in
     let e = sym (s .pre .1 .0) ∙ ap ofChecked is in
-    (s .pre .0, (e, s .pre .1 .1 (ap (λ x. result x true false) e)))
+    let pass = ap (λ x. result x true false) e in
+    (s .pre .0, (e, (s .pre .1 .1 .0 pass, s .pre .1 .1 .1 pass)))
 
 returns : tie.Need-returns
 returns c =

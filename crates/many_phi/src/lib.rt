@@ -1,0 +1,78 @@
+// The part of φ that alpha weighs, made for all transcripts of a call together where that is less work (document 02, Item 11).
+use layout::sections;
+use many_alpha;
+use many_alpha::Windows;
+use regions;
+use relation::env_params::EnvironmentParameters;
+use sizes::buffers;
+use sizes::offsets;
+use sizes::slices;
+ghost use mathlib.Core.Path.{_≡_};
+ghost use mathlib.Core.Bool.{true, false};
+ghost use Prim.Native.Nat.{_≤_, _<_, _^_};
+ghost use lib.ListN.{length, getD};
+ghost use Rattle.protocol.specs.Parameters.{parameters};
+ghost use Rattle.protocol.specs.Kept.{Kept};
+ghost use Rattle.protocol.specs.Many.{many-need};
+ghost use Rattle.relation.specs.Parameters.{parametersOf};
+ghost use Rattle.sizes.specs.Sizes.{Sized};
+ghost use Rattle.many_admission.specs.Admitted.{Given};
+ghost use Rattle.many_phi.specs.AlphaPart.{windows-of, shares, Alpha-parts, Products-stay};
+
+// The windows of so many transcripts.
+pub fn windows(p: EnvironmentParameters, count: usize) -> Windows
+    requires { ⌜ Sized (parametersOf p) ⌝ }
+    ensures { λ v. ⌜ v ≡ windows-of (parametersOf p) count ⌝ }
+    ensures { λ v. ⌜ v .len < 2 ^ 32 ⌝ }
+{
+    let q = regions::lay_out(p.rank, p.multiplicity, p.kappa, p.const_agg_length);
+    Windows {
+        count,
+        need: buffers::scratch_length(p),
+        len: sections::span(slices::randomness_sections(p, 7), 0, 7),
+        alpha: offsets::of_randomness(p, 3),
+        k: p.constraint_k,
+        phi: q.phi,
+        width: p.multiplicity * p.rank,
+    }
+}
+
+// Whether alpha's part is made for all transcripts together, with a randomness of `handed` words.
+pub fn shared(v: Windows, handed: usize) -> bool
+    requires { ⌜ (v .count ≤ 8) × (v .k ≤ 64) × (v .len < 2 ^ 32) ⌝ }
+    ensures { λ r. ⌜ r ≡ shares v handed ⌝ }
+{
+    if v.count < 2 {
+        return false;
+    }
+    if v.k < 3 {
+        return false;
+    }
+    if v.phi < 192 * v.k {
+        return false;
+    }
+    v.count * v.len <= handed
+}
+
+// Alpha's part of φ into the window of every transcript that passes, where it is made for all together.
+pub fn alpha_parts(
+    job: &[u32],
+    randomness: &[u32],
+    p: EnvironmentParameters,
+    count: usize,
+    passes: [bool; 8],
+    scratch: &mut [u32],
+) -> bool
+    requires { ⌜ Given (now job) count (length (now scratch)) p ⌝ }
+    ensures { λ r. ⌜ r ≡ shares (windows-of (parameters (now (job .entry))) count) (length (now (randomness .entry))) ⌝ }
+    ensures { λ r. ⌜ (r ≡ true → Alpha-parts (now (job .entry)) count (λ m. getD passes m false) (now (randomness .entry)) (now (scratch .exit))) ⌝ }
+    ensures { λ r. ⌜ Products-stay (parameters (now (job .entry))) count (now (scratch .entry)) (now (scratch .exit)) ⌝ }
+    ensures { λ r. ⌜ Kept (many-need (parameters (now (job .entry))) count) (now (scratch .entry)) (now (scratch .exit)) ⌝ }
+{
+    let v = windows(p, count);
+    if shared(v, randomness.len()) {
+        many_alpha::weigh(job, offsets::of_job(p, 4), randomness, v, passes, scratch);
+        return true;
+    }
+    false
+}
