@@ -34,7 +34,7 @@ use Rattle.kept_garbage.specs.KeptGarbage.{kept-gram}
 use Rattle.kept_garbage.proofs.Laws.{g-kept}
 use Rattle.kept_commitments.specs.Spread.{ColumnsRoom}
 use Rattle.kept_h.specs.KeptLines.{lines-of, HRoom}
-use Rattle.commitments.specs.Cells.{digits-at, vector-norm}
+use Rattle.commitments.specs.Cells.{digits-at, vector-norm, Room, commitments-of}
 use Rattle.commitments.proofs.Answers.{require-leb}
 use Rattle.commitments.proofs.Formula.{digits, t-is, witness-norm-is, t-norm-is, g-norm-is, h-norm-is}
 use Rattle.garbage_polynomials.specs.Garbage.{h-of}
@@ -52,8 +52,8 @@ use Rattle.workspace.proofs.Aggregated.{a″-symmetric}
 use Rattle.workspace.proofs.Ready.{ready-changed, regions-end, A-within, φ″-end, a″-end, φ-end, a-end, g-end, c-end, t-end, u-end, b″-end}
 use Rattle.prover_commit.specs.Words.{statement, X, s, t-words, g-words, b″-words, h-words}
 use Rattle.prover_commit.specs.Refusals.{t-refusal, g-refusal, h-refusal, first-refusal, t-check, g-check, h-check}
-use Rattle.prover_commit.specs.Work.{Given, Where-made, Committed, with-h-words}
-use Rattle.prover_commit.proofs.Lengths.{length-t, length-g, length-h}
+use Rattle.prover_commit.specs.Work.{Given, Where-made, with-h-words}
+use Rattle.prover_commit.proofs.Lengths.{length-h}
 
 -- the witness's words stand after their count
 witness-start : (P : Parameters) → start (witness-sections P) 0 ≡ 1
@@ -164,15 +164,21 @@ module _ (J W : List ℕ) (p : EnvironmentParameters) (q : Regions) (S : List �
         (omega (arith, values-room, a″-below-g, g-before-t), omega (arith, t-room, h .ready .room), omega (arith, h .ready .sound .within .κ .1), h .ready .sound .within .n .1, omega (arith, h .ready .sound .within .r .1)),
       ))
 
-  pub t-made : (S′ : List ℕ) (at : ℕ) → at ≡ 31 + start (job-sections (parametersOf p)) 6
-      → S′ ≡ splice (splice S (q .phi2) vs) (q .t) (flat (rows (p .multiplicity) (p .kappa) (λ i k. dot (p .rank) (vector J at (p .rank) k) (vector W 1 (p .rank) i)))) → S′ ≡ splice (splice S (q .phi2) vs) (q .t) (t-words J W)
-  t-made S′ at e w =
+  -- the words of t, from the place of A
+  pub t-made : (S₀ S′ : List ℕ) (at : ℕ) → at ≡ 31 + start (job-sections (parametersOf p)) 6
+      → S′ ≡ splice S₀ (q .t) (commitments-of J at (p .kappa) (p .rank) W 1 (p .multiplicity)) → S′ ≡ splice S₀ (q .t) (t-words J W)
+  t-made S₀ S′ at e w =
       w
-      ∙ ap (splice (splice S (q .phi2) vs) (q .t))
-      (ap (λ k. flat (rows (p .multiplicity) (p .kappa) (λ i j. dot (p .rank) (vector J k (p .rank) j) (vector W 1 (p .rank) i)))) e
-      ∙ ap (λ Q. flat (rows (Q .r) (Q .κ) (λ i j. dot (Q .n) (vector J (31 + start (job-sections Q) 6) (Q .n) j) (vector W 1 (Q .n) i)))) (h .ready .same)
-      ∙ ap (λ k. flat (rows (P .r) (P .κ) (λ i j. dot (P .n) (vector J (31 + start (job-sections P) 6) (P .n) j) (vector W k (P .n) i)))) (sym (witness-start P))
+      ∙ ap (splice S₀ (q .t))
+      (ap (λ k. commitments-of J k (p .kappa) (p .rank) W 1 (p .multiplicity)) e
+      ∙ ap (λ Q. commitments-of J (31 + start (job-sections Q) 6) (Q .κ) (Q .n) W 1 (Q .r)) (h .ready .same)
+      ∙ ap (λ k. commitments-of J (31 + start (job-sections P) 6) (P .κ) (P .n) W k (P .r)) (sym (witness-start P))
       ∙ ap (λ f. flat (rows (P .r) (P .κ) f)) (t-is J [] W))
+
+  -- and what `commit_all` needs
+  pub t-plain-fits : (at : ℕ) → at ≡ 31 + start (job-sections (parametersOf p)) 6
+      → Room J at (p .kappa * p .rank) × Room W 1 (p .multiplicity * p .rank) × Room S (q .t) (p .multiplicity * p .kappa) × (p .rank ≤ 64) × (p .kappa ≤ 64)
+  t-plain-fits at e = let k = t-fits at e in (k .0, k .1, k .2 .1, k .2 .3, k .2 .2)
 
   -- g: what `compute_g` needs, and what it stores
   pub g-fits : Keeps S (q .phi2) W 1 (p .multiplicity * p .rank)
@@ -183,14 +189,23 @@ module _ (J W : List ℕ) (p : EnvironmentParameters) (q : Regions) (S : List �
       (omega (arith, values-room, a″-below-g), omega (arith, g-room, h .ready .room), omega (arith, h .ready .sound .within .r .1), h .ready .sound .within .n .1) in
       (keeps-values S (q .phi2) W 1 (p .multiplicity * p .rank) k, fits .0, fits .1, fits .2, fits .3)
 
-  pub g-made : (S′ : List ℕ) → Keeps S (q .phi2) W 1 (p .multiplicity * p .rank) → S′ ≡ splice S (q .g) (flat (triangle (p .multiplicity) (kept-gram S (q .phi2) (p .rank)))) → S′ ≡ splice S (q .g) (g-words J W)
-  g-made S′ k w =
-      w
-      ∙ ap (splice S (q .g))
-      (ap flat (g-kept S (q .phi2) W 1 (p .multiplicity) (p .rank) (g-fits k .4) k)
-      ∙ ap (λ Q. flat (triangle (Q .r) (gram W 1 (Q .n)))) (h .ready .same)
+  g-is : flat (triangle (p .multiplicity) (gram W 1 (p .rank))) ≡ g-words J W
+  g-is =
+      ap (λ Q. flat (triangle (Q .r) (gram W 1 (Q .n)))) (h .ready .same)
       ∙ ap (λ k. flat (triangle (P .r) (gram W k (P .n)))) (sym (witness-start P))
-      ∙ ap flat (g-formula J [] W))
+      ∙ ap flat (g-formula J [] W)
+
+  pub g-made : (S′ : List ℕ) → Keeps S (q .phi2) W 1 (p .multiplicity * p .rank) → S′ ≡ splice S (q .g) (flat (triangle (p .multiplicity) (kept-gram S (q .phi2) (p .rank)))) → S′ ≡ splice S (q .g) (g-words J W)
+  g-made S′ k w = w ∙ ap (splice S (q .g)) (ap flat (g-kept S (q .phi2) W 1 (p .multiplicity) (p .rank) (g-fits k .4) k) ∙ g-is)
+
+  -- the same by plain inner products
+  pub g-plain-fits : (1 + 64 * (p .multiplicity * p .rank) ≤ length W) × (q .g + 64 * triangular (p .multiplicity) ≤ length S) × (p .multiplicity ≤ 64) × (p .rank ≤ 64)
+  g-plain-fits =
+      subst (λ Q. (1 + 64 * (Q .r * Q .n) ≤ length W) × (q .g + 64 * T Q ≤ length S) × (Q .r ≤ 64) × (Q .n ≤ 64)) (sym (h .ready .same))
+      (witness-fits, omega (arith, g-room, h .ready .room), omega (arith, h .ready .sound .within .r .1), h .ready .sound .within .n .1)
+
+  pub g-plain-made : (S′ : List ℕ) → S′ ≡ splice S (q .g) (flat (triangle (p .multiplicity) (gram W 1 (p .rank)))) → S′ ≡ splice S (q .g) (g-words J W)
+  g-plain-made S′ w = w ∙ ap (splice S (q .g)) g-is
 
   -- h: what `compute_h` needs, and what it stores from φ
   pub h-fits : (1 + 64 * (p .multiplicity * p .rank) ≤ length W) × HRoom S (p .multiplicity) (p .rank) (q .phi2) (q .a2) (q .phi) (q .a)
@@ -316,36 +331,6 @@ module _ (J W : List ℕ) (p : EnvironmentParameters) (q : Regions) (S : List �
       ∙ require-leb (norm-of (digits-at S (digits (q .a) (T P) (P .t₁)) (P .b))) (P .bound-D) (refused 16 0)
       ∙ sym (h-norm-is J R S (q .a) (F.h (X J R) (s J W)) (triangle-held S (q .a) (P .r) (F.h (X J R) (s J W)) (h-symmetric (X J R) (s J W)) d))
 
-  -- a scratch into which the values and t were stored
-  module _ (S₁ : List ℕ) (e : S₁ ≡ splice (splice S (q .phi2) vs) (q .t) (t-words J W)) where
-    size₁ : length S₁ ≡ length S
-    size₁ = ap length e ∙ length-splice (splice S (q .phi2) vs) (q .t) (t-words J W) ∙ length-splice S (q .phi2) vs
-
-    pub given-t : Given J W p q S₁
-    given-t = given-changed S₁ size₁
-
-    pub held-t : Holds S₁ (q .t) (t-words J W)
-    held-t = held-stored (splice S (q .phi2) vs) S₁ (q .t) (t-words J W) e (omega (arith, length-t J W, t-room, h .ready .room, length-splice S (q .phi2) vs))
-
-    pub kept-t : Kept (scratch-need P) S S₁
-    kept-t =
-        kept-stored (scratch-need P) S (splice S (q .phi2) vs) S₁ (q .t) (t-words J W)
-        (kept-stored (scratch-need P) S S (splice S (q .phi2) vs) (q .phi2) vs (kept-refl (scratch-need P) S) refl (omega (arith, values-end, g-room))) e (omega (arith, length-t J W, t-room))
-
-    -- and then g
-    module _ (S₂ : List ℕ) (e′ : S₂ ≡ splice S₁ (q .g) (g-words J W)) where
-      pub given-g : Given J W p q S₂
-      given-g = given-changed S₂ (ap length e′ ∙ length-splice S₁ (q .g) (g-words J W) ∙ size₁)
-
-      pub held-g : Holds S₂ (q .g) (g-words J W)
-      held-g = held-stored S₁ S₂ (q .g) (g-words J W) e′ (omega (arith, length-g J W, g-room, h .ready .room, size₁))
-
-      pub kept-g : Kept (scratch-need P) S S₂
-      kept-g = kept-stored (scratch-need P) S S₁ S₂ (q .g) (g-words J W) kept-t e′ (omega (arith, length-g J W, g-room))
-
-      pub committed : Committed J W q S₂
-      committed =
-          record {
-            t = held-after S₁ S₂ (q .g) (g-words J W) e′ (q .t) (t-words J W) (omega (arith, length-g J W, g-end J p q S (h .ready), c-end J p q S (h .ready))) held-t;
-            g = held-g;
-          }
+  -- the values stored
+  pub values-kept : Kept (scratch-need P) S (splice S (q .phi2) vs)
+  values-kept = kept-stored (scratch-need P) S S (splice S (q .phi2) vs) (q .phi2) vs (kept-refl (scratch-need P) S) refl (omega (arith, values-end, g-room))

@@ -3,6 +3,8 @@ use commitment_bounds::common_instances;
 use commitments::outer_commitments::Digits;
 use definitions::answers::Proved;
 use definitions::answers::Refusal;
+use garbage_polynomials::g;
+use inner_commitments::ajtai_commitment;
 use kept_commitments;
 use kept_garbage;
 use regions::Regions;
@@ -10,6 +12,7 @@ use relation::env_params::EnvironmentParameters;
 use sizes::offsets;
 use sizes::slices;
 ghost use mathlib.Core.Path.{_≡_};
+ghost use lib.Dec.{eqb};
 ghost use Rattle.definitions.specs.Answer.{ofProved, _then_};
 ghost use Rattle.protocol.specs.Parameters.{parameters};
 ghost use Rattle.protocol.specs.Layout.{scratch-need};
@@ -52,8 +55,15 @@ fn check_g(p: EnvironmentParameters, q: Regions, scratch: &[u32]) -> Proved
     }
 }
 
-// "t_i = A·s_i" and "g_ij = ⟨s_i,s_j⟩", with 14 and 15.
-fn commit_t_and_g(
+// Vectors of one element: a kept sum's way back takes longer than the one plain product that it stands for.
+pub fn plain_is_faster(n: usize) -> bool
+    ensures { λ result. ⌜ result ≡ eqb n 1 ⌝ }
+{
+    n == 1
+}
+
+// "t_i = A·s_i" and "g_ij = ⟨s_i,s_j⟩" by kept transforms, with 14 and 15.
+fn commit_kept(
     job: &[u32],
     witness: &[u32],
     p: EnvironmentParameters,
@@ -84,6 +94,60 @@ fn commit_t_and_g(
             kept_garbage::compute_g(scratch, q.phi2, p.multiplicity, p.rank, q.g);
             check_g(p, q, scratch)
         }
+    }
+}
+
+// The same by plain products.
+fn commit_plain(
+    job: &[u32],
+    witness: &[u32],
+    p: EnvironmentParameters,
+    q: Regions,
+    scratch: &mut [u32],
+) -> Proved
+    requires { ⌜ Given (now job) (now witness) p q (now scratch) ⌝ }
+    ensures { λ result. ⌜ ofProved result ≡ t-refusal (now (job .entry)) (now (witness .entry)) then g-refusal (now (job .entry)) (now (witness .entry)) ⌝ }
+    ensures { λ result. ⌜ Kept (scratch-need (parameters (now (job .entry)))) (now (scratch .entry)) (now (scratch .exit)) ⌝ }
+    ensures { λ result. ⌜ Where-made result (Committed (now (job .entry)) (now (witness .entry)) q (now (scratch .exit))) ⌝ }
+{
+    let a_at = offsets::of_job(p, 6);
+    ajtai_commitment::commit_all(
+        job,
+        a_at,
+        p.kappa,
+        p.rank,
+        witness,
+        1,
+        p.multiplicity,
+        scratch,
+        q.t,
+    );
+    match check_t(p, q, scratch) {
+        Proved::Refused(refusal) => Proved::Refused(refusal),
+        Proved::Made => {
+            g::compute_g(witness, 1, p.multiplicity, p.rank, scratch, q.g);
+            check_g(p, q, scratch)
+        }
+    }
+}
+
+// The same by the faster way.
+fn commit_t_and_g(
+    job: &[u32],
+    witness: &[u32],
+    p: EnvironmentParameters,
+    q: Regions,
+    scratch: &mut [u32],
+) -> Proved
+    requires { ⌜ Given (now job) (now witness) p q (now scratch) ⌝ }
+    ensures { λ result. ⌜ ofProved result ≡ t-refusal (now (job .entry)) (now (witness .entry)) then g-refusal (now (job .entry)) (now (witness .entry)) ⌝ }
+    ensures { λ result. ⌜ Kept (scratch-need (parameters (now (job .entry)))) (now (scratch .entry)) (now (scratch .exit)) ⌝ }
+    ensures { λ result. ⌜ Where-made result (Committed (now (job .entry)) (now (witness .entry)) q (now (scratch .exit))) ⌝ }
+{
+    if plain_is_faster(p.rank) {
+        commit_plain(job, witness, p, q, scratch)
+    } else {
+        commit_kept(job, witness, p, q, scratch)
     }
 }
 
