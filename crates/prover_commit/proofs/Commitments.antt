@@ -33,7 +33,7 @@ use Rattle.kept_vectors.proofs.Laws.{keeps-values}
 use Rattle.kept_garbage.specs.KeptGarbage.{kept-gram}
 use Rattle.kept_garbage.proofs.Laws.{g-kept}
 use Rattle.kept_commitments.specs.Spread.{ColumnsRoom}
-use Rattle.kept_h.specs.KeptLines.{lines-of, HRoom}
+use Rattle.kept_h.specs.KeptLines.{HRoom}
 use Rattle.commitments.specs.Cells.{digits-at, vector-norm, Room, commitments-of}
 use Rattle.commitments.proofs.Answers.{require-leb}
 use Rattle.commitments.proofs.Formula.{digits, t-is, witness-norm-is, t-norm-is, g-norm-is, h-norm-is}
@@ -46,14 +46,15 @@ use Rattle.relation.specs.declared.env_params.EnvironmentParameters.{Environmen
 use Rattle.relation.specs.Parameters.{parametersOf}
 use Rattle.workspace.specs.Holds.{Holds, Kept}
 use Rattle.workspace.specs.Aggregated.{a″-words, φ″-words, φ-words}
-use Rattle.workspace.proofs.Holds.{holds-stored, holds-before, holds-after, vectors-held, triangle-held, vectors-list-held, triangle-list-held}
-use Rattle.workspace.proofs.Kept.{kept-refl, kept-stored}
+use Rattle.workspace.proofs.Holds.{holds-stored, holds-before, holds-after, holds-kept, vectors-held, triangle-held, vectors-list-held, triangle-list-held}
+use Rattle.workspace.proofs.Kept.{kept-refl, kept-trans, kept-weaken, kept-splice, kept-stored}
 use Rattle.workspace.proofs.Aggregated.{a″-symmetric}
 use Rattle.workspace.proofs.Ready.{ready-changed, regions-end, A-within, φ″-end, a″-end, φ-end, a-end, g-end, c-end, t-end, u-end, b″-end}
 use Rattle.prover_commit.specs.Words.{statement, X, s, t-words, g-words, b″-words, h-words}
 use Rattle.prover_commit.specs.Refusals.{t-refusal, g-refusal, h-refusal, first-refusal, t-check, g-check, h-check}
-use Rattle.prover_commit.specs.Work.{Given, Where-made, with-h-words}
+use Rattle.prover_commit.specs.Work.{Given, Where-made, Ready-for-h, with-h}
 use Rattle.prover_commit.proofs.Lengths.{length-h}
+use Rattle.prover_commit.proofs.Room.{placed}
 
 -- the witness's words stand after their count
 witness-start : (P : Parameters) → start (witness-sections P) 0 ≡ 1
@@ -207,67 +208,48 @@ module _ (J W : List ℕ) (p : EnvironmentParameters) (q : Regions) (S : List �
   pub g-plain-made : (S′ : List ℕ) → S′ ≡ splice S (q .g) (flat (triangle (p .multiplicity) (gram W 1 (p .rank)))) → S′ ≡ splice S (q .g) (g-words J W)
   g-plain-made S′ w = w ∙ ap (splice S (q .g)) g-is
 
-  -- h: what `compute_h` needs, and what it stores from φ
-  pub h-fits : (1 + 64 * (p .multiplicity * p .rank) ≤ length W) × HRoom S (p .multiplicity) (p .rank) (q .phi2) (q .a2) (q .phi) (q .a)
+  -- h: what its making needs
+  h-fits : (1 + 64 * (p .multiplicity * p .rank) ≤ length W) × HRoom S (p .multiplicity) (p .rank) (q .phi2) (q .a2) (q .phi) (q .a)
   h-fits =
       subst (λ Q. (1 + 64 * (Q .r * Q .n) ≤ length W) × HRoom S (Q .r) (Q .n) (q .phi2) (q .a2) (q .phi) (q .a)) (sym (h .ready .same))
       (witness-fits, (values-room, square-room, φ-end J p q S (h .ready), omega (arith, a-room, h .ready .room), h .ready .sound .within .n .1, omega (arith, h .ready .sound .within .r .1)))
 
-  pub h-made : (R S′ : List ℕ) → Holds S (q .phi) (φ-words J R)
-      → S′ ≡ splice (lines-of S (q .phi) W 1 (p .multiplicity) (p .rank) (q .phi2) (q .a2)) (q .a) (flat (triangle (p .multiplicity) (h-of S (q .phi) W 1 (p .rank)))) → S′ ≡ with-h-words J R W p q S
-  h-made R S′ φ w =
-      w
-      ∙ ap (splice (lines-of S (q .phi) W 1 (p .multiplicity) (p .rank) (q .phi2) (q .a2)) (q .a))
-      (ap (λ Q. flat (triangle (Q .r) (h-of S (q .phi) W 1 (Q .n)))) (h .ready .same)
-      ∙ ap (λ k. flat (triangle (P .r) (h-of S (q .phi) W k (P .n)))) (sym (witness-start P))
-      ∙ ap flat (h-formula J R W S (q .phi) (vectors-held S (q .phi) (P .r) (P .n) (F.φ-sum (X J R)) φ)))
+  pub ready-for-h : Ready-for-h W p q S
+  ready-for-h = record { placed = placed J p q S (h .ready); witness = h-fits .0; room = h-fits .1 }
 
-  -- a scratch into which h was stored, and before it the values and the square
-  module _ (R S′ : List ℕ) (e : S′ ≡ with-h-words J R W p q S) where
-    abbrev cells : List ℕ
-    cells = flat (rows (p .multiplicity) (p .multiplicity) (λ i j. dot (p .rank) (vector S (q .phi) (p .rank) i) (vector W 1 (p .rank) j)))
+  -- a scratch with φ, into which h was stored
+  module _ (R S′ : List ℕ) (φ : Holds S (q .phi) (φ-words J R)) (kept : Kept (q .phi) (with-h W p q S) S′) where
+    h-is : with-h W p q S ≡ splice S (q .a) (h-words J R W)
+    h-is =
+        ap (splice S (q .a))
+        (ap (λ Q. flat (triangle (Q .r) (h-of S (q .phi) W 1 (Q .n)))) (h .ready .same)
+        ∙ ap (λ k. flat (triangle (P .r) (h-of S (q .phi) W k (P .n)))) (sym (witness-start P))
+        ∙ ap flat (h-formula J R W S (q .phi) (vectors-held S (q .phi) (P .r) (P .n) (F.φ-sum (X J R)) φ)))
 
-    abbrev S₁ : List ℕ
-    S₁ = splice S (q .phi2) (kept-words W 1 (p .multiplicity * p .rank))
+    from-φ : Kept (q .phi) (splice S (q .a) (h-words J R W)) S′
+    from-φ = subst (λ l. Kept (q .phi) l S′) h-is kept
 
-    abbrev S₂ : List ℕ
-    S₂ = splice S₁ (q .a2) cells
-
-    square-end : q .a2 + length cells ≤ q .g
-    square-end =
-        subst (λ Q. q .a2 + length (flat (rows (Q .r) (Q .r) (λ i j. dot (Q .n) (vector S (q .phi) (Q .n) i) (vector W 1 (Q .n) j)))) ≤ q .g) (sym (h .ready .same))
-        (omega (arith, square-room, φ-end J p q S (h .ready), a-end J p q S (h .ready), length-flat (rows (P .r) (P .r) f), length-rows (P .r) f (P .r)))
-      where
-        f : ℕ → ℕ → Element
-        f i j = dot (P .n) (vector S (q .phi) (P .n) i) (vector W 1 (P .n) j)
+    φ-first : q .phi ≤ q .a
+    φ-first = omega (arith, φ-end J p q S (h .ready))
 
     h-end : q .a + length (h-words J R W) ≤ q .g
     h-end = omega (arith, length-h J R W, a-end J p q S (h .ready))
 
-    stored : S′ ≡ splice S₂ (q .a) (h-words J R W)
-    stored = e ∙ ap (λ l. splice l (q .a) (h-words J R W)) (unfold lines-of in refl)
-
-    lines-size : length S₂ ≡ length S
-    lines-size = length-splice S₁ (q .a2) cells ∙ length-splice S (q .phi2) (kept-words W 1 (p .multiplicity * p .rank))
-
     pub given-h : Given J W p q S′
-    given-h = given-changed S′ (ap length stored ∙ length-splice S₂ (q .a) (h-words J R W) ∙ lines-size)
+    given-h = given-changed S′ (kept .size ∙ ap length h-is ∙ length-splice S (q .a) (h-words J R W))
 
     pub held-h : Holds S′ (q .a) (h-words J R W)
-    held-h = held-stored S₂ S′ (q .a) (h-words J R W) stored (omega (arith, h-end, g-room, h .ready .room, lines-size))
+    held-h = holds-kept (q .phi) (splice S (q .a) (h-words J R W)) S′ (q .a) (h-words J R W) from-φ φ-first (holds-stored S (q .a) (h-words J R W) (omega (arith, h-end, g-room, h .ready .room)))
 
     pub kept-h : Kept (scratch-need P) S S′
     kept-h =
-        kept-stored (scratch-need P) S S₂ S′ (q .a) (h-words J R W)
-        (kept-stored (scratch-need P) S S₁ S₂ (q .a2) cells (kept-stored (scratch-need P) S S S₁ (q .phi2) (kept-words W 1 (p .multiplicity * p .rank)) (kept-refl (scratch-need P) S) refl (omega (arith, values-end, g-room))) refl (omega (arith, square-end, g-room)))
-        stored (omega (arith, h-end, g-room))
+        kept-trans (scratch-need P) S (splice S (q .a) (h-words J R W)) S′ (kept-splice (scratch-need P) S (q .a) (h-words J R W) (omega (arith, h-end, g-room)))
+        (kept-weaken (q .phi) (scratch-need P) (splice S (q .a) (h-words J R W)) S′ (omega (arith, φ-first, h-end, g-room)) from-φ)
 
     -- what stands from g on is as it was
     pub stands-h : (at : ℕ) (ws : List ℕ) → q .g ≤ at → Holds S at ws → Holds S′ at ws
     stands-h at ws l k =
-        held-after S₂ S′ (q .a) (h-words J R W) stored at ws (omega (arith, h-end, l))
-        (held-after S₁ S₂ (q .a2) cells refl at ws (omega (arith, square-end, l))
-        (held-after S S₁ (q .phi2) (kept-words W 1 (p .multiplicity * p .rank)) refl at ws (omega (arith, values-end, l)) k))
+        holds-kept (q .phi) (splice S (q .a) (h-words J R W)) S′ at ws from-φ (omega (arith, φ-first, h-end, l)) (holds-after S at ws (q .a) (h-words J R W) (omega (arith, h-end, l)) k)
 
   -- b'': what `b_double_prime` needs, and what it stores from a'', g and φ''
   pub b″-fits : (q .a2 + 64 * (p .«const_agg_length» * triangular (p .multiplicity)) ≤ q .b2) × (q .g + 64 * triangular (p .multiplicity) ≤ q .b2) × (q .phi2 + 64 * (p .«const_agg_length» * (p .multiplicity * p .rank)) ≤ q .b2)
