@@ -1,6 +1,8 @@
 -- What the steps of the prover's work stand on, and what they leave in the scratch.
+use mathlib.Core.Bool.{Bool, _||_}
 use mathlib.Core.List.{List}
 use Prim.Native.Nat.{ℕ, _+_, _*_, _≤_}
+use lib.Dec.{eqb, leb}
 use lib.ListN.{length}
 use Rattle.lists.specs.Part.{splice}
 use Rattle.definitions.specs.declared.answers.Proved.{Proved}
@@ -70,6 +72,10 @@ module _ (J R W : List ℕ) (q : Regions) (scratch : List ℕ) where
   Filled C.Round3 = Holds scratch (q .b2) (b″-words J R W)
   Filled C.Round4 = Aggregated
   Filled C.Round5 = Aggregated × Holds scratch (q .challenges) (c-words J R)
+
+-- r vectors of n elements whose t, g and h are made by plain products: one element each, or few in all, are used too seldom for transforms to pay (docs/DECISIONS.md)
+abbrev pub plain-sizes : (n r : ℕ) → Bool
+plain-sizes n r = eqb n 1 || leb (n * r) 4
 
 -- the witness's vectors, and the regions with room for what h is made of
 pub record Ready-for-h (W : List ℕ) (p : EnvironmentParameters) (q : Regions) (scratch : List ℕ) : Type 0 where

@@ -12,13 +12,13 @@ use relation::env_params::EnvironmentParameters;
 use sizes::offsets;
 use sizes::slices;
 ghost use mathlib.Core.Path.{_≡_};
-ghost use lib.Dec.{eqb};
+ghost use Prim.Native.Nat.{_≤_};
 ghost use Rattle.definitions.specs.Answer.{ofProved, _then_};
 ghost use Rattle.protocol.specs.Parameters.{parameters};
 ghost use Rattle.protocol.specs.Layout.{scratch-need};
 ghost use Rattle.workspace.specs.Holds.{Kept};
 ghost use Rattle.prover_commit.specs.Refusals.{t-refusal, g-refusal, first-refusal, t-check, g-check};
-ghost use Rattle.prover_commit.specs.Work.{Given, Placed, Where-made, Committed};
+ghost use Rattle.prover_commit.specs.Work.{Given, Placed, Where-made, Committed, plain-sizes};
 
 // "14 digits of t above B's bound", of the cells of its region.
 fn check_t(p: EnvironmentParameters, q: Regions, scratch: &[u32]) -> Proved
@@ -55,11 +55,12 @@ fn check_g(p: EnvironmentParameters, q: Regions, scratch: &[u32]) -> Proved
     }
 }
 
-// Vectors of one element: a kept sum's way back takes longer than the one plain product that it stands for.
-pub fn plain_is_faster(n: usize) -> bool
-    ensures { λ result. ⌜ result ≡ eqb n 1 ⌝ }
+// Whether t, g and h take less time by plain products than by kept transforms.
+pub fn plain_is_faster(n: usize, r: usize) -> bool
+    requires { ⌜ (n ≤ 64) × (r ≤ 64) ⌝ }
+    ensures { λ result. ⌜ result ≡ plain-sizes n r ⌝ }
 {
-    n == 1
+    n == 1 || n * r <= 4
 }
 
 // "t_i = A·s_i" and "g_ij = ⟨s_i,s_j⟩" by kept transforms, with 14 and 15.
@@ -144,7 +145,7 @@ fn commit_t_and_g(
     ensures { λ result. ⌜ Kept (scratch-need (parameters (now (job .entry)))) (now (scratch .entry)) (now (scratch .exit)) ⌝ }
     ensures { λ result. ⌜ Where-made result (Committed (now (job .entry)) (now (witness .entry)) q (now (scratch .exit))) ⌝ }
 {
-    if plain_is_faster(p.rank) {
+    if plain_is_faster(p.rank, p.multiplicity) {
         commit_plain(job, witness, p, q, scratch)
     } else {
         commit_kept(job, witness, p, q, scratch)

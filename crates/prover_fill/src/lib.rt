@@ -106,7 +106,7 @@ fn compute_h(witness: &[u32], p: EnvironmentParameters, q: Regions, scratch: &mu
     requires { ⌜ Ready-for-h (now witness) p q (now scratch) ⌝ }
     ensures { λ _. ⌜ Kept (q .phi) (with-h (now (witness .entry)) p q (now (scratch .entry))) (now (scratch .exit)) ⌝ }
 {
-    if plain_is_faster(p.rank) {
+    if plain_is_faster(p.rank, p.multiplicity) {
         h::compute_h(witness, 1, p.multiplicity, p.rank, scratch, q.phi, q.a);
     } else {
         kept_h::compute_h(

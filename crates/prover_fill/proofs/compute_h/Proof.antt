@@ -11,7 +11,7 @@ pub compute-h-spec : {M : Type 1} → statement M
 compute-h-spec =
     tie.close
     (tie.spec
-    (λ c κs. tt)
+    (λ c κs. let k = c .before .before .pre .room in (k .4, k .5))
     (λ c κs. plain-fits _ _ _ _ (c .before .before .before .before .before .pre))
     compute-h-requires-2
     (λ c. search needs)
