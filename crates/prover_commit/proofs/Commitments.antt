@@ -19,14 +19,12 @@ use Rattle.protocol.specs.Checks.{require, first}
 use Rattle.protocol.specs.Parameters.{Parameters, parameters, T, triangular}
 use Rattle.protocol.specs.Layout.{start, job-sections, witness-sections, scratch-need}
 use Rattle.protocol.specs.Formulas as F
-use Rattle.protocol.specs.Formulas.{dot, flat, rows, triangle, norm-of}
+use Rattle.protocol.specs.Formulas.{flat, rows, triangle, norm-of}
 use Rattle.protocol.specs.Prover.{witness-norm}
 use Rattle.protocol.specs.Region.{Triangle}
 use Rattle.protocol.proofs.Then.{then-assoc}
 use Rattle.protocol.proofs.ReadBack.{g-symmetric, h-symmetric}
-use Rattle.protocol.proofs.Flat.{length-flat, length-rows}
-use Rattle.definitions.specs.Rq.{Element}
-use Rattle.rq_matrix.specs.Region.{vector, gram}
+use Rattle.rq_matrix.specs.Region.{gram}
 use Rattle.kept_vectors.specs.Keeps.{kept-words, Keeps, AllValues}
 use Rattle.kept_vectors.proofs.Stored.{length-kept}
 use Rattle.kept_vectors.proofs.Laws.{keeps-values}

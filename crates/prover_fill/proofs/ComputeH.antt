@@ -8,7 +8,6 @@ use lib.ListN.{length}
 use Rattle.lists.specs.Part.{splice}
 use Rattle.lists.proofs.Splice.{length-splice}
 use Rattle.definitions.specs.Rq.{Element}
-use Rattle.protocol.specs.Parameters.{triangular}
 use Rattle.protocol.specs.Formulas.{dot, flat, rows, triangle}
 use Rattle.protocol.proofs.Flat.{length-flat, length-rows}
 use Rattle.rq_matrix.specs.Region.{vector}
