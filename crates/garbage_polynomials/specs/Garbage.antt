@@ -1,10 +1,33 @@
 -- The garbage polynomials h of vectors in slices.
 use mathlib.Core.List.{List}
-use Prim.Native.Nat.{ℕ}
+use Prim.Native.Nat.{ℕ, _+_, _*_, _≤_, _<_}
+use lib.ListN.{length}
 use Rattle.definitions.specs.Rq.{Element}
 use Rattle.protocol.specs.Formulas.{_⊕_, dot}
-use Rattle.rq_matrix.specs.Region.{vector}
+use Rattle.protocol.specs.Parameters.{triangular}
+use Rattle.rq_matrix.specs.Region.{vector, Apart}
 
 -- ⟨φ_i, s_j⟩ + ⟨φ_j, s_i⟩ of vectors of n elements
 abbrev pub h-of : List ℕ → ℕ → List ℕ → ℕ → ℕ → ℕ → ℕ → Element
 h-of φ φ-at s s-at n i j = dot n (vector φ φ-at n i) (vector s s-at n j) ⊕ dot n (vector φ φ-at n j) (vector s s-at n i)
+
+-- r vectors s_i and r vectors φ_i of n elements lie within the slices, and row i has room in the scratch apart from the vectors φ_i
+abbrev pub RowFits : List ℕ → (s-at r n i : ℕ) → List ℕ → (φ-at out-at : ℕ) → Type 0
+RowFits s s-at r n i scratch φ-at out-at =
+    (s-at + 64 * (r * n) ≤ length s)
+    × (φ-at + 64 * (r * n) ≤ length scratch)
+    × (out-at + 64 * (i + 1) ≤ length scratch)
+    × Apart φ-at (64 * (r * n)) out-at (64 * (i + 1))
+    × (i < r)
+    × (r ≤ 64)
+    × (n ≤ 64)
+
+-- the same of all rows
+abbrev pub TriangleFits : List ℕ → (s-at r n : ℕ) → List ℕ → (φ-at out-at : ℕ) → Type 0
+TriangleFits s s-at r n scratch φ-at out-at =
+    (s-at + 64 * (r * n) ≤ length s)
+    × (φ-at + 64 * (r * n) ≤ length scratch)
+    × (out-at + 64 * triangular r ≤ length scratch)
+    × Apart φ-at (64 * (r * n)) out-at (64 * triangular r)
+    × (r ≤ 64)
+    × (n ≤ 64)

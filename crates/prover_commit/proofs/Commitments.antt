@@ -19,22 +19,20 @@ use Rattle.protocol.specs.Checks.{require, first}
 use Rattle.protocol.specs.Parameters.{Parameters, parameters, T, triangular}
 use Rattle.protocol.specs.Layout.{start, job-sections, witness-sections, scratch-need}
 use Rattle.protocol.specs.Formulas as F
-use Rattle.protocol.specs.Formulas.{dot, flat, rows, triangle, norm-of}
+use Rattle.protocol.specs.Formulas.{flat, rows, triangle, norm-of}
 use Rattle.protocol.specs.Prover.{witness-norm}
 use Rattle.protocol.specs.Region.{Triangle}
 use Rattle.protocol.proofs.Then.{then-assoc}
 use Rattle.protocol.proofs.ReadBack.{g-symmetric, h-symmetric}
-use Rattle.protocol.proofs.Flat.{length-flat, length-rows}
-use Rattle.definitions.specs.Rq.{Element}
-use Rattle.rq_matrix.specs.Region.{vector, gram}
+use Rattle.rq_matrix.specs.Region.{gram}
 use Rattle.kept_vectors.specs.Keeps.{kept-words, Keeps, AllValues}
 use Rattle.kept_vectors.proofs.Stored.{length-kept}
 use Rattle.kept_vectors.proofs.Laws.{keeps-values}
 use Rattle.kept_garbage.specs.KeptGarbage.{kept-gram}
 use Rattle.kept_garbage.proofs.Laws.{g-kept}
 use Rattle.kept_commitments.specs.Spread.{ColumnsRoom}
-use Rattle.kept_h.specs.KeptLines.{lines-of, HRoom}
-use Rattle.commitments.specs.Cells.{digits-at, vector-norm}
+use Rattle.kept_h.specs.KeptLines.{HRoom}
+use Rattle.commitments.specs.Cells.{digits-at, vector-norm, Room, commitments-of}
 use Rattle.commitments.proofs.Answers.{require-leb}
 use Rattle.commitments.proofs.Formula.{digits, t-is, witness-norm-is, t-norm-is, g-norm-is, h-norm-is}
 use Rattle.garbage_polynomials.specs.Garbage.{h-of}
@@ -46,14 +44,15 @@ use Rattle.relation.specs.declared.env_params.EnvironmentParameters.{Environmen
 use Rattle.relation.specs.Parameters.{parametersOf}
 use Rattle.workspace.specs.Holds.{Holds, Kept}
 use Rattle.workspace.specs.Aggregated.{a″-words, φ″-words, φ-words}
-use Rattle.workspace.proofs.Holds.{holds-stored, holds-before, holds-after, vectors-held, triangle-held, vectors-list-held, triangle-list-held}
-use Rattle.workspace.proofs.Kept.{kept-refl, kept-stored}
+use Rattle.workspace.proofs.Holds.{holds-stored, holds-before, holds-after, holds-kept, vectors-held, triangle-held, vectors-list-held, triangle-list-held}
+use Rattle.workspace.proofs.Kept.{kept-refl, kept-trans, kept-weaken, kept-splice, kept-stored}
 use Rattle.workspace.proofs.Aggregated.{a″-symmetric}
 use Rattle.workspace.proofs.Ready.{ready-changed, regions-end, A-within, φ″-end, a″-end, φ-end, a-end, g-end, c-end, t-end, u-end, b″-end}
 use Rattle.prover_commit.specs.Words.{statement, X, s, t-words, g-words, b″-words, h-words}
 use Rattle.prover_commit.specs.Refusals.{t-refusal, g-refusal, h-refusal, first-refusal, t-check, g-check, h-check}
-use Rattle.prover_commit.specs.Work.{Given, Where-made, Committed, with-h-words}
-use Rattle.prover_commit.proofs.Lengths.{length-t, length-g, length-h}
+use Rattle.prover_commit.specs.Work.{Given, Where-made, Ready-for-h, with-h}
+use Rattle.prover_commit.proofs.Lengths.{length-h}
+use Rattle.prover_commit.proofs.Room.{placed}
 
 -- the witness's words stand after their count
 witness-start : (P : Parameters) → start (witness-sections P) 0 ≡ 1
@@ -164,15 +163,21 @@ module _ (J W : List ℕ) (p : EnvironmentParameters) (q : Regions) (S : List �
         (omega (arith, values-room, a″-below-g, g-before-t), omega (arith, t-room, h .ready .room), omega (arith, h .ready .sound .within .κ .1), h .ready .sound .within .n .1, omega (arith, h .ready .sound .within .r .1)),
       ))
 
-  pub t-made : (S′ : List ℕ) (at : ℕ) → at ≡ 31 + start (job-sections (parametersOf p)) 6
-      → S′ ≡ splice (splice S (q .phi2) vs) (q .t) (flat (rows (p .multiplicity) (p .kappa) (λ i k. dot (p .rank) (vector J at (p .rank) k) (vector W 1 (p .rank) i)))) → S′ ≡ splice (splice S (q .phi2) vs) (q .t) (t-words J W)
-  t-made S′ at e w =
+  -- the words of t, from the place of A
+  pub t-made : (S₀ S′ : List ℕ) (at : ℕ) → at ≡ 31 + start (job-sections (parametersOf p)) 6
+      → S′ ≡ splice S₀ (q .t) (commitments-of J at (p .kappa) (p .rank) W 1 (p .multiplicity)) → S′ ≡ splice S₀ (q .t) (t-words J W)
+  t-made S₀ S′ at e w =
       w
-      ∙ ap (splice (splice S (q .phi2) vs) (q .t))
-      (ap (λ k. flat (rows (p .multiplicity) (p .kappa) (λ i j. dot (p .rank) (vector J k (p .rank) j) (vector W 1 (p .rank) i)))) e
-      ∙ ap (λ Q. flat (rows (Q .r) (Q .κ) (λ i j. dot (Q .n) (vector J (31 + start (job-sections Q) 6) (Q .n) j) (vector W 1 (Q .n) i)))) (h .ready .same)
-      ∙ ap (λ k. flat (rows (P .r) (P .κ) (λ i j. dot (P .n) (vector J (31 + start (job-sections P) 6) (P .n) j) (vector W k (P .n) i)))) (sym (witness-start P))
+      ∙ ap (splice S₀ (q .t))
+      (ap (λ k. commitments-of J k (p .kappa) (p .rank) W 1 (p .multiplicity)) e
+      ∙ ap (λ Q. commitments-of J (31 + start (job-sections Q) 6) (Q .κ) (Q .n) W 1 (Q .r)) (h .ready .same)
+      ∙ ap (λ k. commitments-of J (31 + start (job-sections P) 6) (P .κ) (P .n) W k (P .r)) (sym (witness-start P))
       ∙ ap (λ f. flat (rows (P .r) (P .κ) f)) (t-is J [] W))
+
+  -- and what `commit_all` needs
+  pub t-plain-fits : (at : ℕ) → at ≡ 31 + start (job-sections (parametersOf p)) 6
+      → Room J at (p .kappa * p .rank) × Room W 1 (p .multiplicity * p .rank) × Room S (q .t) (p .multiplicity * p .kappa) × (p .rank ≤ 64) × (p .kappa ≤ 64)
+  t-plain-fits at e = let k = t-fits at e in (k .0, k .1, k .2 .1, k .2 .3, k .2 .2)
 
   -- g: what `compute_g` needs, and what it stores
   pub g-fits : Keeps S (q .phi2) W 1 (p .multiplicity * p .rank)
@@ -183,76 +188,66 @@ module _ (J W : List ℕ) (p : EnvironmentParameters) (q : Regions) (S : List �
       (omega (arith, values-room, a″-below-g), omega (arith, g-room, h .ready .room), omega (arith, h .ready .sound .within .r .1), h .ready .sound .within .n .1) in
       (keeps-values S (q .phi2) W 1 (p .multiplicity * p .rank) k, fits .0, fits .1, fits .2, fits .3)
 
-  pub g-made : (S′ : List ℕ) → Keeps S (q .phi2) W 1 (p .multiplicity * p .rank) → S′ ≡ splice S (q .g) (flat (triangle (p .multiplicity) (kept-gram S (q .phi2) (p .rank)))) → S′ ≡ splice S (q .g) (g-words J W)
-  g-made S′ k w =
-      w
-      ∙ ap (splice S (q .g))
-      (ap flat (g-kept S (q .phi2) W 1 (p .multiplicity) (p .rank) (g-fits k .4) k)
-      ∙ ap (λ Q. flat (triangle (Q .r) (gram W 1 (Q .n)))) (h .ready .same)
+  g-is : flat (triangle (p .multiplicity) (gram W 1 (p .rank))) ≡ g-words J W
+  g-is =
+      ap (λ Q. flat (triangle (Q .r) (gram W 1 (Q .n)))) (h .ready .same)
       ∙ ap (λ k. flat (triangle (P .r) (gram W k (P .n)))) (sym (witness-start P))
-      ∙ ap flat (g-formula J [] W))
+      ∙ ap flat (g-formula J [] W)
 
-  -- h: what `compute_h` needs, and what it stores from φ
-  pub h-fits : (1 + 64 * (p .multiplicity * p .rank) ≤ length W) × HRoom S (p .multiplicity) (p .rank) (q .phi2) (q .a2) (q .phi) (q .a)
+  pub g-made : (S′ : List ℕ) → Keeps S (q .phi2) W 1 (p .multiplicity * p .rank) → S′ ≡ splice S (q .g) (flat (triangle (p .multiplicity) (kept-gram S (q .phi2) (p .rank)))) → S′ ≡ splice S (q .g) (g-words J W)
+  g-made S′ k w = w ∙ ap (splice S (q .g)) (ap flat (g-kept S (q .phi2) W 1 (p .multiplicity) (p .rank) (g-fits k .4) k) ∙ g-is)
+
+  -- the same by plain inner products
+  pub g-plain-fits : (1 + 64 * (p .multiplicity * p .rank) ≤ length W) × (q .g + 64 * triangular (p .multiplicity) ≤ length S) × (p .multiplicity ≤ 64) × (p .rank ≤ 64)
+  g-plain-fits =
+      subst (λ Q. (1 + 64 * (Q .r * Q .n) ≤ length W) × (q .g + 64 * T Q ≤ length S) × (Q .r ≤ 64) × (Q .n ≤ 64)) (sym (h .ready .same))
+      (witness-fits, omega (arith, g-room, h .ready .room), omega (arith, h .ready .sound .within .r .1), h .ready .sound .within .n .1)
+
+  pub g-plain-made : (S′ : List ℕ) → S′ ≡ splice S (q .g) (flat (triangle (p .multiplicity) (gram W 1 (p .rank)))) → S′ ≡ splice S (q .g) (g-words J W)
+  g-plain-made S′ w = w ∙ ap (splice S (q .g)) g-is
+
+  -- h: what its making needs
+  h-fits : (1 + 64 * (p .multiplicity * p .rank) ≤ length W) × HRoom S (p .multiplicity) (p .rank) (q .phi2) (q .a2) (q .phi) (q .a)
   h-fits =
       subst (λ Q. (1 + 64 * (Q .r * Q .n) ≤ length W) × HRoom S (Q .r) (Q .n) (q .phi2) (q .a2) (q .phi) (q .a)) (sym (h .ready .same))
       (witness-fits, (values-room, square-room, φ-end J p q S (h .ready), omega (arith, a-room, h .ready .room), h .ready .sound .within .n .1, omega (arith, h .ready .sound .within .r .1)))
 
-  pub h-made : (R S′ : List ℕ) → Holds S (q .phi) (φ-words J R)
-      → S′ ≡ splice (lines-of S (q .phi) W 1 (p .multiplicity) (p .rank) (q .phi2) (q .a2)) (q .a) (flat (triangle (p .multiplicity) (h-of S (q .phi) W 1 (p .rank)))) → S′ ≡ with-h-words J R W p q S
-  h-made R S′ φ w =
-      w
-      ∙ ap (splice (lines-of S (q .phi) W 1 (p .multiplicity) (p .rank) (q .phi2) (q .a2)) (q .a))
-      (ap (λ Q. flat (triangle (Q .r) (h-of S (q .phi) W 1 (Q .n)))) (h .ready .same)
-      ∙ ap (λ k. flat (triangle (P .r) (h-of S (q .phi) W k (P .n)))) (sym (witness-start P))
-      ∙ ap flat (h-formula J R W S (q .phi) (vectors-held S (q .phi) (P .r) (P .n) (F.φ-sum (X J R)) φ)))
+  pub ready-for-h : Ready-for-h W p q S
+  ready-for-h = record { placed = placed J p q S (h .ready); witness = h-fits .0; room = h-fits .1 }
 
-  -- a scratch into which h was stored, and before it the values and the square
-  module _ (R S′ : List ℕ) (e : S′ ≡ with-h-words J R W p q S) where
-    abbrev cells : List ℕ
-    cells = flat (rows (p .multiplicity) (p .multiplicity) (λ i j. dot (p .rank) (vector S (q .phi) (p .rank) i) (vector W 1 (p .rank) j)))
+  -- a scratch with φ, into which h was stored
+  module _ (R S′ : List ℕ) (φ : Holds S (q .phi) (φ-words J R)) (kept : Kept (q .phi) (with-h W p q S) S′) where
+    h-is : with-h W p q S ≡ splice S (q .a) (h-words J R W)
+    h-is =
+        ap (splice S (q .a))
+        (ap (λ Q. flat (triangle (Q .r) (h-of S (q .phi) W 1 (Q .n)))) (h .ready .same)
+        ∙ ap (λ k. flat (triangle (P .r) (h-of S (q .phi) W k (P .n)))) (sym (witness-start P))
+        ∙ ap flat (h-formula J R W S (q .phi) (vectors-held S (q .phi) (P .r) (P .n) (F.φ-sum (X J R)) φ)))
 
-    abbrev S₁ : List ℕ
-    S₁ = splice S (q .phi2) (kept-words W 1 (p .multiplicity * p .rank))
+    from-φ : Kept (q .phi) (splice S (q .a) (h-words J R W)) S′
+    from-φ = subst (λ l. Kept (q .phi) l S′) h-is kept
 
-    abbrev S₂ : List ℕ
-    S₂ = splice S₁ (q .a2) cells
-
-    square-end : q .a2 + length cells ≤ q .g
-    square-end =
-        subst (λ Q. q .a2 + length (flat (rows (Q .r) (Q .r) (λ i j. dot (Q .n) (vector S (q .phi) (Q .n) i) (vector W 1 (Q .n) j)))) ≤ q .g) (sym (h .ready .same))
-        (omega (arith, square-room, φ-end J p q S (h .ready), a-end J p q S (h .ready), length-flat (rows (P .r) (P .r) f), length-rows (P .r) f (P .r)))
-      where
-        f : ℕ → ℕ → Element
-        f i j = dot (P .n) (vector S (q .phi) (P .n) i) (vector W 1 (P .n) j)
+    φ-first : q .phi ≤ q .a
+    φ-first = omega (arith, φ-end J p q S (h .ready))
 
     h-end : q .a + length (h-words J R W) ≤ q .g
     h-end = omega (arith, length-h J R W, a-end J p q S (h .ready))
 
-    stored : S′ ≡ splice S₂ (q .a) (h-words J R W)
-    stored = e ∙ ap (λ l. splice l (q .a) (h-words J R W)) (unfold lines-of in refl)
-
-    lines-size : length S₂ ≡ length S
-    lines-size = length-splice S₁ (q .a2) cells ∙ length-splice S (q .phi2) (kept-words W 1 (p .multiplicity * p .rank))
-
     pub given-h : Given J W p q S′
-    given-h = given-changed S′ (ap length stored ∙ length-splice S₂ (q .a) (h-words J R W) ∙ lines-size)
+    given-h = given-changed S′ (kept .size ∙ ap length h-is ∙ length-splice S (q .a) (h-words J R W))
 
     pub held-h : Holds S′ (q .a) (h-words J R W)
-    held-h = held-stored S₂ S′ (q .a) (h-words J R W) stored (omega (arith, h-end, g-room, h .ready .room, lines-size))
+    held-h = holds-kept (q .phi) (splice S (q .a) (h-words J R W)) S′ (q .a) (h-words J R W) from-φ φ-first (holds-stored S (q .a) (h-words J R W) (omega (arith, h-end, g-room, h .ready .room)))
 
     pub kept-h : Kept (scratch-need P) S S′
     kept-h =
-        kept-stored (scratch-need P) S S₂ S′ (q .a) (h-words J R W)
-        (kept-stored (scratch-need P) S S₁ S₂ (q .a2) cells (kept-stored (scratch-need P) S S S₁ (q .phi2) (kept-words W 1 (p .multiplicity * p .rank)) (kept-refl (scratch-need P) S) refl (omega (arith, values-end, g-room))) refl (omega (arith, square-end, g-room)))
-        stored (omega (arith, h-end, g-room))
+        kept-trans (scratch-need P) S (splice S (q .a) (h-words J R W)) S′ (kept-splice (scratch-need P) S (q .a) (h-words J R W) (omega (arith, h-end, g-room)))
+        (kept-weaken (q .phi) (scratch-need P) (splice S (q .a) (h-words J R W)) S′ (omega (arith, φ-first, h-end, g-room)) from-φ)
 
     -- what stands from g on is as it was
     pub stands-h : (at : ℕ) (ws : List ℕ) → q .g ≤ at → Holds S at ws → Holds S′ at ws
     stands-h at ws l k =
-        held-after S₂ S′ (q .a) (h-words J R W) stored at ws (omega (arith, h-end, l))
-        (held-after S₁ S₂ (q .a2) cells refl at ws (omega (arith, square-end, l))
-        (held-after S S₁ (q .phi2) (kept-words W 1 (p .multiplicity * p .rank)) refl at ws (omega (arith, values-end, l)) k))
+        holds-kept (q .phi) (splice S (q .a) (h-words J R W)) S′ at ws from-φ (omega (arith, φ-first, h-end, l)) (holds-after S at ws (q .a) (h-words J R W) (omega (arith, h-end, l)) k)
 
   -- b'': what `b_double_prime` needs, and what it stores from a'', g and φ''
   pub b″-fits : (q .a2 + 64 * (p .«const_agg_length» * triangular (p .multiplicity)) ≤ q .b2) × (q .g + 64 * triangular (p .multiplicity) ≤ q .b2) × (q .phi2 + 64 * (p .«const_agg_length» * (p .multiplicity * p .rank)) ≤ q .b2)
@@ -316,36 +311,6 @@ module _ (J W : List ℕ) (p : EnvironmentParameters) (q : Regions) (S : List �
       ∙ require-leb (norm-of (digits-at S (digits (q .a) (T P) (P .t₁)) (P .b))) (P .bound-D) (refused 16 0)
       ∙ sym (h-norm-is J R S (q .a) (F.h (X J R) (s J W)) (triangle-held S (q .a) (P .r) (F.h (X J R) (s J W)) (h-symmetric (X J R) (s J W)) d))
 
-  -- a scratch into which the values and t were stored
-  module _ (S₁ : List ℕ) (e : S₁ ≡ splice (splice S (q .phi2) vs) (q .t) (t-words J W)) where
-    size₁ : length S₁ ≡ length S
-    size₁ = ap length e ∙ length-splice (splice S (q .phi2) vs) (q .t) (t-words J W) ∙ length-splice S (q .phi2) vs
-
-    pub given-t : Given J W p q S₁
-    given-t = given-changed S₁ size₁
-
-    pub held-t : Holds S₁ (q .t) (t-words J W)
-    held-t = held-stored (splice S (q .phi2) vs) S₁ (q .t) (t-words J W) e (omega (arith, length-t J W, t-room, h .ready .room, length-splice S (q .phi2) vs))
-
-    pub kept-t : Kept (scratch-need P) S S₁
-    kept-t =
-        kept-stored (scratch-need P) S (splice S (q .phi2) vs) S₁ (q .t) (t-words J W)
-        (kept-stored (scratch-need P) S S (splice S (q .phi2) vs) (q .phi2) vs (kept-refl (scratch-need P) S) refl (omega (arith, values-end, g-room))) e (omega (arith, length-t J W, t-room))
-
-    -- and then g
-    module _ (S₂ : List ℕ) (e′ : S₂ ≡ splice S₁ (q .g) (g-words J W)) where
-      pub given-g : Given J W p q S₂
-      given-g = given-changed S₂ (ap length e′ ∙ length-splice S₁ (q .g) (g-words J W) ∙ size₁)
-
-      pub held-g : Holds S₂ (q .g) (g-words J W)
-      held-g = held-stored S₁ S₂ (q .g) (g-words J W) e′ (omega (arith, length-g J W, g-room, h .ready .room, size₁))
-
-      pub kept-g : Kept (scratch-need P) S S₂
-      kept-g = kept-stored (scratch-need P) S S₁ S₂ (q .g) (g-words J W) kept-t e′ (omega (arith, length-g J W, g-room))
-
-      pub committed : Committed J W q S₂
-      committed =
-          record {
-            t = held-after S₁ S₂ (q .g) (g-words J W) e′ (q .t) (t-words J W) (omega (arith, length-g J W, g-end J p q S (h .ready), c-end J p q S (h .ready))) held-t;
-            g = held-g;
-          }
+  -- the values stored
+  pub values-kept : Kept (scratch-need P) S (splice S (q .phi2) vs)
+  values-kept = kept-stored (scratch-need P) S S (splice S (q .phi2) vs) (q .phi2) vs (kept-refl (scratch-need P) S) refl (omega (arith, values-end, g-room))

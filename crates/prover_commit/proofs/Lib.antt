@@ -2,3 +2,4 @@ pub mod Lengths
 pub mod Room
 pub mod Answers
 pub mod Commitments
+mod TAndG

@@ -1,12 +1,15 @@
 -- What the steps of the prover's work stand on, and what they leave in the scratch.
+use mathlib.Core.Bool.{Bool, _||_}
 use mathlib.Core.List.{List}
 use Prim.Native.Nat.{ℕ, _+_, _*_, _≤_}
+use lib.Dec.{eqb, leb}
 use lib.ListN.{length}
 use Rattle.lists.specs.Part.{splice}
 use Rattle.definitions.specs.declared.answers.Proved.{Proved}
 use Rattle.definitions.specs.declared.answers.Proved.the-variants as P
 use Rattle.protocol.specs.Parameters.{parameters, triangular}
 use Rattle.protocol.specs.Layout.{start, witness-sections}
+use Rattle.protocol.specs.Formulas.{flat, triangle}
 use Rattle.admission.specs.declared.calls.Call.{Call}
 use Rattle.admission.specs.declared.calls.Call.the-variants as C
 use Rattle.regions.specs.declared.Regions.{Regions}
@@ -16,7 +19,8 @@ use Rattle.sizes.specs.Sizes.{Sized}
 use Rattle.workspace.specs.Ready.{Ready}
 use Rattle.workspace.specs.Holds.{Holds}
 use Rattle.workspace.specs.Aggregated.{a″-words, φ″-words, φ-words, c-words}
-use Rattle.kept_h.specs.KeptLines.{lines-of}
+use Rattle.garbage_polynomials.specs.Garbage.{h-of}
+use Rattle.kept_h.specs.KeptLines.{HRoom}
 use Rattle.prover_commit.specs.Words.{t-words, g-words, b″-words, h-words}
 
 -- a job that is refused nothing, and a witness of the job's size
@@ -69,6 +73,16 @@ module _ (J R W : List ℕ) (q : Regions) (scratch : List ℕ) where
   Filled C.Round4 = Aggregated
   Filled C.Round5 = Aggregated × Holds scratch (q .challenges) (c-words J R)
 
--- a scratch into which h is stored, and before it what it is made of where φ'' and a'' stood
-abbrev pub with-h-words : (J R W : List ℕ) → EnvironmentParameters → Regions → List ℕ → List ℕ
-with-h-words J R W p q scratch = splice (lines-of scratch (q .phi) W 1 (p .multiplicity) (p .rank) (q .phi2) (q .a2)) (q .a) (h-words J R W)
+-- r vectors of n elements whose t, g and h are made by plain products: one element each, or few in all, are used too seldom for transforms to pay (docs/DECISIONS.md)
+abbrev pub plain-sizes : (n r : ℕ) → Bool
+plain-sizes n r = eqb n 1 || leb (n * r) 4
+
+-- the witness's vectors, and the regions with room for what h is made of
+pub record Ready-for-h (W : List ℕ) (p : EnvironmentParameters) (q : Regions) (scratch : List ℕ) : Type 0 where
+  pub placed : Placed p q scratch
+  pub witness : 1 + 64 * (p .multiplicity * p .rank) ≤ length W
+  pub room : HRoom scratch (p .multiplicity) (p .rank) (q .phi2) (q .a2) (q .phi) (q .a)
+
+-- a scratch into which h of the vectors φ that stand in it is stored
+abbrev pub with-h : List ℕ → EnvironmentParameters → Regions → List ℕ → List ℕ
+with-h W p q scratch = splice scratch (q .a) (flat (triangle (p .multiplicity) (h-of scratch (q .phi) W 1 (p .rank))))

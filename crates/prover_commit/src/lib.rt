@@ -3,6 +3,8 @@ use commitment_bounds::common_instances;
 use commitments::outer_commitments::Digits;
 use definitions::answers::Proved;
 use definitions::answers::Refusal;
+use garbage_polynomials::g;
+use inner_commitments::ajtai_commitment;
 use kept_commitments;
 use kept_garbage;
 use regions::Regions;
@@ -10,12 +12,13 @@ use relation::env_params::EnvironmentParameters;
 use sizes::offsets;
 use sizes::slices;
 ghost use mathlib.Core.Path.{_≡_};
+ghost use Prim.Native.Nat.{_≤_};
 ghost use Rattle.definitions.specs.Answer.{ofProved, _then_};
 ghost use Rattle.protocol.specs.Parameters.{parameters};
 ghost use Rattle.protocol.specs.Layout.{scratch-need};
 ghost use Rattle.workspace.specs.Holds.{Kept};
 ghost use Rattle.prover_commit.specs.Refusals.{t-refusal, g-refusal, first-refusal, t-check, g-check};
-ghost use Rattle.prover_commit.specs.Work.{Given, Placed, Where-made, Committed};
+ghost use Rattle.prover_commit.specs.Work.{Given, Placed, Where-made, Committed, plain-sizes};
 
 // "14 digits of t above B's bound", of the cells of its region.
 fn check_t(p: EnvironmentParameters, q: Regions, scratch: &[u32]) -> Proved
@@ -52,8 +55,16 @@ fn check_g(p: EnvironmentParameters, q: Regions, scratch: &[u32]) -> Proved
     }
 }
 
-// "t_i = A·s_i" and "g_ij = ⟨s_i,s_j⟩", with 14 and 15.
-fn commit_t_and_g(
+// Whether t, g and h take less time by plain products than by kept transforms.
+pub fn plain_is_faster(n: usize, r: usize) -> bool
+    requires { ⌜ (n ≤ 64) × (r ≤ 64) ⌝ }
+    ensures { λ result. ⌜ result ≡ plain-sizes n r ⌝ }
+{
+    n == 1 || n * r <= 4
+}
+
+// "t_i = A·s_i" and "g_ij = ⟨s_i,s_j⟩" by kept transforms, with 14 and 15.
+fn commit_kept(
     job: &[u32],
     witness: &[u32],
     p: EnvironmentParameters,
@@ -84,6 +95,60 @@ fn commit_t_and_g(
             kept_garbage::compute_g(scratch, q.phi2, p.multiplicity, p.rank, q.g);
             check_g(p, q, scratch)
         }
+    }
+}
+
+// The same by plain products.
+fn commit_plain(
+    job: &[u32],
+    witness: &[u32],
+    p: EnvironmentParameters,
+    q: Regions,
+    scratch: &mut [u32],
+) -> Proved
+    requires { ⌜ Given (now job) (now witness) p q (now scratch) ⌝ }
+    ensures { λ result. ⌜ ofProved result ≡ t-refusal (now (job .entry)) (now (witness .entry)) then g-refusal (now (job .entry)) (now (witness .entry)) ⌝ }
+    ensures { λ result. ⌜ Kept (scratch-need (parameters (now (job .entry)))) (now (scratch .entry)) (now (scratch .exit)) ⌝ }
+    ensures { λ result. ⌜ Where-made result (Committed (now (job .entry)) (now (witness .entry)) q (now (scratch .exit))) ⌝ }
+{
+    let a_at = offsets::of_job(p, 6);
+    ajtai_commitment::commit_all(
+        job,
+        a_at,
+        p.kappa,
+        p.rank,
+        witness,
+        1,
+        p.multiplicity,
+        scratch,
+        q.t,
+    );
+    match check_t(p, q, scratch) {
+        Proved::Refused(refusal) => Proved::Refused(refusal),
+        Proved::Made => {
+            g::compute_g(witness, 1, p.multiplicity, p.rank, scratch, q.g);
+            check_g(p, q, scratch)
+        }
+    }
+}
+
+// The same by the faster way.
+fn commit_t_and_g(
+    job: &[u32],
+    witness: &[u32],
+    p: EnvironmentParameters,
+    q: Regions,
+    scratch: &mut [u32],
+) -> Proved
+    requires { ⌜ Given (now job) (now witness) p q (now scratch) ⌝ }
+    ensures { λ result. ⌜ ofProved result ≡ t-refusal (now (job .entry)) (now (witness .entry)) then g-refusal (now (job .entry)) (now (witness .entry)) ⌝ }
+    ensures { λ result. ⌜ Kept (scratch-need (parameters (now (job .entry)))) (now (scratch .entry)) (now (scratch .exit)) ⌝ }
+    ensures { λ result. ⌜ Where-made result (Committed (now (job .entry)) (now (witness .entry)) q (now (scratch .exit))) ⌝ }
+{
+    if plain_is_faster(p.rank, p.multiplicity) {
+        commit_plain(job, witness, p, q, scratch)
+    } else {
+        commit_kept(job, witness, p, q, scratch)
     }
 }
 

@@ -1,2 +1,3 @@
 mod WithH
 mod Scratch
+mod ComputeH

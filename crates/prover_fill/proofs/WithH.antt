@@ -18,8 +18,9 @@ use Rattle.workspace.specs.Aggregated.{a″-words, φ″-words, φ-words}
 use Rattle.workspace.proofs.Kept.{kept-stored, kept-trans}
 use Rattle.workspace.proofs.Ready.{drawn-fewer, ready-changed, φ″-end, a″-end, φ-end, a-end, g-end, c-end, length-φ″, length-a″, length-φ}
 use Rattle.prover_commit.specs.Words.{t-words, g-words, b″-words, h-words}
-use Rattle.prover_commit.specs.Work.{Given, Where-made, Committed, Weighed, Aggregated, AllMade, with-h-words}
-use Rattle.prover_commit.proofs.Commitments.{from-made, held-stored, held-before, held-after, given-changed, a-room, kept-h, stands-h, held-h}
+use Rattle.prover_commit.specs.Refusals.{h-refusal, h-check}
+use Rattle.prover_commit.specs.Work.{Given, Where-made, Committed, Weighed, Aggregated, AllMade, Ready-for-h, with-h}
+use Rattle.prover_commit.proofs.Commitments.{from-made, held-stored, held-before, held-after, given-changed, a-room, ready-for-h, given-h, kept-h, stands-h, held-h, h-checked}
 use Rattle.prover_commit.proofs.Lengths.{length-h}
 use Rattle.prover_fill.proofs.Scratch as Scratch
 
@@ -107,18 +108,21 @@ module _ (J R W : List ℕ) (p : EnvironmentParameters) (q : Regions) (S : List 
   g-before-t = omega (arith, g-end J p q S (h .ready), c-end J p q S (h .ready))
 
   -- and then h
-  module _ (S₂ : List ℕ) (e : S₂ ≡ with-h-words J R W p q S₁) where
+  module _ (S₂ : List ℕ) (e : Kept (q .phi) (with-h W p q S₁) S₂) where
+    pub h-answered : h-check p q S₂ ≡ h-refusal J R W
+    h-answered = h-checked J W p q S₂ (given-h J W p q S₁ weighed-given R S₂ (k .phi) e) R (held-h J W p q S₁ weighed-given R S₂ (k .phi) e)
+
     pub h-kept : Kept (scratch-need (parameters J)) S S₂
-    h-kept = kept-trans (scratch-need (parameters J)) S S₁ S₂ kept (kept-h J W p q S₁ weighed-given R S₂ e)
+    h-kept = kept-trans (scratch-need (parameters J)) S S₁ S₂ kept (kept-h J W p q S₁ weighed-given R S₂ (k .phi) e)
 
     pub h-aggregated : Aggregated J R W q S₂
     h-aggregated =
         record {
           committed = record {
-            t = stands-h J W p q S₁ weighed-given R S₂ e (q .t) (t-words J W) g-before-t (k .committed .t);
-            g = stands-h J W p q S₁ weighed-given R S₂ e (q .g) (g-words J W) (omega arith) (k .committed .g);
+            t = stands-h J W p q S₁ weighed-given R S₂ (k .phi) e (q .t) (t-words J W) g-before-t (k .committed .t);
+            g = stands-h J W p q S₁ weighed-given R S₂ (k .phi) e (q .g) (g-words J W) (omega arith) (k .committed .g);
           };
-          h = held-h J W p q S₁ weighed-given R S₂ e;
+          h = held-h J W p q S₁ weighed-given R S₂ (k .phi) e;
         }
 
   -- or b'' first
@@ -141,22 +145,28 @@ module _ (J R W : List ℕ) (p : EnvironmentParameters) (q : Regions) (S : List 
     b-given : Given J W p q S₂
     b-given = given-changed J W p q S h S₂ (b-kept .size)
 
-    pub h-needs : Given J W p q S₂ × Holds S₂ (q .phi) (φ-words J R)
-    h-needs = (b-given, stays (q .phi) (φ-words J R) φ-place (k .phi))
+    pub h-needs : Ready-for-h W p q S₂
+    h-needs = ready-for-h J W p q S₂ b-given
+
+    φ-stands : Holds S₂ (q .phi) (φ-words J R)
+    φ-stands = stays (q .phi) (φ-words J R) φ-place (k .phi)
 
     -- and then h
-    module _ (S₃ : List ℕ) (e′ : S₃ ≡ with-h-words J R W p q S₂) where
+    module _ (S₃ : List ℕ) (e′ : Kept (q .phi) (with-h W p q S₂) S₃) where
+      pub all-answered : h-check p q S₃ ≡ h-refusal J R W
+      all-answered = h-checked J W p q S₃ (given-h J W p q S₂ b-given R S₃ φ-stands e′) R (held-h J W p q S₂ b-given R S₃ φ-stands e′)
+
       pub all-kept : Kept (scratch-need (parameters J)) S S₃
-      all-kept = kept-trans (scratch-need (parameters J)) S S₂ S₃ b-kept (kept-h J W p q S₂ b-given R S₃ e′)
+      all-kept = kept-trans (scratch-need (parameters J)) S S₂ S₃ b-kept (kept-h J W p q S₂ b-given R S₃ φ-stands e′)
 
       pub all-made : AllMade J R W q S₃
       all-made = (
         record {
           committed = record {
-            t = stands-h J W p q S₂ b-given R S₃ e′ (q .t) (t-words J W) g-before-t (stays (q .t) (t-words J W) t-place (k .committed .t));
-            g = stands-h J W p q S₂ b-given R S₃ e′ (q .g) (g-words J W) (omega arith) (stays (q .g) (g-words J W) g-place (k .committed .g));
+            t = stands-h J W p q S₂ b-given R S₃ φ-stands e′ (q .t) (t-words J W) g-before-t (stays (q .t) (t-words J W) t-place (k .committed .t));
+            g = stands-h J W p q S₂ b-given R S₃ φ-stands e′ (q .g) (g-words J W) (omega arith) (stays (q .g) (g-words J W) g-place (k .committed .g));
           };
-          h = held-h J W p q S₂ b-given R S₃ e′;
+          h = held-h J W p q S₂ b-given R S₃ φ-stands e′;
         },
-        stands-h J W p q S₂ b-given R S₃ e′ (q .b2) (b″-words J R W) (omega (arith, g-place)) (Scratch.b″-held J R W p q S₁ weighed-given S₂ e),
+        stands-h J W p q S₂ b-given R S₃ φ-stands e′ (q .b2) (b″-words J R W) (omega (arith, g-place)) (Scratch.b″-held J R W p q S₁ weighed-given S₂ e),
       )

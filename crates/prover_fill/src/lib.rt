@@ -5,8 +5,10 @@ use commitment_bounds::common_instances;
 use commitments::outer_commitments::Digits;
 use definitions::answers::Proved;
 use definitions::answers::Refusal;
+use garbage_polynomials::h;
 use kept_h;
 use prover_commit::commit;
+use prover_commit::plain_is_faster;
 use regions::Regions;
 use relation::env_params::EnvironmentParameters;
 use sizes::slices;
@@ -19,10 +21,9 @@ ghost use Rattle.protocol.specs.Prover.{round₃, round₄, round₅, whole};
 ghost use Rattle.admission.specs.Admission.{callOf};
 ghost use Rattle.admission.specs.declared.calls.Call.the-variants as C;
 ghost use Rattle.workspace.specs.Ready.{Drawn};
-ghost use Rattle.workspace.specs.Holds.{Holds, Kept};
-ghost use Rattle.workspace.specs.Aggregated.{φ-words};
-ghost use Rattle.prover_commit.specs.Refusals.{h-refusal, first-refusal, work, h-check};
-ghost use Rattle.prover_commit.specs.Work.{Given, Placed, Where-made, Weighed, AllMade, Filled, with-h-words};
+ghost use Rattle.workspace.specs.Holds.{Kept};
+ghost use Rattle.prover_commit.specs.Refusals.{first-refusal, work, h-check};
+ghost use Rattle.prover_commit.specs.Work.{Given, Placed, Where-made, Weighed, AllMade, Filled, Ready-for-h, with-h};
 
 // "16 of h above D's"
 fn check_h(p: EnvironmentParameters, q: Regions, scratch: &[u32]) -> Proved
@@ -100,30 +101,35 @@ fn commit_with_phi(
     }
 }
 
-// "h_ij = ⟨φ_i,s_j⟩+⟨φ_j,s_i⟩, not halved", where φ'' and a'' stood, with 16.
-fn add_h(
-    job: &[u32],
-    randomness: &[u32],
-    witness: &[u32],
-    p: EnvironmentParameters,
-    q: Regions,
-    scratch: &mut [u32],
-) -> Proved
-    requires { ⌜ Given (now job) (now witness) p q (now scratch) × Holds (now scratch) (q .phi) (φ-words (now job) (now randomness)) ⌝ }
-    ensures { λ result. ⌜ ofProved result ≡ h-refusal (now (job .entry)) (now (randomness .entry)) (now (witness .entry)) ⌝ }
-    ensures { λ result. ⌜ now (scratch .exit) ≡ with-h-words (now (job .entry)) (now (randomness .entry)) (now (witness .entry)) p q (now (scratch .entry)) ⌝ }
+// "h_ij = ⟨φ_i,s_j⟩+⟨φ_j,s_i⟩, not halved", by the faster way; kept transforms stand where φ'' and a'' stood.
+fn compute_h(witness: &[u32], p: EnvironmentParameters, q: Regions, scratch: &mut [u32])
+    requires { ⌜ Ready-for-h (now witness) p q (now scratch) ⌝ }
+    ensures { λ _. ⌜ Kept (q .phi) (with-h (now (witness .entry)) p q (now (scratch .entry))) (now (scratch .exit)) ⌝ }
 {
-    kept_h::compute_h(
-        witness,
-        1,
-        p.multiplicity,
-        p.rank,
-        scratch,
-        q.phi2,
-        q.a2,
-        q.phi,
-        q.a,
-    );
+    if plain_is_faster(p.rank, p.multiplicity) {
+        h::compute_h(witness, 1, p.multiplicity, p.rank, scratch, q.phi, q.a);
+    } else {
+        kept_h::compute_h(
+            witness,
+            1,
+            p.multiplicity,
+            p.rank,
+            scratch,
+            q.phi2,
+            q.a2,
+            q.phi,
+            q.a,
+        );
+    }
+}
+
+// h, with 16.
+fn add_h(witness: &[u32], p: EnvironmentParameters, q: Regions, scratch: &mut [u32]) -> Proved
+    requires { ⌜ Ready-for-h (now witness) p q (now scratch) ⌝ }
+    ensures { λ result. ⌜ ofProved result ≡ h-check p q (now (scratch .exit)) ⌝ }
+    ensures { λ result. ⌜ Kept (q .phi) (with-h (now (witness .entry)) p q (now (scratch .entry))) (now (scratch .exit)) ⌝ }
+{
+    compute_h(witness, p, q, scratch);
     check_h(p, q, scratch)
 }
 
@@ -143,7 +149,7 @@ fn commit_with_h(
 {
     match commit_with_phi(job, randomness, witness, p, q, scratch) {
         Proved::Refused(refusal) => Proved::Refused(refusal),
-        Proved::Made => add_h(job, randomness, witness, p, q, scratch),
+        Proved::Made => add_h(witness, p, q, scratch),
     }
 }
 
@@ -176,7 +182,7 @@ fn commit_with_b_and_h(
                 p.const_agg_length,
                 q.b2,
             );
-            add_h(job, randomness, witness, p, q, scratch)
+            add_h(witness, p, q, scratch)
         }
     }
 }

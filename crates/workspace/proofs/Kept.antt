@@ -1,12 +1,13 @@
 -- What is as it was from a place to the end.
 use mathlib.Core.Path.{_≡_, refl, sym, ap, _∙_}
 use mathlib.Core.List.{List, _++_}
-use Prim.Native.Nat.{ℕ, _+_, _-_, _≤_}
+use Prim.Native.Nat.{ℕ, _+_, _-_, _≤_, _<_}
+use native.Mathlib.Decide.{decLt}
 use native.Mathlib.Omega.{arith}
-use lib.ListN.{length, drop, replicate, length-drop, length-replicate}
+use lib.ListN.{length, getD, drop, replicate, length-drop, length-replicate}
 use lib.Seq.{ext-getD, getD-drop, drop-drop}
 use Rattle.lists.specs.Part.{splice}
-use Rattle.lists.proofs.Splice.{length-splice, splice-eq, getD-splice-after}
+use Rattle.lists.proofs.Splice.{length-splice, splice-eq, getD-splice-before, getD-splice-after, getD-splice-within}
 use Rattle.protocol.specs.Prover.{zeroed}
 use Rattle.workspace.specs.Holds.{Kept}
 
@@ -42,6 +43,31 @@ kept-stored k S S′ S″ at new a e h = record {
   size = ap length e ∙ length-splice S′ at new ∙ a .size;
   beyond = ap (drop k) e ∙ kept-splice k S′ at new h .beyond ∙ a .beyond;
 }
+
+-- the same stored into both
+pub kept-under : (k : ℕ) (S S′ : List ℕ) (at : ℕ) (new : List ℕ) → Kept k S S′ → at + length new ≤ length S → Kept k (splice S at new) (splice S′ at new)
+kept-under k S S′ at new a h = record {
+  size = size;
+  beyond =
+      ext-getD 0 (drop k (splice S′ at new)) (drop k (splice S at new)) (length-drop k (splice S′ at new) ∙ ap (λ n. n - k) size ∙ sym (length-drop k (splice S at new)))
+      (λ i l. getD-drop k (splice S′ at new) i 0 ∙ agree i (decLt (k + i) at) (decLt (k + i) (at + length new)) ∙ sym (getD-drop k (splice S at new) i 0));
+}
+  where
+    size : length (splice S′ at new) ≡ length (splice S at new)
+    size = length-splice S′ at new ∙ a .size ∙ sym (length-splice S at new)
+
+    same : (i : ℕ) → getD S′ (k + i) 0 ≡ getD S (k + i) 0
+    same i = sym (getD-drop k S′ i 0) ∙ ap (λ l. getD l i 0) (a .beyond) ∙ getD-drop k S i 0
+
+    agree : (i : ℕ) → Dec (k + i < at) → Dec (k + i < at + length new) → getD (splice S′ at new) (k + i) 0 ≡ getD (splice S at new) (k + i) 0
+    agree i (yes b) c = getD-splice-before S′ at new (k + i) 0 b ∙ same i ∙ sym (getD-splice-before S at new (k + i) 0 b)
+    agree i (no b) (yes c) =
+        let at-i : k + i ≡ at + (k + i - at) = omega arith in
+        ap (λ j. getD (splice S′ at new) j 0) at-i
+        ∙ getD-splice-within S′ at new (k + i - at) 0 (omega arith) (omega (arith, a .size))
+        ∙ sym (getD-splice-within S at new (k + i - at) 0 (omega arith) h)
+        ∙ ap (λ j. getD (splice S at new) j 0) (sym at-i)
+    agree i (no b) (no c) = getD-splice-after S′ at new (k + i) 0 (omega arith) ∙ same i ∙ sym (getD-splice-after S at new (k + i) 0 (omega arith))
 
 -- the words before the place set to zero
 pub kept-clear : (need : ℕ) (S S′ : List ℕ) → Kept need S S′ → need ≤ length S → splice S′ 0 (replicate need 0) ≡ zeroed need S

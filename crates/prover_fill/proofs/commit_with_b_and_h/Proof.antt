@@ -1,10 +1,10 @@
 -- `commit_with_b_and_h` meets its contract.
-use mathlib.Core.Path.{refl}
+use mathlib.Core.Path.{refl, _∙_}
 use borrow.Author.Needs.{needs}
 use Rattle.protocol.specs.Prover.{round₄}
 use Rattle.prover_commit.proofs.Answers.{passed-on, gone-on, with-h}
 use Rattle.prover_commit.proofs.Commitments.{where-made, from-made, b″-fits, b″-made}
-use Rattle.prover_fill.proofs.WithH.{weighed-given, h-needs, all-kept, all-made}
+use Rattle.prover_fill.proofs.WithH.{weighed-given, h-needs, all-answered, all-kept, all-made}
 use Rattle.prover_fill.proofs.commit_with_b_and_h.Statement.{statement}
 use Rattle.prover_fill.proofs.commit_with_b_and_h.Tie as tie
 
@@ -40,7 +40,7 @@ returns-2 c =
     let g = weighed-given _ R (b .args .witness .now) _ _ _ (b .pre .0) _ (m .ensures .1 .0) k in
     let e = b″-made _ _ _ _ _ g R _ (k .phi2) (k .a2) (k .committed .g) (c .before .before .before .before .before .before .b-double-prime .ensures) in
     let h = c .before .before .add-h in (
-      gone-on (m .result) (h .result) told (m .ensures .0) (h .ensures .0) (with-h (b .args .job .now) R (b .args .witness .now) round₄ refl),
+      gone-on (m .result) (h .result) told (m .ensures .0) (h .ensures .0 ∙ all-answered _ R (b .args .witness .now) _ _ _ (b .pre .0) _ (m .ensures .1 .0) k _ e _ (h .ensures .1)) (with-h (b .args .job .now) R (b .args .witness .now) round₄ refl),
       (
         all-kept _ R (b .args .witness .now) _ _ _ (b .pre .0) _ (m .ensures .1 .0) k _ e _ (h .ensures .1),
         where-made (h .result) (all-made _ R (b .args .witness .now) _ _ _ (b .pre .0) _ (m .ensures .1 .0) k _ e _ (h .ensures .1)),

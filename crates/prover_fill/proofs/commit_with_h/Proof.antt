@@ -3,8 +3,8 @@ use mathlib.Core.Path.{refl, _∙_}
 use borrow.Author.Needs.{needs}
 use Rattle.protocol.specs.Prover.{round₄}
 use Rattle.prover_commit.proofs.Answers.{passed-on, gone-on, with-h}
-use Rattle.prover_commit.proofs.Commitments.{where-made, from-made}
-use Rattle.prover_fill.proofs.WithH.{weighed-given, h-kept, h-aggregated}
+use Rattle.prover_commit.proofs.Commitments.{where-made, from-made, ready-for-h}
+use Rattle.prover_fill.proofs.WithH.{weighed-given, h-answered, h-kept, h-aggregated}
 use Rattle.prover_fill.proofs.commit_with_h.Statement.{statement}
 use Rattle.prover_fill.proofs.commit_with_h.Tie as tie
 
@@ -13,7 +13,7 @@ add-h-requires c κs =
     let b = c .before .before .before .before .before .before .before .before .before .before .before in
     let m = c .before .before .before .before .before .commit-with-phi in
     let k = from-made (m .result) _ (c .before .enum-told .given .1) (m .ensures .1 .1) in
-    (weighed-given _ (b .args .randomness .now) (b .args .witness .now) _ _ _ (b .pre .0) _ (m .ensures .1 .0) k, k .phi)
+    ready-for-h _ _ _ _ _ (weighed-given _ (b .args .randomness .now) (b .args .witness .now) _ _ _ (b .pre .0) _ (m .ensures .1 .0) k)
 
 returns : tie.Need-returns
 returns c =
@@ -28,7 +28,7 @@ returns-2 c =
     let told = c .before .before .before .before .enum-told .given .1 in
     let k = from-made (m .result) _ told (m .ensures .1 .1) in
     let h = c .before .before .add-h in (
-      gone-on (m .result) (h .result) told (m .ensures .0) (h .ensures .0) (with-h (b .args .job .now) (b .args .randomness .now) (b .args .witness .now) round₄ refl),
+      gone-on (m .result) (h .result) told (m .ensures .0) (h .ensures .0 ∙ h-answered _ (b .args .randomness .now) (b .args .witness .now) _ _ _ (b .pre .0) _ (m .ensures .1 .0) k _ (h .ensures .1)) (with-h (b .args .job .now) (b .args .randomness .now) (b .args .witness .now) round₄ refl),
       (
         h-kept _ (b .args .randomness .now) (b .args .witness .now) _ _ _ (b .pre .0) _ (m .ensures .1 .0) k _ (h .ensures .1),
         where-made (h .result) (h-aggregated _ (b .args .randomness .now) (b .args .witness .now) _ _ _ (b .pre .0) _ (m .ensures .1 .0) k _ (h .ensures .1)),
