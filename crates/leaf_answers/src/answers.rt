@@ -95,16 +95,19 @@ pub fn element_of(o: Operands, value: Rq) -> ElementAnswer
     ensures { λ r. ⌜ r ≡ elementAnswer (ofOperands o) (value .coeffs) ⌝ }
 {
     let s = status_of(o);
-    let coeffs = value.coeffs;
-    let kept = if s.number == 0 {
-        coeffs
+    if s.number == 0 {
+        let coeffs = value.coeffs;
+        ElementAnswer {
+            number: s.number,
+            place: s.place,
+            coeffs,
+        }
     } else {
-        [0u32; Rq::DEGREE]
-    };
-    ElementAnswer {
-        number: s.number,
-        place: s.place,
-        coeffs: kept,
+        ElementAnswer {
+            number: s.number,
+            place: s.place,
+            coeffs: [0u32; Rq::DEGREE],
+        }
     }
 }
 
