@@ -95,19 +95,18 @@ pub fn element_of(o: Operands, value: Rq) -> ElementAnswer
     ensures { λ r. ⌜ r ≡ elementAnswer (ofOperands o) (value .coeffs) ⌝ }
 {
     let s = status_of(o);
-    if s.number == 0 {
-        let coeffs = value.coeffs;
-        ElementAnswer {
-            number: s.number,
-            place: s.place,
-            coeffs,
-        }
-    } else {
-        ElementAnswer {
+    let coeffs = value.coeffs;
+    if s.number != 0 {
+        return ElementAnswer {
             number: s.number,
             place: s.place,
             coeffs: [0u32; Rq::DEGREE],
-        }
+        };
+    }
+    ElementAnswer {
+        number: s.number,
+        place: s.place,
+        coeffs,
     }
 }
 
