@@ -96,15 +96,17 @@ pub fn element_of(o: Operands, value: Rq) -> ElementAnswer
 {
     let s = status_of(o);
     let coeffs = value.coeffs;
-    let kept = if s.number == 0 {
-        coeffs
-    } else {
-        [0u32; Rq::DEGREE]
-    };
+    if s.number != 0 {
+        return ElementAnswer {
+            number: s.number,
+            place: s.place,
+            coeffs: [0u32; Rq::DEGREE],
+        };
+    }
     ElementAnswer {
         number: s.number,
         place: s.place,
-        coeffs: kept,
+        coeffs,
     }
 }
 

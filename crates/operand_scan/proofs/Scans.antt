@@ -1,5 +1,5 @@
 -- Laws of `below`: the search for the first bad word, and two runs of words joined.
-use mathlib.Core.Path.{_≡_, refl, sym, _∙_, ap, ap₂}
+use mathlib.Core.Path.{_≡_, refl, sym, subst, _∙_, ap, ap₂}
 use mathlib.Core.Bool.{Bool, true, false, cond}
 use mathlib.Core.List.{List, [], _∷_, _++_}
 use Prim.Native.Nat.{ℕ, suc, _+_, _≤_, _<_}
@@ -49,6 +49,9 @@ unfolding below
 all-passed limit words i p e number place =
     p number place
     ∙ rw (e, drop-length words, le-ltb (length words) (length words) (omega arith))
+
+pub all-passed-at : (limit : ℕ) (words : List ℕ) (i : ℕ) → Passed limit words i → i ≡ length words → FirstNotBelow limit words (length words)
+all-passed-at limit words i p e = subst (FirstNotBelow limit words) e (all-passed limit words i p e)
 
 -- the answer to two runs, one after the other
 pub below-append : (limit number place : ℕ) (a b : List ℕ) → below limit number place (a ++ b) ≡ below limit number place a then below limit number (place + length a) b

@@ -2,6 +2,7 @@
 use definitions::answers::Operands;
 use zq::zq::Zq;
 ghost use mathlib.Core.Path.{_≡_};
+ghost use mathlib.Core.Bool.{true};
 ghost use Prim.Native.Nat.{_+_, _^_, _<_};
 ghost use lib.ListN.{length};
 ghost use Rattle.definitions.specs.Zq.{Q};
@@ -9,10 +10,26 @@ ghost use Rattle.definitions.specs.Answer.{ofOperands, below, _then_};
 ghost use Rattle.definitions.specs.Leaf.{signWords};
 ghost use Rattle.operand_scan.specs.Scan.{FirstNotBelow};
 
+// Whether every word is below the limit. It looks at all of them, so it runs on several words at a time.
+fn all_below(words: &[u32], limit: u32) -> bool
+    ensures { λ r. ⌜ (r ≡ true → FirstNotBelow limit (now (words .entry)) (length (now (words .entry)))) ⌝ }
+{
+    let mut fit = true;
+    for k in 0..words.len() {
+        if words[k] >= limit {
+            fit = false;
+        }
+    }
+    fit
+}
+
 // The index of the first word at or above the limit; the number of words where there is none.
 pub fn first_not_below(words: &[u32], limit: u32) -> usize
     ensures { λ r. ⌜ FirstNotBelow limit (now (words .entry)) r ⌝ }
 {
+    if all_below(words, limit) {
+        return words.len();
+    }
     let mut i = 0;
     while i < words.len() {
         if limit <= words[i] {
