@@ -22,7 +22,7 @@ use Rattle.kept_mix.specs.Terms.{term-added, terms-added, SumsSmall}
 
 -- an element's values in a buffer of their size
 module _ (e a buffer : List ℕ) (same : a ≡ e) (stored : buffer ≡ splice (replicate 192 0) 0 (values a)) where
-  value-in : (k : ℕ) → k < 192 → getD buffer (0 + k) 0 ≡ getD (values e) k 0
+  pub value-in : (k : ℕ) → k < 192 → getD buffer (0 + k) 0 ≡ getD (values e) k 0
   value-in k l = let z : ℕ = 0 in ap (λ b. getD b (0 + k) 0) (stored ∙ ap (λ a. splice (replicate 192 z) 0 (values a)) same) ∙ getD-splice-within (replicate 192 z) 0 (values e) k 0 (omega (arith, length-values e)) (omega (arith, length-values e, length-replicate 192 z))
 
   -- the term that is added

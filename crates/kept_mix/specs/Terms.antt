@@ -6,14 +6,14 @@ use Prim.Native.Nat.{ℕ, _+_, _-_, _*_, _≤_, _<_}
 use lib.Dec.{leb, ltb}
 use lib.ListN.{length, getD, replicate}
 use Rattle.lists.specs.Table.{table}
-use Rattle.lists.specs.Part.{part}
+use Rattle.lists.specs.Part.{part, splice}
 use Rattle.lists.specs.Sum.{Σ}
 use Rattle.definitions.specs.Rq.{Element}
 use Rattle.definitions.specs.Ring.{element}
 use Rattle.protocol.specs.Formulas.{flat}
 use Rattle.inner_product.specs.Run.{Run}
 use Rattle.aggregate_psi.specs.Grid.{Grid}
-use Rattle.kept_vectors.specs.Keeps.{values, AllValues}
+use Rattle.kept_vectors.specs.Keeps.{values, kept-words, Keeps, AllValues}
 use Rattle.kept_sums.specs.Sums.{back-from}
 
 -- the product of a kept weight and an element added to the sums
@@ -59,6 +59,19 @@ MixRoom job at width count scratch from number to weights =
 -- weights of both kinds, 64 at most
 abbrev pub Weights : ℕ → ℕ → Type 0
 Weights count number = (1 ≤ count) × (1 ≤ number) × (count + number ≤ 64)
+
+-- the weights of both kinds lie within the slice, and their values have room
+abbrev pub WeightsRoom : List ℕ → (alpha count beta number : ℕ) → List ℕ → Type 0
+WeightsRoom weights alpha count beta number kept =
+    Run weights alpha 64 count × Run weights beta 64 number × Weights count number × (192 * (count + number) ≤ length kept)
+
+-- a slice with the values of the weights of both kinds, one after the other
+abbrev pub with-weights : List ℕ → (alpha count beta number : ℕ) → List ℕ → List ℕ
+with-weights weights alpha count beta number kept = splice (splice kept 0 (kept-words weights alpha count)) (192 * count) (kept-words weights beta number)
+
+-- it keeps them
+abbrev pub KeepsWeights : List ℕ → List ℕ → (alpha count beta number : ℕ) → Type 0
+KeepsWeights kept weights alpha count beta number = Keeps kept 0 weights alpha count × Keeps kept (192 * count) weights beta number
 
 -- weights of both kinds, four to 64 together, and eight elements or more
 abbrev pub kept-faster : (width count number : ℕ) → Bool

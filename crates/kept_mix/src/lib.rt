@@ -13,7 +13,7 @@ ghost use Rattle.inner_product.specs.Run.{Run};
 ghost use Rattle.ntt.specs.Roots.{twiddleTable};
 ghost use Rattle.kept_vectors.specs.Keeps.{AllValues};
 ghost use Rattle.aggregate.specs.Weighed.{Aggregates, mixed-words};
-ghost use Rattle.kept_mix.specs.Terms.{term-added, terms-added, SumsSmall, kept-mixed, KeptMixable, kept-mixed-words, MixRoom, Weights, kept-faster};
+ghost use Rattle.kept_mix.specs.Terms.{term-added, terms-added, SumsSmall, kept-mixed, KeptMixable, kept-mixed-words, MixRoom, Weights, WeightsRoom, with-weights, KeepsWeights, kept-faster};
 
 // The product of a kept weight and the element at a place, added to 192 sums.
 pub fn add_term(
@@ -124,6 +124,24 @@ pub fn mix_all(
     }
 }
 
+// The values of the weights alpha, and after them those of beta.
+pub fn keep_weights(
+    weights: &[u32],
+    alpha: usize,
+    count: usize,
+    beta: usize,
+    number: usize,
+    w: &[u32],
+    kept: &mut [u32],
+)
+    requires { ⌜ (now w ≡ twiddleTable) × WeightsRoom (now weights) alpha count beta number (now kept) ⌝ }
+    ensures { λ _. ⌜ now (kept .exit) ≡ with-weights (now (weights .entry)) alpha count beta number (now (kept .entry)) ⌝ }
+    ensures { λ _. ⌜ KeepsWeights (now (kept .exit)) (now (weights .entry)) alpha count beta number ⌝ }
+{
+    kept_vectors::keep(weights, alpha, count, w, kept, 0);
+    kept_vectors::keep(weights, beta, number, w, kept, 192 * count);
+}
+
 // `aggregate::aggregate` with kept weights.
 pub fn aggregate_kept(
     job: &[u32],
@@ -143,8 +161,7 @@ pub fn aggregate_kept(
 {
     let w = table::twiddles();
     let mut kept = [0u32; 12288];
-    kept_vectors::keep(weights, alpha, count, &w, &mut kept, 0);
-    kept_vectors::keep(weights, beta, number, &w, &mut kept, 192 * count);
+    keep_weights(weights, alpha, count, beta, number, &w, &mut kept);
     mix_all(job, at, width, count, scratch, from, number, to, &kept, &w);
 }
 

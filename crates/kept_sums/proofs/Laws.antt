@@ -7,7 +7,7 @@ use lib.ListN.{length, getD}
 use Rattle.lists.specs.Part.{part, splice}
 use Rattle.lists.specs.Sum.{Σ}
 use Rattle.lists.proofs.Table.{table-ext}
-use Rattle.lists.proofs.Sum.{Σ-ext}
+use Rattle.lists.proofs.Sum.{Σ-ext, Σ-bound}
 use Rattle.lists.proofs.Splice.{getD-part, part-table}
 use Rattle.lists.proofs.Fill.{getD-splice-table}
 use Rattle.algebra.specs.Ops.{dot}
@@ -87,3 +87,9 @@ module _ (sums : List ℕ) (at n : ℕ) (a b : ℕ → List ℕ) (within : at + 
       ap₂ (λ s t. backOf s t (part sums (at + 128) 64)) (part-is 0 at (omega arith) (omega arith)) (part-is 1 (at + 64) (omega arith) (omega arith))
       ∙ ap (backOf (sumsOf 0 n a b) (sumsOf 1 n a b)) (part-is 2 (at + 128) (omega arith) (omega arith))
       ∙ back-words n few a b (λ m k l. wa m k l) (λ m k l. wb m k l)
+
+  -- how large the sums are
+  pub holds-small : ((m : ℕ) → Words (a m)) → ((m : ℕ) → Words (b m)) → (k : ℕ) → k < 192 → getD sums (at + k) 0 ≤ n * 18032502047663104
+  holds-small wa wb k l =
+      subst (λ x. x ≤ n * 18032502047663104) (sym (holds k l))
+      (Σ-bound n 18032502047663104 (λ m. getD (values (a m)) k 0 * getD (values (b m)) k 0) (λ m c. product-small (getD (values (a m)) k 0) (getD (values (b m)) k 0) (values-small (a m) (wa m) k l) (values-small (b m) (wb m) k l)))
