@@ -74,6 +74,9 @@ module _ (J R W : List ℕ) (p : EnvironmentParameters) (q : Regions) (S : List 
       pub phi-needs : Ready J p q S₂ × Drawn 5 J R × Holds S₂ (q .phi2) (φ″-words J R)
       phi-needs = (ready-changed J p q S (h .ready) S₂ size₂, d, φ″-held)
 
+      pub pass-needs : Given J W p q S₂ × Drawn 5 J R × Holds S₂ (q .phi2) (φ″-words J R)
+      pass-needs = (given-changed J W p q S h S₂ size₂, d, φ″-held)
+
       -- then φ
       module _ (S₃ : List ℕ) (e₃ : S₃ ≡ splice S₂ (q .phi) (φ-words J R)) where
         size₃ : length S₃ ≡ length S

@@ -7,6 +7,7 @@ use definitions::answers::Proved;
 use definitions::answers::Refusal;
 use kept_h;
 use prover_commit::commit;
+use prover_phi_and_b;
 use regions::Regions;
 use relation::env_params::EnvironmentParameters;
 use sizes::slices;
@@ -147,7 +148,7 @@ fn commit_with_h(
     }
 }
 
-// b'' before h, for the whole call.
+// φ and b'' together, and then h, for the whole call.
 fn commit_with_b_and_h(
     job: &[u32],
     randomness: &[u32],
@@ -161,21 +162,11 @@ fn commit_with_b_and_h(
     ensures { λ result. ⌜ Kept (scratch-need (parameters (now (job .entry)))) (now (scratch .entry)) (now (scratch .exit)) ⌝ }
     ensures { λ result. ⌜ Where-made result (AllMade (now (job .entry)) (now (randomness .entry)) (now (witness .entry)) q (now (scratch .exit))) ⌝ }
 {
-    match commit_with_phi(job, randomness, witness, p, q, scratch) {
+    match commit(job, witness, p, q, scratch) {
         Proved::Refused(refusal) => Proved::Refused(refusal),
         Proved::Made => {
-            aggregate::b_double_prime(
-                scratch,
-                q.a2,
-                q.g,
-                q.phi2,
-                p.multiplicity,
-                p.rank,
-                witness,
-                1,
-                p.const_agg_length,
-                q.b2,
-            );
+            workspace::double_prime(job, randomness, p, q, scratch);
+            prover_phi_and_b::phi_and_b(job, randomness, witness, p, q, scratch);
             add_h(job, randomness, witness, p, q, scratch)
         }
     }
