@@ -21,7 +21,7 @@ use Rattle.protocol.proofs.Region.{Elements, Triangle, Vectors, elements-ext, e
 use Rattle.aggregate.specs.Weighed.{formed}
 
 -- a triangle before a store
-cells-before : (l : List ℕ) (at r to : ℕ) (new : List ℕ) → at + 64 * triangular r ≤ to → Triangle (splice l to new) at r (λ i j. element-at l at (cell i j))
+pub cells-before : (l : List ℕ) (at r to : ℕ) (new : List ℕ) → at + 64 * triangular r ≤ to → Triangle (splice l to new) at r (λ i j. element-at l at (cell i j))
 cells-before l at r to new h =
     triangle-of (splice l to new) at r (element-at l at) (λ i j. element-at l at (cell i j)) (elements-before l at (triangular r) (element-at l at) to new h (λ m k. refl)) (λ i j p q. refl)
 

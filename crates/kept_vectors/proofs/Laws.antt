@@ -18,13 +18,12 @@ use Rattle.definitions.proofs.Bridge.{element-words, words-element}
 use Rattle.fast_product.specs.Join.{joinOf, joinedOf}
 use Rattle.fast_product.specs.Kept.{valuesOf, sumsOf, backOf}
 use Rattle.fast_product.proofs.Residue.{value-bound}
-use Rattle.fast_product.proofs.Inner.{back-is}
 use Rattle.inner_product.specs.Run.{run}
 use Rattle.kept_vectors.specs.Keeps.{Keeps, value-sums, Values, AllValues, kept-dot}
-use Rattle.kept_vectors.proofs.Sums.{products-words}
+use Rattle.kept_vectors.proofs.Sums.{back-words}
 
 -- the way back gives an element's words
-back-element : (s t u : List ℕ) → IsElement (backOf s t u)
+pub back-element : (s t u : List ℕ) → IsElement (backOf s t u)
 unfolding backOf joinedOf joinOf
 back-element s t u = table-element _ (λ k. canonical-mod _)
 
@@ -157,6 +156,5 @@ module _ (x : List ℕ) (x-at : ℕ) (xs : List ℕ) (xs-at : ℕ) (y : List ℕ
       ap element
       (ap₂ (λ s t. backOf s t (value-sums x (x-at + 128) y (y-at + 128) n)) (sums-are 0 x-at y-at (omega arith) (omega arith) (omega arith)) (sums-are 1 (x-at + 64) (y-at + 64) (omega arith) (omega arith) (omega arith))
       ∙ ap (backOf (sumsOf 0 n a b) (sumsOf 1 n a b)) (sums-are 2 (x-at + 128) (y-at + 128) (omega arith) (omega arith) (omega arith))
-      ∙ back-is n few a b (λ m k l. kx .small m k l) (λ m k l. ky .small m k l)
-      ∙ products-words xs xs-at ys ys-at n)
+      ∙ back-words n few a b (kx .small) (ky .small))
       ∙ element-words (dot RqOps n (run xs xs-at 64) (run ys ys-at 64))

@@ -27,7 +27,7 @@ length-values a =
     omega (arith, length-append (valuesOf 0 a) (valuesOf 1 a ++ valuesOf 2 a), length-append (valuesOf 1 a) (valuesOf 2 a), length-of 0 a, length-of 1 a, length-of 2 a)
 
 -- the values modulo prime i
-values-part : (a : List ℕ) (i : ℕ) → i < 3 → part (values a) (64 * i) 64 ≡ valuesOf i a
+pub values-part : (a : List ℕ) (i : ℕ) → i < 3 → part (values a) (64 * i) 64 ≡ valuesOf i a
 unfolding values
 values-part a zero h = part-between [] (valuesOf 0 a) (valuesOf 1 a ++ valuesOf 2 a) 0 64 refl (length-of 0 a)
 values-part a (suc zero) h = part-between (valuesOf 0 a) (valuesOf 1 a) (valuesOf 2 a) 64 64 (length-of 0 a) (length-of 1 a)

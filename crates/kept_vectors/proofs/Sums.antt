@@ -7,7 +7,6 @@ use native.Mathlib.Decide.{decLt}
 use native.Mathlib.Omega.{arith}
 use lib.ListN.{length, getD, replicate, length-replicate, getD-replicate}
 use Rattle.lists.specs.Table.{table}
-use Rattle.lists.specs.Part.{part}
 use Rattle.lists.specs.Sum.{Σ}
 use Rattle.lists.proofs.Table.{length-table, getD-table, table-ext, is-table}
 use Rattle.lists.proofs.Sum.{Σ-suc, Σ-ext, Σ-bound}
@@ -17,8 +16,9 @@ use Rattle.definitions.specs.Zq.{Q, zsub}
 use Rattle.definitions.specs.Rq.{coeff, low, high, rmul}
 use Rattle.definitions.specs.Ring.{RqOps, words, element}
 use Rattle.definitions.proofs.Bridge.{words-sum, words-element, element-rmul, rmul-element}
+use Rattle.fast_product.specs.Kept.{sumsOf, backOf}
 use Rattle.fast_product.proofs.Residue.{product-small}
-use Rattle.inner_product.specs.Run.{run}
+use Rattle.fast_product.proofs.Inner.{back-is}
 use Rattle.kept_vectors.specs.Keeps.{SumsRoom, values-added, value-sums, Values}
 
 -- no product yet
@@ -93,27 +93,27 @@ differences (suc n) f g = step (Σ n (λ m. zsub (f m) (g m))) (Σ n f) (Σ n g)
         ∙ ap (λ x. (l + a + (4294967295 - x)) % 4294967295) sum
 
 -- both sums of each coefficient of n products, reduced once, are the inner product's words
-pub products-words : (x : List ℕ) (x-at : ℕ) (y : List ℕ) (y-at n : ℕ)
-    → table 64 (λ k. zsub (Σ n (λ m. low (part x (x-at + 64 * m) 64) (part y (y-at + 64 * m) 64) k)) (Σ n (λ m. high (part x (x-at + 64 * m) 64) (part y (y-at + 64 * m) 64) k)))
-    ≡ words (dot RqOps n (run x x-at 64) (run y y-at 64))
+products-words : (n : ℕ) (a b : ℕ → List ℕ) → table 64 (λ k. zsub (Σ n (λ m. low (a m) (b m) k)) (Σ n (λ m. high (a m) (b m) k))) ≡ words (dot RqOps n (λ m. element (a m)) (λ m. element (b m)))
 unfolding dot
-products-words x x-at y y-at n =
+products-words n a b =
     sym
-    (ap words (sum-ext RqOps n (λ m. RqOps .mul (run x x-at 64 m) (run y y-at 64 m)) (λ m. element (product m)) (λ m l. sym (element-rmul (part x (x-at + 64 * m) 64) (part y (y-at + 64 * m) 64))))
-    ∙ words-sum n (λ m. element (product m))
-    ∙ table-ext 64 (λ k. Σ n (λ m. coeff (words (element (product m))) k) % Q) (λ k. zsub (Σ n (lows k)) (Σ n (highs k)))
-    (λ k h. ap (λ s. s % Q) (Σ-ext n (λ m. coeff (words (element (product m))) k) (λ m. zsub (lows k m) (highs k m)) (λ m l. one k h m)) ∙ differences n (lows k) (highs k)))
+    (ap words (sum-ext RqOps n (λ m. RqOps .mul (element (a m)) (element (b m))) (λ m. element (rmul (a m) (b m))) (λ m l. sym (element-rmul (a m) (b m))))
+    ∙ words-sum n (λ m. element (rmul (a m) (b m)))
+    ∙ table-ext 64 (λ k. Σ n (λ m. coeff (words (element (rmul (a m) (b m)))) k) % Q) (λ k. zsub (Σ n (lows k)) (Σ n (highs k)))
+    (λ k h. ap (λ s. s % Q) (Σ-ext n (λ m. coeff (words (element (rmul (a m) (b m)))) k) (λ m. zsub (lows k m) (highs k m)) (λ m l. one k h m)) ∙ differences n (lows k) (highs k)))
   where
-    product : ℕ → List ℕ
-    product m = rmul (part x (x-at + 64 * m) 64) (part y (y-at + 64 * m) 64)
-
     lows : ℕ → ℕ → ℕ
-    lows k m = low (part x (x-at + 64 * m) 64) (part y (y-at + 64 * m) 64) k
+    lows k m = low (a m) (b m) k
 
     highs : ℕ → ℕ → ℕ
-    highs k m = high (part x (x-at + 64 * m) 64) (part y (y-at + 64 * m) 64) k
+    highs k m = high (a m) (b m) k
 
-    one : (k : ℕ) → k < 64 → (m : ℕ) → coeff (words (element (product m))) k ≡ zsub (lows k m) (highs k m)
+    one : (k : ℕ) → k < 64 → (m : ℕ) → coeff (words (element (rmul (a m) (b m)))) k ≡ zsub (lows k m) (highs k m)
     one k h m =
-        ap (λ l. coeff l k) (words-element (product m) (rmul-element (part x (x-at + 64 * m) 64) (part y (y-at + 64 * m) 64)))
-        ∙ (unfold rmul in getD-table 64 (λ k. zsub (low (part x (x-at + 64 * m) 64) (part y (y-at + 64 * m) 64) k) (high (part x (x-at + 64 * m) 64) (part y (y-at + 64 * m) 64) k)) k 0 h)
+        ap (λ l. coeff l k) (words-element (rmul (a m) (b m)) (rmul-element (a m) (b m)))
+        ∙ (unfold rmul in getD-table 64 (λ k. zsub (low (a m) (b m) k) (high (a m) (b m) k)) k 0 h)
+
+-- the way back from the sums of n products of values gives the inner product's words
+pub back-words : (n : ℕ) → n ≤ 64 → (a b : ℕ → List ℕ) → ((m k : ℕ) → k < 64 → coeff (a m) k ≤ 4294967295) → ((m k : ℕ) → k < 64 → coeff (b m) k ≤ 4294967295)
+    → backOf (sumsOf 0 n a b) (sumsOf 1 n a b) (sumsOf 2 n a b) ≡ words (dot RqOps n (λ m. element (a m)) (λ m. element (b m)))
+back-words n few a b wa wb = back-is n few a b (λ m k l. wa m k l) (λ m k l. wb m k l) ∙ products-words n a b

@@ -1,5 +1,6 @@
 -- What the steps up to φ find and leave in the scratch, and b'' and h after it.
 use mathlib.Core.Path.{_≡_, ap, _∙_}
+use mathlib.Core.Bool.{Bool, true, false}
 use mathlib.Core.List.{List, _++_}
 use Prim.Native.Nat.{ℕ, _+_, _≤_}
 use native.Mathlib.Omega.{arith}
@@ -22,7 +23,13 @@ use Rattle.prover_commit.specs.Refusals.{h-refusal, h-check}
 use Rattle.prover_commit.specs.Work.{Given, Where-made, Committed, Weighed, Aggregated, AllMade, Ready-for-h, with-h}
 use Rattle.prover_commit.proofs.Commitments.{from-made, held-stored, held-before, held-after, given-changed, a-room, ready-for-h, given-h, kept-h, stands-h, held-h, h-checked}
 use Rattle.prover_commit.proofs.Lengths.{length-h}
+use Rattle.prover_phi_and_b.specs.Stored.{with-φ, weighed-scratch}
 use Rattle.prover_fill.proofs.Scratch as Scratch
+
+-- φ and b'' leave the scratch's length
+pub length-weighed : (b : Bool) (J R W : List ℕ) (p : EnvironmentParameters) (q : Regions) (S : List ℕ) → length (weighed-scratch b J R W p q S) ≡ length S
+length-weighed true J R W p q S = length-splice (with-φ J R q S) (q .b2) _ ∙ length-splice S (q .phi) (φ-words J R)
+length-weighed false J R W p q S = length-splice S (q .phi) (φ-words J R)
 
 module _ (J R W : List ℕ) (p : EnvironmentParameters) (q : Regions) (S : List ℕ) (h : Given J W p q S) (d : Drawn 5 J R) where
   abbrev P : Parameters
@@ -72,8 +79,8 @@ module _ (J R W : List ℕ) (p : EnvironmentParameters) (q : Regions) (S : List 
       a″-held : Holds S₂ (q .a2) (a″-words J R)
       a″-held = Scratch.a″-held J R W p q S₁ given₁ S₂ e₂
 
-      pub phi-needs : Ready J p q S₂ × Drawn 5 J R × Holds S₂ (q .phi2) (φ″-words J R)
-      phi-needs = (ready-changed J p q S (h .ready) S₂ size₂, d, φ″-held)
+      pub pass-needs : Given J W p q S₂ × Drawn 5 J R × Holds S₂ (q .phi2) (φ″-words J R)
+      pass-needs = (given-changed J W p q S h S₂ size₂, d, φ″-held)
 
       -- then φ
       module _ (S₃ : List ℕ) (e₃ : S₃ ≡ splice S₂ (q .phi) (φ-words J R)) where

@@ -9,6 +9,7 @@ use garbage_polynomials::h;
 use kept_h;
 use prover_commit::commit;
 use prover_commit::plain_is_faster;
+use prover_phi_and_b;
 use regions::Regions;
 use relation::env_params::EnvironmentParameters;
 use sizes::slices;
@@ -21,9 +22,11 @@ ghost use Rattle.protocol.specs.Prover.{round₃, round₄, round₅, whole};
 ghost use Rattle.admission.specs.Admission.{callOf};
 ghost use Rattle.admission.specs.declared.calls.Call.the-variants as C;
 ghost use Rattle.workspace.specs.Ready.{Drawn};
-ghost use Rattle.workspace.specs.Holds.{Kept};
-ghost use Rattle.prover_commit.specs.Refusals.{first-refusal, work, h-check};
-ghost use Rattle.prover_commit.specs.Work.{Given, Placed, Where-made, Weighed, AllMade, Filled, Ready-for-h, with-h};
+ghost use Rattle.workspace.specs.Holds.{Holds, Kept};
+ghost use Rattle.workspace.specs.Aggregated.{φ″-words};
+ghost use Rattle.prover_commit.specs.Refusals.{work, h-check};
+ghost use Rattle.prover_commit.specs.Work.{Given, Placed, Where-made, AllMade, Filled, Ready-for-h, with-h};
+ghost use Rattle.prover_phi_and_b.specs.Stored.{weighed-with-h};
 
 // "16 of h above D's"
 fn check_h(p: EnvironmentParameters, q: Regions, scratch: &[u32]) -> Proved
@@ -77,30 +80,6 @@ fn commit_with_b_double_prime(
     }
 }
 
-// φ'', a'' and φ after t and g.
-fn commit_with_phi(
-    job: &[u32],
-    randomness: &[u32],
-    witness: &[u32],
-    p: EnvironmentParameters,
-    q: Regions,
-    scratch: &mut [u32],
-) -> Proved
-    requires { ⌜ Given (now job) (now witness) p q (now scratch) × Drawn 5 (now job) (now randomness) ⌝ }
-    ensures { λ result. ⌜ ofProved result ≡ first-refusal (now (job .entry)) (now (witness .entry)) ⌝ }
-    ensures { λ result. ⌜ Kept (scratch-need (parameters (now (job .entry)))) (now (scratch .entry)) (now (scratch .exit)) ⌝ }
-    ensures { λ result. ⌜ Where-made result (Weighed (now (job .entry)) (now (randomness .entry)) (now (witness .entry)) q (now (scratch .exit))) ⌝ }
-{
-    match commit(job, witness, p, q, scratch) {
-        Proved::Refused(refusal) => Proved::Refused(refusal),
-        Proved::Made => {
-            workspace::double_prime(job, randomness, p, q, scratch);
-            workspace::phi(job, randomness, p, q, scratch);
-            Proved::Made
-        }
-    }
-}
-
 // "h_ij = ⟨φ_i,s_j⟩+⟨φ_j,s_i⟩, not halved", by the faster way; kept transforms stand where φ'' and a'' stood.
 fn compute_h(witness: &[u32], p: EnvironmentParameters, q: Regions, scratch: &mut [u32])
     requires { ⌜ Ready-for-h (now witness) p q (now scratch) ⌝ }
@@ -133,6 +112,28 @@ fn add_h(witness: &[u32], p: EnvironmentParameters, q: Regions, scratch: &mut [u
     check_h(p, q, scratch)
 }
 
+// φ, with b'' where it is asked for, and then h.
+fn weigh(
+    job: &[u32],
+    randomness: &[u32],
+    witness: &[u32],
+    p: EnvironmentParameters,
+    q: Regions,
+    scratch: &mut [u32],
+    with_b: bool,
+) -> Proved
+    requires { ⌜ Given (now job) (now witness) p q (now scratch) × Drawn 5 (now job) (now randomness) × Holds (now scratch) (q .phi2) (φ″-words (now job) (now randomness)) ⌝ }
+    ensures { λ result. ⌜ ofProved result ≡ h-check p q (now (scratch .exit)) ⌝ }
+    ensures { λ result. ⌜ Kept (q .phi) (weighed-with-h «with_b» (now (job .entry)) (now (randomness .entry)) (now (witness .entry)) p q (now (scratch .entry))) (now (scratch .exit)) ⌝ }
+{
+    if with_b {
+        prover_phi_and_b::phi_and_b(job, randomness, witness, p, q, scratch);
+    } else {
+        workspace::phi(job, randomness, p, q, scratch);
+    }
+    add_h(witness, p, q, scratch)
+}
+
 // Round 4: h after φ: "Prover: 13, 14, 15, 16."
 fn commit_with_h(
     job: &[u32],
@@ -147,13 +148,16 @@ fn commit_with_h(
     ensures { λ result. ⌜ Kept (scratch-need (parameters (now (job .entry)))) (now (scratch .entry)) (now (scratch .exit)) ⌝ }
     ensures { λ result. ⌜ Where-made result (Filled (now (job .entry)) (now (randomness .entry)) (now (witness .entry)) q (now (scratch .exit)) C.Round4) ⌝ }
 {
-    match commit_with_phi(job, randomness, witness, p, q, scratch) {
+    match commit(job, witness, p, q, scratch) {
         Proved::Refused(refusal) => Proved::Refused(refusal),
-        Proved::Made => add_h(witness, p, q, scratch),
+        Proved::Made => {
+            workspace::double_prime(job, randomness, p, q, scratch);
+            weigh(job, randomness, witness, p, q, scratch, false)
+        }
     }
 }
 
-// b'' before h, for the whole call.
+// φ and b'' together, and then h, for the whole call.
 fn commit_with_b_and_h(
     job: &[u32],
     randomness: &[u32],
@@ -167,22 +171,11 @@ fn commit_with_b_and_h(
     ensures { λ result. ⌜ Kept (scratch-need (parameters (now (job .entry)))) (now (scratch .entry)) (now (scratch .exit)) ⌝ }
     ensures { λ result. ⌜ Where-made result (AllMade (now (job .entry)) (now (randomness .entry)) (now (witness .entry)) q (now (scratch .exit))) ⌝ }
 {
-    match commit_with_phi(job, randomness, witness, p, q, scratch) {
+    match commit(job, witness, p, q, scratch) {
         Proved::Refused(refusal) => Proved::Refused(refusal),
         Proved::Made => {
-            aggregate::b_double_prime(
-                scratch,
-                q.a2,
-                q.g,
-                q.phi2,
-                p.multiplicity,
-                p.rank,
-                witness,
-                1,
-                p.const_agg_length,
-                q.b2,
-            );
-            add_h(witness, p, q, scratch)
+            workspace::double_prime(job, randomness, p, q, scratch);
+            weigh(job, randomness, witness, p, q, scratch, true)
         }
     }
 }

@@ -2,4 +2,4 @@ pub mod Kept
 pub mod Holds
 pub mod Aggregated
 pub mod Ready
-mod Steps
+pub mod Steps

@@ -2,6 +2,7 @@
 // slices whole, with the parameters and the places of the regions.
 use aggregate;
 use challenges;
+use kept_mix;
 use regions::Regions;
 use relation::env_params::EnvironmentParameters;
 use sizes::offsets;
@@ -90,7 +91,7 @@ pub fn phi(
     requires { ⌜ Ready (now job) p q (now scratch) × Drawn 5 (now job) (now randomness) × Holds (now scratch) (q .phi2) (φ″-words (now job) (now randomness)) ⌝ }
     ensures { λ _. ⌜ now (scratch .exit) ≡ splice (now (scratch .entry)) (q .phi) (φ-words (now (job .entry)) (now (randomness .entry))) ⌝ }
 {
-    aggregate::aggregate(
+    kept_mix::aggregate(
         job,
         offsets::of_job(p, 4),
         p.multiplicity * p.rank,

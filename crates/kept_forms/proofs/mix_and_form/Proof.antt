@@ -1,0 +1,74 @@
+-- `mix_and_form` meets its contract.
+use Prim.Native.Nat.{ℕ, _+_}
+use native.Mathlib.Omega.{arith}
+use borrow.Author.Needs.{needs}
+use lib.ListN.{length-replicate}
+use Rattle.lists.specs.Part.{part}
+use Rattle.kept_vectors.proofs.Laws.{values-first}
+use Rattle.kept_sums.proofs.Laws.{part-words}
+use Rattle.kept_mix.proofs.Terms.{none-small, values-last, terms-after, terms-length}
+use Rattle.kept_mix.proofs.Mixed.{mixed-words-are}
+use Rattle.kept_forms.proofs.Forms.{buffer-values, forms-stored}
+use Rattle.kept_forms.proofs.mix_and_form.Statement.{statement}
+use Rattle.kept_forms.proofs.mix_and_form.Tie as tie
+
+store-values-requires : tie.Need-store-values-requires
+store-values-requires c κs = (c .before .before .before .before .before .before .before .before .before .pre .0, omega (arith, length-replicate {A = ℕ} 192 0))
+
+add-terms-requires : tie.Need-add-terms-requires
+add-terms-requires c κs =
+    let b = c .before .before .before .before .before .before .before .before .before .before .before .before in
+    let s = b .args in
+    let p = b .pre in
+    (p .0, p .1 .0, values-first (s .weights .now) 0 (s .count + s .number) (s .count) (omega arith) (p .1 .2), none-small (s .count) (omega arith))
+
+add-column-requires : tie.Need-add-column-requires
+add-column-requires c κs =
+    let b = c .before .before .before .before .before .before .before .before .before .before .before .before .before .before .before .before .before in
+    let s = b .args in
+    let p = b .pre in
+    let stored = c .before .before .before .before .before .before .before .store-values .ensures in
+    let loaded = c .before .before .before .before .before .before .before .before .before .before .load .ensures in (
+      p .0,
+      (
+        p .1 .1,
+        values-last (s .weights .now) (s .count) (s .number) (p .1 .2),
+        buffer-values (part (s .witness .now) (s .s) 64) _ _ loaded stored
+            (part-words (s .witness .now) (λ j. omega (arith, c .before .before .before .before .before .before .before .before .before .before .before .before .before .shared-slice-known4 .given j)) (s .s)),
+      ),
+      terms-after (s .weights .now) (s .constraints .now) (s .at) (s .step) _ (s .count) (s .number) (c .before .before .before .before .add-terms .ensures) (p .1 .2) (omega arith)
+          (λ j. omega (arith, c .before .before .before .before .before .before .before .before .before .before .before .before .before .before .before .before .shared-slice-known .given j)),
+      p .2 .1,
+    )
+
+back-requires : tie.Need-back-requires
+back-requires c κs =
+    let b = c .before .before .before .before .before .before .before .before .before .before .before .before .before .before .before .before .before .before .before .before .before .before in
+    let size = terms-length _ _ _ _ _ _ _ _ (c .before .before .before .before .add-column .ensures .0) in
+    (b .pre .0, omega (arith, size))
+
+returns : tie.Need-returns
+returns c =
+    let s = c .before .before .before .before .before .before .before .before .before .before .before .before .before .before .before .before .before .before .before .before .before .before .before .args in
+    let column = c .before .before .before .before .before .add-column .ensures in (
+      mixed-words-are (s .constraints .now) (s .at) (s .step) (s .count) (s .aggregated .now) (s .from) (s .pace) (s .number) (s .weights .now) _ _ _ (c .before .before .before .before .before .before .before .before .before .before .add-terms .ensures) (column .0) (c .back .ensures),
+      forms-stored (part (s .witness .now) (s .s) 64) _ _ (c .before .before .before .before .before .before .before .before .before .before .before .before .before .before .before .before .load .ensures) (c .before .before .before .before .before .before .before .before .before .before .before .before .before .store-values .ensures) (s .forms .now) _ (s .aggregated .now) (s .from) (s .pace) (s .number) (column .1),
+    )
+
+pub mix-and-form-spec : {M : Type 1} → statement M
+mix-and-form-spec =
+    tie.close
+    (tie.spec
+    (λ c κs. omega arith)
+    (λ c. search needs)
+    store-values-requires
+    (λ c. search needs)
+    add-terms-requires
+    (λ c. omega arith)
+    (λ c. search needs)
+    (λ c. search needs)
+    add-column-requires
+    (λ c. search needs)
+    back-requires
+    (λ c. search needs)
+    returns)

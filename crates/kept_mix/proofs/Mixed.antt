@@ -1,0 +1,135 @@
+-- What the sums with kept weights come to: the elements weighed by alpha and by beta, together.
+use mathlib.Core.Path.{_≡_, sym, ap, ap₂, _∙_}
+use mathlib.Core.Bool.{Bool, true, false, cond}
+use mathlib.Core.List.{List}
+use Prim.Native.Nat.{ℕ, _+_, _-_, _*_, _≤_, _<_}
+use native.Mathlib.Nat.{zero-add}
+use native.Mathlib.Omega.{arith}
+use borrow.Author.Tests.{lt-ltb, le-ltb}
+use lib.Dec.{ltb}
+use lib.ListN.{getD, replicate, getD-replicate}
+use Rattle.lists.specs.Part.{part, splice}
+use Rattle.lists.specs.Sum.{Σ}
+use Rattle.lists.proofs.Table.{table-ext}
+use Rattle.lists.proofs.Sum.{Σ-ext, Σ-split}
+use Rattle.lists.proofs.Splice.{part-splice-before}
+use Rattle.algebra.specs.Ops.{dot}
+use Rattle.algebra.proofs.Dot.{dot-ext, dot-split}
+use Rattle.definitions.specs.Ring.{RqOps, words, element}
+use Rattle.definitions.proofs.Bridge.{element-words, words-element}
+use Rattle.definitions.proofs.RqRing.{rq-ring}
+use Rattle.fast_product.proofs.Residue.{Words}
+use Rattle.protocol.specs.Formulas.{flat}
+use Rattle.inner_product.specs.Run.{run}
+use Rattle.aggregate.specs.Weighed.{mixed, mixed-words}
+use Rattle.kept_vectors.specs.Keeps.{values, Keeps}
+use Rattle.kept_sums.specs.Sums.{back-from, HoldsSums}
+use Rattle.kept_sums.proofs.Laws.{part-words, keeps-value, back-holds, back-from-element}
+use Rattle.kept_mix.specs.Terms.{terms-added, kept-mixed, kept-mixed-words}
+use Rattle.kept_mix.proofs.Terms.{length-terms, term-at}
+
+-- the first K of one, then the other
+joined : ℕ → (f g : ℕ → List ℕ) → ℕ → List ℕ
+joined K f g m = cond (ltb m K) (f m) (g (m - K))
+
+module _ (K : ℕ) (f g : ℕ → List ℕ) where
+  first : (m : ℕ) → m < K → joined K f g m ≡ f m
+  unfolding joined
+  first m l = ap (λ b. cond b (f m) (g (m - K))) (lt-ltb m K l)
+
+  second : (m : ℕ) → joined K f g (K + m) ≡ g m
+  unfolding joined
+  second m =
+      let back : K + m - K ≡ m = omega arith in
+      ap (λ b. cond b (f (K + m)) (g (K + m - K))) (le-ltb (K + m) K (omega arith)) ∙ ap g back
+
+  joined-words : ((m : ℕ) → Words (f m)) → ((m : ℕ) → Words (g m)) → (m : ℕ) → Words (joined K f g m)
+  unfolding joined
+  joined-words wf wg m = either (ltb m K)
+    where
+      either : (b : Bool) → Words (cond b (f m) (g (m - K)))
+      either true = wf m
+      either false = wg (m - K)
+
+module _ (J : List ℕ) (at step K : ℕ) (S : List ℕ) (from pace L : ℕ) (weights W : List ℕ) (alpha beta : ℕ) (few : K + L ≤ 64)
+    (kept-alpha : Keeps weights 0 W alpha K) (kept-beta : Keeps weights (192 * K) W beta L) (job : (j : ℕ) → getD J j 0 ≤ 4294967295) (scratch : (j : ℕ) → getD S j 0 ≤ 4294967295) where
+  abbrev α : ℕ → List ℕ
+  α m = part W (alpha + 64 * m) 64
+
+  abbrev β : ℕ → List ℕ
+  β m = part W (beta + 64 * m) 64
+
+  abbrev c : ℕ → List ℕ
+  c m = part J (at + step * m) 64
+
+  abbrev d : ℕ → List ℕ
+  d m = part S (from + pace * m) 64
+
+  abbrev sums : List ℕ
+  sums = terms-added (terms-added (replicate 192 0) weights 0 J at step K) weights (192 * K) S from pace L
+
+  product : (k : ℕ) → ℕ → ℕ
+  product k m = getD (values (joined K α β m)) k 0 * getD (values (joined K c d m)) k 0
+
+  by-alpha : (k : ℕ) → k < 192 → Σ K (λ m. getD weights (0 + 192 * m + k) 0 * getD (values (c m)) k 0) ≡ Σ K (product k)
+  unfolding product
+  by-alpha k l =
+      Σ-ext K (λ m. getD weights (0 + 192 * m + k) 0 * getD (values (c m)) k 0) (product k) (λ m b.
+      ap₂ _*_ (keeps-value weights 0 W alpha K kept-alpha m k b l ∙ ap (λ e. getD (values e) k 0) (sym (first K α β m b))) (ap (λ e. getD (values e) k 0) (sym (first K c d m b))))
+
+  by-beta : (k : ℕ) → k < 192 → Σ L (λ m. getD weights (192 * K + 192 * m + k) 0 * getD (values (d m)) k 0) ≡ Σ L (λ m. product k (K + m))
+  unfolding product
+  by-beta k l =
+      Σ-ext L (λ m. getD weights (192 * K + 192 * m + k) 0 * getD (values (d m)) k 0) (λ m. product k (K + m)) (λ m b.
+      ap₂ _*_ (keeps-value weights (192 * K) W beta L kept-beta m k b l ∙ ap (λ e. getD (values e) k 0) (sym (second K α β m))) (ap (λ e. getD (values e) k 0) (sym (second K c d m))))
+
+  holds : HoldsSums sums 0 (K + L) (joined K α β) (joined K c d)
+  unfolding product
+  holds k l =
+      let z : ℕ = 0 in
+      ap (λ j. getD sums j 0) (zero-add k)
+      ∙ term-at (terms-added (replicate 192 0) weights 0 J at step K) weights (192 * K) S from pace L k l
+      ∙ ap₂ _+_ (term-at (replicate 192 0) weights 0 J at step K k l ∙ ap₂ _+_ (getD-replicate 192 k z z l) (by-alpha k l) ∙ zero-add (Σ K (product k))) (by-beta k l)
+      ∙ sym (Σ-split K L (product k))
+
+  pub kept-mixed-is : kept-mixed J at step K S from pace L weights ≡ mixed J at step K W alpha beta S from pace L
+  unfolding kept-mixed mixed
+  kept-mixed-is =
+      ap element
+      (back-holds sums 0 (K + L) (joined K α β) (joined K c d) (omega (arith, length-terms (terms-added (replicate 192 0) weights 0 J at step K) weights (192 * K) S from pace L)) holds few
+      (joined-words K α β (kept-alpha .small) (kept-beta .small)) (joined-words K c d (λ m. part-words J job (at + step * m)) (λ m. part-words S scratch (from + pace * m))))
+      ∙ element-words (dot RqOps (K + L) (λ m. element (joined K α β m)) (λ m. element (joined K c d m)))
+      ∙ dot-split RqOps rq-ring K L (λ m. element (joined K α β m)) (λ m. element (joined K c d m))
+      ∙ ap₂ (RqOps .add)
+      (dot-ext RqOps K (λ m. element (joined K α β m)) (run W alpha 64) (λ m. element (joined K c d m)) (run J at step) (λ m l. ap element (first K α β m l)) (λ m l. ap element (first K c d m l)))
+      (dot-ext RqOps L (λ m. element (joined K α β (K + m))) (run W beta 64) (λ m. element (joined K c d (K + m))) (run S from pace) (λ m l. ap element (second K α β m)) (λ m l. ap element (second K c d m)))
+
+-- the words of both runs of terms and the way back
+pub mixed-words-are : (J : List ℕ) (at step K : ℕ) (S : List ℕ) (from pace L : ℕ) (weights s₁ s₂ r : List ℕ) → s₁ ≡ terms-added (replicate 192 0) weights 0 J at step K → s₂ ≡ terms-added s₁ weights (192 * K) S from pace L
+    → r ≡ back-from s₂ 0 → r ≡ words (kept-mixed J at step K S from pace L weights)
+unfolding kept-mixed
+mixed-words-are J at step K S from pace L weights s₁ s₂ r a b e =
+    e ∙ ap (λ s. back-from s 0) (b ∙ ap (λ s. terms-added s weights (192 * K) S from pace L) a) ∙ sym (words-element (back-from (terms-added (terms-added (replicate 192 0) weights 0 J at step K) weights (192 * K) S from pace L) 0) (back-from-element (terms-added (terms-added (replicate 192 0) weights 0 J at step K) weights (192 * K) S from pace L) 0))
+
+-- what lies before a store keeps its elements
+pub kept-mixed-before : (J : List ℕ) (at step K : ℕ) (S S′ : List ℕ) (from pace L : ℕ) (weights : List ℕ) (to : ℕ) (new : List ℕ) → S′ ≡ splice S to new → ((m : ℕ) → m < L → from + pace * m + 64 ≤ to)
+    → kept-mixed J at step K S′ from pace L weights ≡ kept-mixed J at step K S from pace L weights
+unfolding kept-mixed terms-added
+kept-mixed-before J at step K S S′ from pace L weights to new e h =
+    ap (λ t. element (back-from t 0))
+    (table-ext 192 (λ k. getD s k 0 + Σ L (term S′ k)) (λ k. getD s k 0 + Σ L (term S k)) (λ k l.
+    ap (λ x. getD s k 0 + x) (Σ-ext L (term S′ k) (term S k) (λ m b. ap (λ x. getD weights (192 * K + 192 * m + k) 0 * getD (values x) k 0) (ap (λ l. part l (from + pace * m) 64) e ∙ part-splice-before 0 S to new (from + pace * m) 64 (h m b))))))
+  where
+    s : List ℕ
+    s = terms-added (replicate 192 0) weights 0 J at step K
+
+    term : List ℕ → ℕ → ℕ → ℕ
+    term l k m = getD weights (192 * K + 192 * m + k) 0 * getD (values (part l (from + pace * m) 64)) k 0
+
+-- all elements
+pub kept-mixed-all : (J : List ℕ) (at width K : ℕ) (S : List ℕ) (from L : ℕ) (weights W : List ℕ) (alpha beta : ℕ) → K + L ≤ 64 → Keeps weights 0 W alpha K → Keeps weights (192 * K) W beta L
+    → ((j : ℕ) → getD J j 0 ≤ 4294967295) → ((j : ℕ) → getD S j 0 ≤ 4294967295) → kept-mixed-words J at width K S from L weights ≡ mixed-words J at width K W alpha beta S from L
+kept-mixed-all J at width K S from L weights W alpha beta few a b job scratch =
+    ap flat
+    (table-ext width (λ c. kept-mixed J (at + 64 * c) (64 * width) K S (from + 64 * c) (64 * width) L weights) (λ c. mixed J (at + 64 * c) (64 * width) K W alpha beta S (from + 64 * c) (64 * width) L)
+    (λ c l. kept-mixed-is J (at + 64 * c) (64 * width) K S (from + 64 * c) (64 * width) L weights W alpha beta few a b job scratch))

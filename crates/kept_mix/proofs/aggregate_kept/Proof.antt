@@ -1,0 +1,49 @@
+-- `aggregate_kept` meets its contract.
+use mathlib.Core.Path.{ap, _∙_}
+use Prim.Native.Nat.{ℕ}
+use native.Mathlib.Omega.{arith}
+use borrow.Author.Needs.{needs}
+use lib.ListN.{length-replicate}
+use Rattle.lists.specs.Part.{splice}
+use Rattle.kept_mix.proofs.Terms.{both-values}
+use Rattle.kept_mix.proofs.Mixed.{kept-mixed-all}
+use Rattle.kept_mix.proofs.aggregate_kept.Statement.{statement}
+use Rattle.kept_mix.proofs.aggregate_kept.Tie as tie
+
+keep-weights-requires : tie.Need-keep-weights-requires
+keep-weights-requires c κs =
+    let p = c .before .before .before .before .before .before .pre in
+    (c .before .before .twiddles .ensures, (p .0 .1, p .0 .2, p .1, omega (arith, length-replicate {A = ℕ} 12288 0)))
+
+mix-all-requires : tie.Need-mix-all-requires
+mix-all-requires c κs =
+    let b = c .before .before .before .before .before .before .before .before .before .before .before in
+    let s = b .args in
+    let p = b .pre in
+    let kept = c .before .before .before .before .keep-weights .ensures .1 in
+    (c .before .before .before .before .before .before .before .twiddles .ensures, (p .0 .0, p .0 .3, p .0 .4, p .0 .5, both-values _ (s .weights .now) (s .alpha) (s .beta) (s .count) (s .number) (kept .0) (kept .1), p .1 .2))
+
+returns : tie.Need-returns
+returns c =
+    let b = c .before .before .before .before .before .before .before .before .before .before .before .before .before .before in
+    let s = b .args in
+    let kept = c .before .before .before .before .before .before .before .keep-weights .ensures .1 in
+    c .before .before .mix-all .ensures
+    ∙ ap (splice (s .scratch .now) (s .to))
+    (kept-mixed-all (s .job .now) (s .at) (s .width) (s .count) (s .scratch .now) (s .from) (s .number) _ (s .weights .now) (s .alpha) (s .beta) (b .pre .1 .2) (kept .0) (kept .1)
+    (λ j. omega (arith, c .before .before .before .before .before .before .before .before .before .before .before .before .before .shared-slice-known .given j))
+    (λ j. omega (arith, c .before .before .before .before .before .before .before .before .before .before .before .slice-known .given j)))
+
+pub aggregate-kept-spec : {M : Type 1} → statement M
+aggregate-kept-spec =
+    tie.close
+    (tie.spec
+    (λ c κs. search needs)
+    (λ c. search needs)
+    (λ c. search needs)
+    keep-weights-requires
+    (λ c. search needs)
+    (λ c. search needs)
+    mix-all-requires
+    (λ c. search needs)
+    returns)

@@ -1,0 +1,3 @@
+pub mod Forms
+pub mod Vectors
+pub mod Made

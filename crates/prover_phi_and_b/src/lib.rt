@@ -1,0 +1,44 @@
+// φ and b'' of the whole call, together.
+use one_pass;
+use regions::Regions;
+use relation::env_params::EnvironmentParameters;
+use sizes::offsets;
+ghost use mathlib.Core.Path.{_≡_};
+ghost use Rattle.workspace.specs.Ready.{Drawn};
+ghost use Rattle.workspace.specs.Holds.{Holds};
+ghost use Rattle.workspace.specs.Aggregated.{φ″-words};
+ghost use Rattle.prover_commit.specs.Work.{Given};
+ghost use Rattle.prover_phi_and_b.specs.Stored.{with-φ, with-b″};
+
+// φ of the ring constraints and of the φ'' in its region, and then b'' of the a'', φ'' and g in theirs.
+pub fn phi_and_b(
+    job: &[u32],
+    randomness: &[u32],
+    witness: &[u32],
+    p: EnvironmentParameters,
+    q: Regions,
+    scratch: &mut [u32],
+)
+    requires { ⌜ Given (now job) (now witness) p q (now scratch) × Drawn 5 (now job) (now randomness) × Holds (now scratch) (q .phi2) (φ″-words (now job) (now randomness)) ⌝ }
+    ensures { λ _. ⌜ now (scratch .exit) ≡ with-b″ (with-φ (now (job .entry)) (now (randomness .entry)) q (now (scratch .entry))) (now (witness .entry)) p q ⌝ }
+{
+    one_pass::phi_and_b(
+        job,
+        offsets::of_job(p, 4),
+        p.constraint_k,
+        randomness,
+        offsets::of_randomness(p, 3),
+        offsets::of_randomness(p, 4),
+        scratch,
+        q.phi2,
+        p.const_agg_length,
+        q.phi,
+        q.a2,
+        q.g,
+        p.multiplicity,
+        p.rank,
+        witness,
+        1,
+        q.b2,
+    );
+}
