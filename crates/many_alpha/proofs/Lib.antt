@@ -1,1 +1,1 @@
-mod Stores
+pub mod Stores

@@ -166,7 +166,7 @@ module _ (J X : List ℕ) (ρ : ℕ) where
   passed : (t u : Element) {a b : ℕ} → b ≤ a → cond (ltb a b) t u ≡ u
   passed t u {a} {b} h = ap (λ x. cond x t u) (le-ltb a b h)
 
-  row-of-a : ρ < κ → row-product J X ρ ≡ of-A J X ρ
+  pub row-of-a : ρ < κ → row-product J X ρ ≡ of-A J X ρ
   unfolding row-product
   row-of-a h = taken _ _ h
 

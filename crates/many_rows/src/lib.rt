@@ -1,4 +1,5 @@
 // The rows of A, B, C and D one after another, each for every transcript that passes 7 to 10 before the next (document 02, Item 11).
+use many_a_rows;
 use many_parts;
 use many_row;
 use many_row::Held;
@@ -89,25 +90,26 @@ fn row_of_all(
     }
 }
 
-// The rows one after another.
-fn all_rows(
+// The rows from `first` to before `last`, one after another.
+fn some_rows(
     job: &[u32],
     p: EnvironmentParameters,
+    first: usize,
+    last: usize,
     count: usize,
     passes: [bool; 8],
     transcripts: &[u32],
     scratch: &mut [u32],
     stored: bool,
 )
-    requires { ⌜ Rowable (now job) (now transcripts) count (λ m. getD passes m false) (length (now scratch)) p ⌝ }
-    requires { ⌜ All-rows-done (now job) count (λ m. getD passes m false) (now transcripts) (now scratch) 0 ⌝ }
+    requires { ⌜ Rowable (now job) (now transcripts) count (λ m. getD passes m false) (length (now scratch)) p × (first ≤ last) × (last ≤ row-count (parametersOf p)) ⌝ }
+    requires { ⌜ All-rows-done (now job) count (λ m. getD passes m false) (now transcripts) (now scratch) first ⌝ }
     requires { ⌜ Stored-digits (now job) count (λ m. getD passes m false) (now transcripts) (now scratch) stored ⌝ }
-    ensures { λ _. ⌜ All-rows-done (now (job .entry)) count (λ m. getD passes m false) (now (transcripts .entry)) (now (scratch .exit)) (row-count (parameters (now (job .entry)))) ⌝ }
+    ensures { λ _. ⌜ All-rows-done (now (job .entry)) count (λ m. getD passes m false) (now (transcripts .entry)) (now (scratch .exit)) last ⌝ }
     ensures { λ _. ⌜ Kept (many-need (parameters (now (job .entry))) count) (now (scratch .entry)) (now (scratch .exit)) ⌝ }
 {
-    let rows = p.kappa + p.kappa_1 + p.kappa_1 + p.kappa_2;
-    let mut row = 0;
-    while row < rows {
+    let mut row = first;
+    while row < last {
         row_of_all(job, p, row, count, passes, transcripts, scratch, stored);
         row += 1;
     }
@@ -129,7 +131,62 @@ fn clear_products(p: EnvironmentParameters, count: usize, scratch: &mut [u32])
     }
 }
 
-// All rows, with the digits stored where they have room.
+// The rows of A, by kept transforms where these cost less.
+fn rows_of_a(
+    job: &[u32],
+    p: EnvironmentParameters,
+    count: usize,
+    passes: [bool; 8],
+    transcripts: &[u32],
+    scratch: &mut [u32],
+)
+    requires { ⌜ Rowable (now job) (now transcripts) count (λ m. getD passes m false) (length (now scratch)) p ⌝ }
+    requires { ⌜ All-rows-done (now job) count (λ m. getD passes m false) (now transcripts) (now scratch) 0 ⌝ }
+    ensures { λ _. ⌜ All-rows-done (now (job .entry)) count (λ m. getD passes m false) (now (transcripts .entry)) (now (scratch .exit)) (parameters (now (job .entry)) .κ) ⌝ }
+    ensures { λ _. ⌜ Kept (many-need (parameters (now (job .entry))) count) (now (scratch .entry)) (now (scratch .exit)) ⌝ }
+{
+    if many_a_rows::shared(p, count) {
+        many_a_rows::rows_of_a(job, p, count, passes, transcripts, scratch);
+    } else {
+        some_rows(
+            job,
+            p,
+            0,
+            p.kappa,
+            count,
+            passes,
+            transcripts,
+            scratch,
+            false,
+        );
+    }
+}
+
+// The rows of B, C and D, with the digits stored where they have room.
+fn other_rows(
+    job: &[u32],
+    p: EnvironmentParameters,
+    count: usize,
+    passes: [bool; 8],
+    transcripts: &[u32],
+    scratch: &mut [u32],
+)
+    requires { ⌜ Rowable (now job) (now transcripts) count (λ m. getD passes m false) (length (now scratch)) p ⌝ }
+    requires { ⌜ All-rows-done (now job) count (λ m. getD passes m false) (now transcripts) (now scratch) (parameters (now job) .κ) ⌝ }
+    ensures { λ _. ⌜ All-rows-done (now (job .entry)) count (λ m. getD passes m false) (now (transcripts .entry)) (now (scratch .exit)) (row-count (parameters (now (job .entry)))) ⌝ }
+    ensures { λ _. ⌜ Kept (many-need (parameters (now (job .entry))) count) (now (scratch .entry)) (now (scratch .exit)) ⌝ }
+{
+    let a = p.kappa;
+    let rows = a + p.kappa_1 + p.kappa_1 + p.kappa_2;
+    if many_windows::fits(p) {
+        many_windows::digits_of_all(job, p, count, passes, transcripts, scratch);
+        some_rows(job, p, a, rows, count, passes, transcripts, scratch, true);
+    } else {
+        some_rows(job, p, a, rows, count, passes, transcripts, scratch, false);
+    }
+}
+
+// All rows.
 pub fn row_products(
     job: &[u32],
     p: EnvironmentParameters,
@@ -143,10 +200,6 @@ pub fn row_products(
     ensures { λ _. ⌜ Kept (many-need (parameters (now (job .entry))) count) (now (scratch .entry)) (now (scratch .exit)) ⌝ }
 {
     clear_products(p, count, scratch);
-    if many_windows::fits(p) {
-        many_windows::digits_of_all(job, p, count, passes, transcripts, scratch);
-        all_rows(job, p, count, passes, transcripts, scratch, true);
-    } else {
-        all_rows(job, p, count, passes, transcripts, scratch, false);
-    }
+    rows_of_a(job, p, count, passes, transcripts, scratch);
+    other_rows(job, p, count, passes, transcripts, scratch);
 }

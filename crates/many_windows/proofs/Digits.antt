@@ -18,7 +18,7 @@ use Rattle.protocol.specs.Layout.{scratch-need}
 use Rattle.protocol.specs.Views.{message}
 use Rattle.protocol.specs.Formulas.{flat, rows, triangle, digit-element, digits-of}
 use Rattle.protocol.proofs.Flat.{length-flat, length-rows, length-triangle}
-use Rattle.protocol.specs.Many.{many-need, transcript-part, products-at, Rows-done, window, All-rows-done}
+use Rattle.protocol.specs.Many.{many-need, transcript-part, products-at, All-rows-done}
 use Rattle.rq_matrix.proofs.Place.{rows-within}
 use Rattle.commitments.specs.Cells.{Room, digits-at}
 use Rattle.commitments.proofs.Formula.{digits, vectors-cells, triangle-cells}
@@ -104,8 +104,27 @@ held-all J X S start at flag w room held =
       h = subst (λ a. Holds S a C) h-at (holds-second S (start + length A) B C second);
     }
 
+-- words stored at the start of a window, before its products, leave the rows that are done
+module _ (J T₀ : List ℕ) (count : ℕ) (passes : ℕ → Bool) (ρ : ℕ) (S S′ : List ℕ) (m start : ℕ) (new : List ℕ) (room : many-need (parameters J) count ≤ length S) (at : start ≡ m * scratch-need (parameters J))
+    (small : length new ≤ products-at (parameters J)) (e : S′ ≡ splice S start new) where
+  abbrev width : ℕ
+  width = scratch-need (parameters J)
+
+  -- a window's products are as they were
+  products-kept : (i : ℕ) → i < count → part S′ (i * width + (width - 4096)) 4096 ≡ part S (i * width + (width - 4096)) 4096
+  products-kept i k = ap (λ s. part s (i * width + (width - 4096)) 4096) e ∙ by (decLt i m)
+    where
+      by : Dec (i < m) → part (splice S start new) (i * width + (width - 4096)) 4096 ≡ part S (i * width + (width - 4096)) 4096
+      by (yes less) = part-splice-before 0 S start new (i * width + (width - 4096)) 4096 (omega (arith, at, rows-within i m width less))
+      by (no more) = part-splice-after 0 S start new (i * width + (width - 4096)) 4096 (omega (arith, at, small, mul-le-mul-right {m = m} {n = i} width (omega arith)))
+
+  pub rows-stay : All-rows-done J count passes T₀ S ρ → All-rows-done J count passes T₀ S′ ρ
+  rows-stay done i c u =
+      of-done J (transcript-part (parameters J) count T₀ i) S′ i ρ (omega (arith, rows-within i count width c, ap length e, length-splice S start new))
+      (products-kept i c ∙ done-of J (transcript-part (parameters J) count T₀ i) S i ρ (omega (arith, rows-within i count width c)) (done i c u))
+
 -- one transcript more
-module _ (J T₀ : List ℕ) (count : ℕ) (passes : ℕ → Bool) where
+module _ (J T₀ : List ℕ) (count : ℕ) (passes : ℕ → Bool) (ρ : ℕ) where
   abbrev need : ℕ
   need = scratch-need (parameters J)
 
@@ -115,35 +134,22 @@ module _ (J T₀ : List ℕ) (count : ℕ) (passes : ℕ → Bool) where
   size : (i : ℕ) → length (words-of i) ≡ 64 * digit-count (parameters J)
   size i = length-window-digits (parameters J) (transcript-part (parameters J) count T₀ i)
 
-  -- the digits of the transcripts before m are stored, and no row is done
+  -- the digits of the transcripts before m are stored, and ρ rows are done
   pub record Begun (S : List ℕ) (m : ℕ) : Type 0 where
     pub digits : (i : ℕ) → i < m → i < count → passes i ≡ true → Holds S (i * need) (words-of i)
-    pub none : All-rows-done J count passes T₀ S 0
+    pub done : All-rows-done J count passes T₀ S ρ
 
-  pub begun-none : (S : List ℕ) → All-rows-done J count passes T₀ S 0 → Begun S 0
-  begun-none S all = record { digits = λ i h. absurd (omega arith); none = all }
+  pub begun-none : (S : List ℕ) → All-rows-done J count passes T₀ S ρ → Begun S 0
+  begun-none S all = record { digits = λ i h. absurd (omega arith); done = all }
 
   module _ (fitting : Fitting (parameters J)) (S₀ S S′ : List ℕ) (m start : ℕ) (room : many-need (parameters J) count ≤ length S) (h : m < count) (at : start ≡ m * need) where
     m-within : m * need + need ≤ length S
     m-within = omega (arith, rows-within m count need h)
 
-    -- a window's products are as they were
-    products-kept : S′ ≡ splice S start (words-of m) → (i : ℕ) → i < count → part S′ (i * need + (need - 4096)) 4096 ≡ part S (i * need + (need - 4096)) 4096
-    products-kept e i k = ap (λ s. part s (i * need + (need - 4096)) 4096) e ∙ by (decLt i m)
-      where
-        by : Dec (i < m) → part (splice S start (words-of m)) (i * need + (need - 4096)) 4096 ≡ part S (i * need + (need - 4096)) 4096
-        by (yes less) = part-splice-before 0 S start (words-of m) (i * need + (need - 4096)) 4096 (omega (arith, at, rows-within i m need less))
-        by (no more) = part-splice-after 0 S start (words-of m) (i * need + (need - 4096)) 4096 (omega (arith, at, size m, fitting, below m i (omega arith)))
-          where
-            below : (a b : ℕ) → a ≤ b → a * need ≤ b * need
-            below a b l = mul-le-mul-right need l
-
     next : (pass : Bool) → pass ≡ passes m → S′ ≡ digits-for J T₀ count m start pass S → Begun S m → Begun S′ (m + 1)
     next true t e b = record {
       digits = λ i l c u. go i l c u (decLt i m);
-      none = λ i c u.
-          of-done J (transcript-part (parameters J) count T₀ i) S′ i 0 (omega (arith, rows-within i count need c, ap length e, length-splice S start (words-of m)))
-          (products-kept e i c ∙ done-of J (transcript-part (parameters J) count T₀ i) S i 0 (omega (arith, rows-within i count need c)) (b .none i c u));
+      done = rows-stay J T₀ count passes ρ S S′ m start (words-of m) room at (omega (arith, size m, fitting)) e (b .done);
     }
       where
         go : (i : ℕ) → i < m + 1 → i < count → passes i ≡ true → Dec (i < m) → Holds S′ (i * need) (words-of i)
@@ -156,7 +162,7 @@ module _ (J T₀ : List ℕ) (count : ℕ) (passes : ℕ → Bool) where
             (subst (λ a. Holds S′ a (words-of m)) at (subst (λ s. Holds s start (words-of m)) (sym e) (holds-stored S start (words-of m) (omega (arith, at, size m, fitting, m-within)))))
     next false t e b = record {
       digits = λ i l c u. go i l c u (decLt i m);
-      none = subst (λ s. All-rows-done J count passes T₀ s 0) (sym e) (b .none);
+      done = subst (λ s. All-rows-done J count passes T₀ s ρ) (sym e) (b .done);
     }
       where
         go : (i : ℕ) → i < m + 1 → i < count → passes i ≡ true → Dec (i < m) → Holds S′ (i * need) (words-of i)

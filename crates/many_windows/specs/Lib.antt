@@ -1,2 +1,3 @@
 pub mod Digits
+pub mod Product
 pub mod Rowable

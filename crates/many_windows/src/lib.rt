@@ -99,7 +99,7 @@ fn digits_of_one(
     }
 }
 
-// The digits of every transcript that passes, each at the start of its window.
+// The digits of every transcript that passes, each at the start of its window, after the rows of A.
 pub fn digits_of_all(
     job: &[u32],
     p: EnvironmentParameters,
@@ -109,8 +109,8 @@ pub fn digits_of_all(
     scratch: &mut [u32],
 )
     requires { ⌜ Rowable (now job) (now transcripts) count (λ m. getD passes m false) (length (now scratch)) p × Fitting (parametersOf p) ⌝ }
-    requires { ⌜ All-rows-done (now job) count (λ m. getD passes m false) (now transcripts) (now scratch) 0 ⌝ }
-    ensures { λ _. ⌜ All-rows-done (now (job .entry)) count (λ m. getD passes m false) (now (transcripts .entry)) (now (scratch .exit)) 0 ⌝ }
+    requires { ⌜ All-rows-done (now job) count (λ m. getD passes m false) (now transcripts) (now scratch) (parameters (now job) .κ) ⌝ }
+    ensures { λ _. ⌜ All-rows-done (now (job .entry)) count (λ m. getD passes m false) (now (transcripts .entry)) (now (scratch .exit)) (parameters (now (job .entry)) .κ) ⌝ }
     ensures { λ _. ⌜ All-digits (now (job .entry)) count (λ m. getD passes m false) (now (transcripts .entry)) (now (scratch .exit)) ⌝ }
     ensures { λ _. ⌜ Kept (many-need (parameters (now (job .entry))) count) (now (scratch .entry)) (now (scratch .exit)) ⌝ }
 {

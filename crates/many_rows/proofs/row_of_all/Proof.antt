@@ -15,7 +15,8 @@ use Rattle.workspace.proofs.Kept.{kept-refl}
 use Rattle.many_windows.specs.Digits.{Places, Stored-digits, window-digits}
 use Rattle.many_windows.proofs.Windows.{rowable-sized, posed, few-rows, need-is, need-large, window-within, place-is}
 use Rattle.many_windows.proofs.Digits.{held-all}
-use Rattle.many_rows.proofs.Windows.{Progress, progress-none, progress-all, progress-next, digits-stay}
+use Rattle.many_windows.proofs.Progress.{Progress, progress-none, progress-all, progress-next}
+use Rattle.many_rows.proofs.Windows.{digits-stay}
 use Rattle.many_rows.proofs.row_of_all.Statement.{statement}
 use Rattle.many_rows.proofs.row_of_all.Tie as tie
 

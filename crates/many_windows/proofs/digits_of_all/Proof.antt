@@ -19,7 +19,7 @@ abbrev Inv-loop : tie.InvT-loop
 Inv-loop job p count transcripts scratch₀ passes need m₀ start₀ scratch m start =
     (m ≤ count)
     × (start ≡ m * need)
-    × Begun job transcripts count (λ m. getD passes m false) scratch m
+    × Begun job transcripts count (λ m. getD passes m false) (parameters job .κ) scratch m
     × Kept (many-need (parameters job) count) scratch₀ scratch
 
 abbrev μ-loop : tie.MeasureT-loop
@@ -28,7 +28,7 @@ abbrev μ-loop : tie.MeasureT-loop
 loop-holds : tie.Need-loop-holds Inv-loop μ-loop
 loop-holds c =
     let s = c .before .before .before .before in
-    (omega arith, omega arith, begun-none _ _ _ _ (s .args .scratch .now) (s .pre .1), kept-refl _ _)
+    (omega arith, omega arith, begun-none _ _ _ _ _ (s .args .scratch .now) (s .pre .1), kept-refl _ _)
 
 -- window m lies within the scratch
 bounds : (c : tie.In-loop Inv-loop μ-loop)
@@ -57,14 +57,14 @@ loop-again c =
     let at = l .inv .1 ∙ ap (λ k. l .m * k) (need-is _ _ _ _ _ _ (s .pre .0 .0) _ (n .ensures)) in
     let fitting = subst Fitting (s .pre .0 .0 .same) (s .pre .0 .1) in
     let room = subst (λ k. many-need (parameters (s .args .job .now)) (s .args .count) ≤ k) (sym (l .inv .3 .size)) (s .pre .0 .0 .room) in
-    let next = begun-next (s .args .job .now) (s .args .transcripts .now) (s .args .count) _ fitting (s .args .scratch .now) (l .scratch) _ (l .m) (l .start) room h at _ refl (c .before .before .digits-of-one .ensures) (l .inv .2, l .inv .3) in
+    let next = begun-next (s .args .job .now) (s .args .transcripts .now) (s .args .count) _ _ fitting (s .args .scratch .now) (l .scratch) _ (l .m) (l .start) room h at _ refl (c .before .before .digits-of-one .ensures) (l .inv .2, l .inv .3) in
     (omega arith, omega (arith, l .inv .1), next .0, next .1)
 
 returns : tie.Need-returns Inv-loop μ-loop
 returns c =
     let l = c .before .loop in
     let b = l .inv .2 in
-    (b .none, (λ i h t. b .digits i (omega arith) h t, l .inv .3))
+    (b .done, (λ i h t. b .digits i (omega arith) h t, l .inv .3))
 
 pub digits-of-all-spec : {M : Type 1} → statement M
 digits-of-all-spec =

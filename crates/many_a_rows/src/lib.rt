@@ -1,0 +1,161 @@
+// The rows of A with z for all transcripts of a call (document 02, Item 11): each row is transformed once, and taken with the z of every transcript,
+// which is kept transformed at the start of its window.
+use kept_vectors;
+use many_parts;
+use ntt::table;
+use relation::env_params::EnvironmentParameters;
+use sizes::buffers;
+use sizes::offsets;
+use words;
+ghost use mathlib.Core.Path.{_≡_};
+ghost use mathlib.Core.Bool.{true, false};
+ghost use Prim.Native.Nat.{_+_, _*_, _≤_, _<_};
+ghost use lib.ListN.{length, getD};
+ghost use Rattle.protocol.specs.Parameters.{parameters};
+ghost use Rattle.protocol.specs.Kept.{Kept};
+ghost use Rattle.protocol.specs.Many.{many-need, transcript-part, All-rows-done};
+ghost use Rattle.relation.specs.Parameters.{parametersOf};
+ghost use Rattle.ntt.specs.Roots.{twiddleTable};
+ghost use Rattle.kept_vectors.specs.Keeps.{AllValues};
+ghost use Rattle.verifier_common.specs.Work.{Posed};
+ghost use Rattle.many_windows.specs.Rowable.{Rowable};
+ghost use Rattle.many_a_rows.specs.Kept.{shares, z-for, Keeps-z, All-z, product-for, Valued, Row-made};
+
+// Whether the rows of A are taken by kept transforms.
+pub fn shared(p: EnvironmentParameters, count: usize) -> bool
+    ensures { λ r. ⌜ r ≡ shares (parametersOf p) count ⌝ }
+{
+    if count < 2 {
+        return false;
+    }
+    if p.kappa < 2 {
+        return false;
+    }
+    5 <= p.rank
+}
+
+// The values of z of transcript m, where it passes.
+fn keep_one(
+    job: &[u32],
+    p: EnvironmentParameters,
+    count: usize,
+    m: usize,
+    pass: bool,
+    transcripts: &[u32],
+    w: &[u32],
+    scratch: &mut [u32],
+    start: usize,
+)
+    requires { ⌜ (now w ≡ twiddleTable) × (m < count) × (count ≤ 8) × (start + 192 * p .rank ≤ length (now scratch)) ⌝ }
+    requires { ⌜ (pass ≡ true → Posed (now job) (transcript-part (parameters (now job)) count (now transcripts) m) p) ⌝ }
+    ensures { λ _. ⌜ now (scratch .exit) ≡ z-for (now (job .entry)) (now (transcripts .entry)) count m start pass (now (scratch .entry)) ⌝ }
+    ensures { λ _. ⌜ (pass ≡ true → Keeps-z (now (job .entry)) (now (transcripts .entry)) count m start (now (scratch .exit))) ⌝ }
+{
+    if pass {
+        let z_at = offsets::of_transcript(p, 4);
+        let b = many_parts::transcript_bounds(transcripts.len(), p, count, m);
+        let from = b.from;
+        let to = b.to;
+        kept_vectors::keep(&transcripts[from..to], z_at, p.rank, w, scratch, start);
+    }
+}
+
+// The values of z of every transcript that passes, each at the start of its window.
+fn keep_all(
+    job: &[u32],
+    p: EnvironmentParameters,
+    count: usize,
+    passes: [bool; 8],
+    transcripts: &[u32],
+    w: &[u32],
+    scratch: &mut [u32],
+)
+    requires { ⌜ (now w ≡ twiddleTable) × Rowable (now job) (now transcripts) count (λ m. getD passes m false) (length (now scratch)) p ⌝ }
+    requires { ⌜ All-rows-done (now job) count (λ m. getD passes m false) (now transcripts) (now scratch) 0 ⌝ }
+    ensures { λ _. ⌜ All-rows-done (now (job .entry)) count (λ m. getD passes m false) (now (transcripts .entry)) (now (scratch .exit)) 0 ⌝ }
+    ensures { λ _. ⌜ All-z (now (job .entry)) count (λ m. getD passes m false) (now (transcripts .entry)) (now (scratch .exit)) ⌝ }
+    ensures { λ _. ⌜ Kept (many-need (parameters (now (job .entry))) count) (now (scratch .entry)) (now (scratch .exit)) ⌝ }
+{
+    let need = buffers::scratch_length(p);
+    let mut m = 0;
+    let mut start = 0;
+    while m < count {
+        let pass = passes[m];
+        keep_one(job, p, count, m, pass, transcripts, w, scratch, start);
+        start += need;
+        m += 1;
+    }
+}
+
+// The product of a kept row with the values in one window, where its transcript passes.
+fn store_product(
+    values: &[u32],
+    n: usize,
+    pass: bool,
+    w: &[u32],
+    scratch: &mut [u32],
+    start: usize,
+    place: usize,
+)
+    requires { ⌜ (now w ≡ twiddleTable) × AllValues (now values) 0 n × (n ≤ 64) × (place + 64 ≤ length (now scratch)) ⌝ }
+    requires { ⌜ (pass ≡ true → AllValues (now scratch) start n) ⌝ }
+    ensures { λ _. ⌜ now (scratch .exit) ≡ product-for (now (values .entry)) n start place pass (now (scratch .entry)) ⌝ }
+{
+    if pass {
+        let product = kept_vectors::inner_product(values, 0, scratch, start, n, w);
+        words::store(scratch, place, product);
+    }
+}
+
+// One row of A with z of every transcript that passes.
+fn row_of_all(
+    job: &[u32],
+    p: EnvironmentParameters,
+    row: usize,
+    count: usize,
+    passes: [bool; 8],
+    w: &[u32],
+    scratch: &mut [u32],
+)
+    requires { ⌜ (now w ≡ twiddleTable) × Valued (now job) count (λ m. getD passes m false) (now scratch) (length (now scratch)) p × (row < p .kappa) ⌝ }
+    ensures { λ _. ⌜ Row-made (now (job .entry)) count (λ m. getD passes m false) row (now (scratch .entry)) (now (scratch .exit)) ⌝ }
+    ensures { λ _. ⌜ Kept (many-need (parameters (now (job .entry))) count) (now (scratch .entry)) (now (scratch .exit)) ⌝ }
+{
+    let n = p.rank;
+    let need = buffers::scratch_length(p);
+    let row_at = offsets::of_job(p, 6) + 64 * (row * n);
+    let mut values = [0u32; 12288];
+    kept_vectors::keep(job, row_at, n, w, &mut values, 0);
+    let mut m = 0;
+    let mut start = 0;
+    while m < count {
+        let pass = passes[m];
+        let place = start + need - 4096 + 64 * row;
+        store_product(&values, n, pass, w, scratch, start, place);
+        start += need;
+        m += 1;
+    }
+}
+
+// The rows of A one after another.
+pub fn rows_of_a(
+    job: &[u32],
+    p: EnvironmentParameters,
+    count: usize,
+    passes: [bool; 8],
+    transcripts: &[u32],
+    scratch: &mut [u32],
+)
+    requires { ⌜ Rowable (now job) (now transcripts) count (λ m. getD passes m false) (length (now scratch)) p ⌝ }
+    requires { ⌜ All-rows-done (now job) count (λ m. getD passes m false) (now transcripts) (now scratch) 0 ⌝ }
+    ensures { λ _. ⌜ All-rows-done (now (job .entry)) count (λ m. getD passes m false) (now (transcripts .entry)) (now (scratch .exit)) (parameters (now (job .entry)) .κ) ⌝ }
+    ensures { λ _. ⌜ Kept (many-need (parameters (now (job .entry))) count) (now (scratch .entry)) (now (scratch .exit)) ⌝ }
+{
+    let w = table::twiddles();
+    keep_all(job, p, count, passes, transcripts, &w, scratch);
+    let mut row = 0;
+    while row < p.kappa {
+        row_of_all(job, p, row, count, passes, &w, scratch);
+        row += 1;
+    }
+}
