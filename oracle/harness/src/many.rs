@@ -153,8 +153,11 @@ enum Kind {
 
 /// Eight transcripts for one job; the limits of 21 and 23 are those that the transcripts themselves reach, and a little more.
 fn desk(random: &mut Random, mut parameters: Parameters, kind: Kind) -> Desk {
-    // from n 5 on the rows of A are taken by kept transforms
+    // from n 5 on the rows of A are taken by kept transforms, and from K 3 on alpha's part of φ is made for all together
     (parameters.n, parameters.r) = (random.pick(&[1, 2, 5]), 1 + random.below(2));
+    if parameters.ring > 0 {
+        parameters.ring = 1 + random.below(4);
+    }
     if kind == Kind::OneWitness || kind == Kind::Witnesses {
         // a base in which a large z has a large second part
         parameters.b = random.pick(&[2, 3, 4, 7, 10, 16, 255, 256]);
