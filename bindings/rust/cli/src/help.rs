@@ -51,6 +51,7 @@ pub const DESCRIBE: Command = Command {
     options: &[
         JOB,
         opt("--as", "KIND", "read the files as job, randomness, witness or transcript, whatever they look like"),
+        STATED,
         JSON,
         HELP,
     ],
@@ -94,6 +95,7 @@ pub const VERIFY: Command = Command {
         RANDOMNESS,
         TRANSCRIPT,
         opt("--report", "FILE", "write the verdict as a page to read or print"),
+        STATED,
         FORCE,
         JSON,
         HELP,
@@ -159,6 +161,59 @@ pub const ADD_PROJECTIONS: Command = Command {
     example: "labrador add-projections --p a.p shed1/p shed2/p",
 };
 
+const STATED: Opt =
+    opt("--statement", "FILE", "the statement file: says whether the job is its job, and A to D are those of its seed");
+
+pub const STATEMENT: Command = Command {
+    name: "statement",
+    usage: "labrador statement FILE --job FILE | --from JOB [--seed HEX]",
+    about: "Makes the job of a statement file, in which a store writes its totals (docs/STATEMENT.md). With --from prints the statement file of \
+            a job whose constraints are all totals; exit status 1 where one is none, or where A to D are not those of the seed.",
+    options: &[
+        JOB,
+        opt("--from", "JOB", "print the statement file of this job"),
+        opt("--seed", "HEX", "with --from: the seed of A to D, 64 hex digits"),
+        FORCE,
+        JSON,
+        HELP,
+    ],
+    example: "labrador statement sheds.statement --job sheds.job",
+};
+
+pub const STOCK: Command = Command {
+    name: "stock",
+    usage: "labrador stock FILE --job FILE --witness FILE",
+    about: "Makes the witness of a stock list: a number a line, line 0 of s0 first, or vector,line,number a line. Lines that are not given \
+            are 0.",
+    options: &[JOB, WITNESS, FORCE, JSON, HELP],
+    example: "labrador stock sheds.stock --job sheds.job --witness sheds.witness",
+};
+
+pub const CHECK: Command = Command {
+    name: "check",
+    usage: "labrador check --job FILE --witness FILE",
+    about: "Says, before anything is proved, which totals the witness meets, by how much it misses the others, and each vector's norm against \
+            A's bound. Exit status 0 all met, 1 something is missed, 2 unfit.",
+    options: &[JOB, WITNESS, JSON, HELP],
+    example: "labrador check --job sheds.job --witness sheds.witness",
+};
+
+pub const BOUNDS: Command = Command {
+    name: "bounds",
+    usage: "labrador bounds --statement FILE --stock FILE [--slack PERCENT] [--sessions N]",
+    about: "Prints the six bounds that honest transcripts of a statement and a stock need, as lines of a statement file; the file may lack \
+            them here. Exit status 1 where one of the transcripts would not pass.",
+    options: &[
+        opt("--statement", "FILE", "the statement file"),
+        opt("--stock", "FILE", "the stock list; it is secret"),
+        opt("--slack", "PERCENT", "so much is added to what is needed (10 where it is not given)"),
+        opt("--sessions", "NUMBER", "so many transcripts are tried (40 where it is not given)"),
+        JSON,
+        HELP,
+    ],
+    example: "labrador bounds --statement sheds.statement --stock sheds.stock",
+};
+
 pub const EXPLAIN: Command = Command {
     name: "explain",
     usage: "labrador explain [NUMBER]",
@@ -168,7 +223,7 @@ pub const EXPLAIN: Command = Command {
     example: "labrador explain 22",
 };
 
-pub const COMMANDS: [&Command; 11] = [
+pub const COMMANDS: [&Command; 15] = [
     &LOAD,
     &DESCRIBE,
     &REVIEW,
@@ -179,6 +234,10 @@ pub const COMMANDS: [&Command; 11] = [
     &SHED_PROJECTION,
     &SHED_ROWS,
     &ADD_PROJECTIONS,
+    &STATEMENT,
+    &STOCK,
+    &CHECK,
+    &BOUNDS,
     &EXPLAIN,
 ];
 

@@ -14,6 +14,8 @@ mod judge;
 mod output;
 mod page;
 mod progress;
+mod stated;
+mod texts;
 
 fn main() -> ExitCode {
     let arguments: Vec<OsString> = std::env::args_os().skip(1).collect();

@@ -10,6 +10,7 @@ use crate::files::{read, read_slice, Words};
 use crate::help::Command;
 use crate::json::Json;
 use crate::judge;
+use crate::stated::Given;
 
 use self::json::json_of;
 use self::text::describe;
@@ -45,10 +46,23 @@ fn named_job(path: &Path) -> Result<Vec<u32>, End> {
     }
 }
 
+/// How the job stands to the statement that `--statement` names, a line each, and whether it is its job.
+fn compared(given: Option<&Given>, job: Option<&[u32]>) -> (String, bool) {
+    let fit = job.filter(|job| judge::refusal(Slice::Job, job, job).is_none());
+    match (given, fit) {
+        (Some(given), Some(job)) => {
+            let compared = given.compared(job);
+            (compared.told.map(|line| format!("{line}\n")).concat(), compared.same)
+        }
+        _ => (String::new(), true),
+    }
+}
+
 pub fn run(command: &Command, args: &Args) -> Outcome {
     if args.rest.is_empty() {
         return Err(usage(format!("describe takes a file or more; {}", command.hint())));
     }
+    let given = args.file("--statement").map(Given::read).transpose()?;
     let most = Slice::ALL.into_iter().map(Slice::greatest_length).max().unwrap_or(0) + 1;
     let forced = forced(args)?;
     let mut files = Vec::new();
@@ -70,6 +84,13 @@ pub fn run(command: &Command, args: &Args) -> Outcome {
         list.push(json_of(file, job.as_deref(), refusal.as_ref()));
         first = first.or(refusal.map(|refusal| format!("{}: {refusal}", file.path.display())));
     }
-    let status = if first.is_some() { Status::Unfit } else { Status::Fine };
-    Ok(End::new(status, first.unwrap_or_default()).printing(out).with(vec![("files", Json::List(list))]))
+    let (lines, same) = compared(given.as_ref(), job.as_deref());
+    let status = match first {
+        Some(_) => Status::Unfit,
+        None if !same => Status::Failed,
+        None => Status::Fine,
+    };
+    let told = Json::List(lines.lines().map(Json::text).collect());
+    let fields = vec![("files", Json::List(list)), ("compared", told)];
+    Ok(End::new(status, first.unwrap_or_default()).printing(out + &lines).with(fields))
 }
