@@ -38,25 +38,31 @@ fn with_slack(most: u128, percent: u32) -> u128 {
     most.saturating_add(slack).min(GREATEST_BOUND)
 }
 
-/// The bounds that `sessions` honest transcripts need, with `percent` of slack, and what those transcripts get under them. The bounds of
+/// The randomness of so many sessions, one after the other.
+pub fn sessions(statement: &Statement, count: u32) -> impl Iterator<Item = Vec<u32>> + '_ {
+    (0..count).map(|session| session_seed(statement, session).randomness(statement.parameters()))
+}
+
+/// The bounds that `count` honest transcripts need, with `percent` of slack, and what those transcripts get under them. The bounds of
 /// the statement are not read.
-pub fn fit(statement: &Statement, stock: &Stock, percent: u32, sessions: u32) -> Result<Fit, Refusal> {
+pub fn fit(statement: &Statement, stock: &Stock, percent: u32, count: u32) -> Result<Fit, Refusal> {
     let free = statement.with_bounds([GREATEST_BOUND; BOUNDS.len()]);
     let (job, witness) = (free.job(), stock.witness());
     let one = SectionOne::read(&job).expect("the job of a statement is fit");
     let vectors = witness[1..].chunks_exact(64 * one.parameters.n as usize).map(norm_of);
     let greatest_vector = vectors.collect::<Result<Vec<_>, Refusal>>()?.into_iter().max().unwrap_or(0);
-    let randomness = |session| session_seed(statement, session).randomness(&one.parameters);
     let mut most = [0; BOUNDS.len()];
     let mut transcripts = Vec::new();
-    for session in 0..sessions {
-        let transcript = prove(&job, &randomness(session), &witness)?;
+    for randomness in sessions(statement, count) {
+        let transcript = prove(&job, &randomness, &witness)?;
         let needed = needed(&one, &transcript, greatest_vector)?;
         most.iter_mut().zip(needed).for_each(|(most, needed)| *most = needed.max(*most));
         transcripts.push(transcript);
     }
     let bounds = most.map(|most| with_slack(most, percent));
     let job = statement.with_bounds(bounds).job();
-    let verdict = |(session, transcript): (u32, &Vec<u32>)| verify(&job, &randomness(session), transcript);
-    Ok(Fit { most, bounds, verdicts: (0..).zip(&transcripts).map(verdict).collect() })
+    // drawn again, since the randomness of all sessions together is large
+    let each = sessions(statement, count).zip(&transcripts);
+    let verdicts = each.map(|(randomness, transcript)| verify(&job, &randomness, transcript)).collect();
+    Ok(Fit { most, bounds, verdicts })
 }

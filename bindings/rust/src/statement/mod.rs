@@ -22,7 +22,7 @@ mod stock;
 mod text;
 mod total;
 
-pub use bounds::{fit, Fit};
+pub use bounds::{fit, sessions, Fit};
 pub use check::{check, Checked, Side};
 pub use job::{totals, NoStatement, NoTotal};
 pub use mistake::{Fault, Found, Mistake};
