@@ -35,6 +35,7 @@ mod number;
 mod place;
 mod prover;
 mod ranges;
+mod reach;
 mod refusal;
 pub mod review;
 mod rounds;
@@ -43,6 +44,7 @@ pub mod sections;
 mod sheds;
 mod verdict;
 mod verifier;
+pub mod worth;
 
 pub use element::{ChallengeWords, DigitRows, Element};
 pub use load::{load, load_into, load_needs, Load, LoadNeeds};
