@@ -35,6 +35,7 @@ mod number;
 mod place;
 mod prover;
 mod ranges;
+mod reach;
 mod refusal;
 pub mod review;
 mod rounds;
@@ -45,6 +46,7 @@ mod sheds;
 pub mod statement;
 mod verdict;
 mod verifier;
+pub mod worth;
 
 pub use element::{ChallengeWords, DigitRows, Element};
 pub use load::{load, load_into, load_needs, Load, LoadNeeds};

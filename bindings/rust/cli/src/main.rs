@@ -16,6 +16,7 @@ mod page;
 mod progress;
 mod stated;
 mod texts;
+mod worth;
 
 fn main() -> ExitCode {
     let arguments: Vec<OsString> = std::env::args_os().skip(1).collect();

@@ -24,11 +24,11 @@ pub struct Given<'a> {
     pub statement: Statement,
 }
 
-/// How a job stands to a statement, in two sentences.
+/// How a job stands to a statement, in sentences; the last is of the whole job.
 pub struct Compared {
     /// Whether the job is the statement's, word for word.
     pub same: bool,
-    pub told: [String; 2],
+    pub told: Vec<String>,
 }
 
 /// Where two jobs differ first.
@@ -57,6 +57,6 @@ impl Given<'_> {
             None => format!("the job is that of {shown}"),
             Some(at) => format!("the job is not that of {shown}: word {at} is another ({})", spot(at as u64)),
         };
-        Compared { same, told: [matrices, whole] }
+        Compared { same, told: vec![matrices, whole] }
     }
 }

@@ -15,3 +15,4 @@ mod norms;
 mod review;
 mod sheds;
 mod statement;
+mod worth;

@@ -3,15 +3,18 @@
 
 use std::path::Path;
 
-use labrador::review::Finding;
 use labrador::section_one::SectionOne;
 use labrador::{Slice, Verdict};
+
+use crate::stated::Compared;
+use crate::worth::Told;
 
 mod checks;
 mod findings;
 mod html;
 mod norms;
 mod place;
+mod stated;
 mod style;
 mod tables;
 mod verdict;
@@ -22,7 +25,12 @@ pub struct Report<'a> {
     pub names: [&'a Path; 3],
     pub slices: [&'a [u32]; 3],
     pub verdict: &'a Verdict,
-    pub findings: &'a [Finding],
+    /// What is said of the job, where it is fit.
+    pub job: Option<&'a Told>,
+    /// What is to be told of the randomness.
+    pub warnings: &'a [String],
+    /// How the job stands to a statement file, where one was handed in.
+    pub compared: Option<&'a Compared>,
 }
 
 /// The slices in the order of a report.
@@ -46,10 +54,11 @@ impl Report<'_> {
 }
 
 pub fn page(report: &Report) -> String {
-    let title = verdict::title(report.verdict);
+    let title = verdict::title(report);
     let beside = [place::around(report), norms::bars(report), findings::list(report)].concat();
     let parts = [
         verdict::header(report),
+        stated::list(report),
         html::pair(&checks::list(report), &beside),
         tables::parameters(report),
         tables::sections(report),

@@ -10,7 +10,7 @@ use crate::files::{read, read_slice, Words};
 use crate::help::Command;
 use crate::json::Json;
 use crate::judge;
-use crate::stated::Given;
+use crate::stated::{Compared, Given};
 
 use self::json::json_of;
 use self::text::describe;
@@ -46,15 +46,14 @@ fn named_job(path: &Path) -> Result<Vec<u32>, End> {
     }
 }
 
-/// How the job stands to the statement that `--statement` names, a line each, and whether it is its job.
-fn compared(given: Option<&Given>, job: Option<&[u32]>) -> (String, bool) {
-    let fit = job.filter(|job| judge::refusal(Slice::Job, job, job).is_none());
-    match (given, fit) {
-        (Some(given), Some(job)) => {
-            let compared = given.compared(job);
-            (compared.told.map(|line| format!("{line}\n")).concat(), compared.same)
-        }
-        _ => (String::new(), true),
+/// How the job stands to the statement that `--statement` names.
+fn compared(given: &Given, job: Option<&[u32]>) -> Compared {
+    match job.filter(|job| judge::refusal(Slice::Job, job, job).is_none()) {
+        Some(job) => given.compared(job),
+        None => Compared {
+            same: false,
+            told: vec![format!("there is no fit job to hold {} against", given.path.display())],
+        },
     }
 }
 
@@ -84,13 +83,15 @@ pub fn run(command: &Command, args: &Args) -> Outcome {
         list.push(json_of(file, job.as_deref(), refusal.as_ref()));
         first = first.or(refusal.map(|refusal| format!("{}: {refusal}", file.path.display())));
     }
-    let (lines, same) = compared(given.as_ref(), job.as_deref());
-    let status = match first {
-        Some(_) => Status::Unfit,
-        None if !same => Status::Failed,
-        None => Status::Fine,
+    let compared = given.as_ref().map(|given| compared(given, job.as_deref()));
+    let told = compared.as_ref().map(|compared| compared.told.clone()).unwrap_or_default();
+    let differs = compared.filter(|compared| !compared.same).and_then(|compared| compared.told.last().cloned());
+    let status = match (&first, &differs) {
+        (Some(_), _) => Status::Unfit,
+        (None, Some(_)) => Status::Failed,
+        (None, None) => Status::Fine,
     };
-    let told = Json::List(lines.lines().map(Json::text).collect());
-    let fields = vec![("files", Json::List(list)), ("compared", told)];
-    Ok(End::new(status, first.unwrap_or_default()).printing(out + &lines).with(fields))
+    out.extend(told.iter().map(|line| format!("{line}\n")));
+    let fields = vec![("files", Json::List(list)), ("compared", Json::List(told.iter().map(Json::text).collect()))];
+    Ok(End::new(status, first.or(differs).unwrap_or_default()).printing(out).with(fields))
 }
