@@ -25,7 +25,8 @@ const FORCE: Opt = opt("--force", "", "overwrite files that are there");
 const JOB: Opt = opt("--job", "FILE", "the job: the statement");
 const RANDOMNESS: Opt = opt("--randomness", "FILE", "the randomness of the transcript");
 const WITNESS: Opt = opt("--witness", "FILE", "the witness; it is secret");
-const STRICT: Opt = opt("--strict", "", "exit status 1 also where a check can never fail under this job");
+const STRICT: Opt =
+    opt("--strict", "", "exit status 1 also where a check can never fail under this job, or weights are all zero");
 const TRANSCRIPT: Opt = opt("--transcript", "FILE", "the transcript");
 
 pub const LOAD: Command = Command {

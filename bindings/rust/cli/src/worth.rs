@@ -48,8 +48,8 @@ impl Told {
         Ok(Told { worth: Worth::of(&one), findings })
     }
 
-    /// Of an acceptance with this randomness, which is nothing where weights are all zero.
-    pub fn with(&self, warnings: &[String]) -> Worth {
+    /// The worth of an acceptance whose randomness has these warnings: nothing where weights are all zero.
+    pub fn worth_with(&self, warnings: &[String]) -> Worth {
         Worth { certain: self.worth.certain || !warnings.is_empty(), ..self.worth }
     }
 

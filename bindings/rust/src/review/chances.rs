@@ -22,22 +22,28 @@ fn anything(one: &SectionOne) -> Option<Finding> {
 fn norm(one: &SectionOne, worth: &Worth) -> Option<Finding> {
     let beta_sq = one.bound("beta_sq");
     let reached = |number: u32| 6 * beta_sq >= u128::from(number).pow(2);
-    let divisor = worth.modulus.divisors().into_iter().filter(|divisor| reached(divisor.number)).next_back()?;
+    let divisor = worth.modulus.divisors().into_iter().rfind(|divisor| reached(divisor.number))?;
     let chance = worth.in_slots(&divisor.slots);
-    Some(Finding::NormNotForced { divisor: divisor.number, beta_sq, chance, at: bound_at("beta_sq") })
+    Some(Finding::NormNotForced { divisor: divisor.number, chance, at: bound_at("beta_sq") })
 }
 
 /// beta above q/125, in squares.
 fn beta(one: &SectionOne, worth: &Worth) -> Option<Finding> {
     let beta_sq = one.bound("beta_sq");
     let q_sq = u128::from(worth.modulus.q).pow(2);
-    let finding = Finding::BetaTooGreat { beta_sq, most: q_sq / (125 * 125), at: bound_at("beta_sq") };
+    let finding = Finding::BetaTooGreat { most: q_sq / (125 * 125), at: bound_at("beta_sq") };
     (125 * 125 * beta_sq > q_sq).then_some(finding)
 }
 
+/// Where q has slots: its divisors, and psi's where its chance is greater than theirs.
 fn totals(one: &SectionOne, worth: &Worth) -> Option<Finding> {
-    let passes: Vec<_> = worth.modulus.divisors().into_iter().map(|d| (d.number, worth.in_slots(&d.slots))).collect();
+    let divisors = worth.modulus.divisors().into_iter();
+    let mut passes: Vec<_> = divisors.map(|d| (d.number, worth.in_slots(&d.slots))).collect();
+    let by_psi = worth.by_psi().filter(|_| !passes.is_empty())?;
+    if passes.iter().all(|(_, chance)| *chance < by_psi) {
+        passes.push((worth.modulus.q / worth.modulus.least_prime, by_psi));
+    }
     let sections = placed(Slice::Job, &one.parameters);
     let at = sections.iter().find(|s| s.section.name == "b0").expect("a section of the job").begin();
-    (worth.constant_terms && !passes.is_empty()).then_some(Finding::Totals { passes, at })
+    Some(Finding::Totals { passes, at })
 }

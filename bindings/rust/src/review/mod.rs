@@ -50,9 +50,9 @@ pub enum Finding {
     /// A row of A that is a multiple of one row with an earlier one.
     MultipleRow { row: u64, of: u64, at: u64 },
     /// beta_sq is so great that p can be sent modulo a divisor of q, with the chance that a witness beyond beta_sq passes.
-    NormNotForced { divisor: u32, beta_sq: u128, chance: Fraction, at: u64 },
-    /// beta is above q/125.
-    BetaTooGreat { beta_sq: u128, most: u128, at: u64 },
+    NormNotForced { divisor: u32, chance: Fraction, at: u64 },
+    /// beta is above q/125; the greatest beta_sq that is not.
+    BetaTooGreat { most: u128, at: u64 },
     /// A wrong total passes: the multiples by which it is wrong, with the chance of each.
     Totals { passes: Vec<(u32, Fraction)>, at: u64 },
     /// A constraint with no coefficient at all; no witness meets it unless its right side is zero.

@@ -25,9 +25,12 @@ fn test(number: u32) -> String {
 
 fn totals(passes: &[(u32, Fraction)]) -> String {
     let least = passes.first().map_or(0, |(multiple, _)| *multiple);
-    let each: Vec<String> =
-        passes.iter().map(|(multiple, c)| format!("by a multiple of {multiple} with {}", chance(c))).collect();
-    format!("totals are forced modulo {least} only: a total that is wrong passes one transcript {}", each.join(", "))
+    let each = |(k, (multiple, c)): (usize, &(u32, Fraction))| match k {
+        0 => format!("by a multiple of {multiple} passes one transcript with at least {}", chance(c)),
+        _ => format!("by a multiple of {multiple} with {}", chance(c)),
+    };
+    let each: Vec<String> = passes.iter().enumerate().map(each).collect();
+    format!("totals are forced modulo {least} only: one that is wrong {}", each.join(", "))
 }
 
 impl Finding {
@@ -43,14 +46,14 @@ impl Finding {
                 "{} can never fail: this limit limits nothing, since no norm is above {greatest}, and {name} is {limit}",
                 test(*number)
             ),
-            Finding::NormNotForced { divisor, beta_sq, chance: c, .. } => format!(
-                "norms are not forced by check 21: 6·beta_sq is at least {divisor}^2, so p can be sent modulo {divisor}, and a witness \
-                 beyond beta_sq = {beta_sq} passes one transcript with {}",
+            Finding::NormNotForced { divisor, chance: c, .. } => format!(
+                "norms are not forced by check 21: p can be sent modulo {divisor}, since 6·beta_sq is at least its square, and a witness \
+                 beyond beta_sq passes one transcript with at least {}",
                 chance(c)
             ),
-            Finding::BetaTooGreat { beta_sq, most, .. } => format!(
-                "beta is above q/125, the paper's condition for check 21 to bound a norm: beta_sq is {beta_sq}, and (q/125)^2 is {most}"
-            ),
+            Finding::BetaTooGreat { most, .. } => {
+                format!("beta is above q/125, the paper's condition on check 21: beta_sq is then at most {most}")
+            }
             Finding::Totals { passes, .. } => totals(passes),
             Finding::FewParts { name, parts, needed, base, cells, .. } => {
                 format!("{name} is {parts}, and base {base} needs {needed}: digits of {cells} can lose something")

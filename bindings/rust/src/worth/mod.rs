@@ -66,14 +66,19 @@ impl Worth {
         each.fold(Fraction::new(1, 1), |chance, slot| chance.mul(&slot))
     }
 
+    /// The chance of a total that is wrong by a multiple of q divided by its least prime, where there are totals: psi weighs the error
+    /// to 0 in each row.
+    pub fn by_psi(&self) -> Option<Fraction> {
+        self.constant_terms.then(|| self.modulus.weighed_to_zero(self.rows))
+    }
+
     /// The chance of one accepted transcript, with randomness that the desk draws.
     pub fn one(&self) -> Fraction {
         if self.certain {
             return Fraction::new(1, 1);
         }
-        let psi = self.constant_terms.then(|| self.modulus.weighed_to_zero(self.rows));
         let slot = self.modulus.slots.first().map(|&slot| self.in_slots(&[slot]));
-        psi.into_iter().chain(slot).max().unwrap_or_else(Fraction::zero)
+        self.by_psi().into_iter().chain(slot).max().unwrap_or_else(Fraction::zero)
     }
 
     /// The chance of so many transcripts of one statement, each with randomness of its own that the desk draws, all accepted, none

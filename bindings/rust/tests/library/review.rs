@@ -39,8 +39,9 @@ fn something_is_found_of_every_job() {
     let job = sound();
     let told: Vec<String> = review(&job).unwrap().iter().map(|finding| finding.to_string()).collect();
     let totals = format!(
-        "totals are forced modulo 255 only: a total that is wrong passes one transcript by a multiple of 255 with 1 in 1.9 million \
-         (2^-20.8), by a multiple of 65535 with 1 in 21,846 (2^-14.4), by a multiple of 16711935 with 1 in 86 (from word {})",
+        "totals are forced modulo 255 only: one that is wrong by a multiple of 255 passes one transcript with at least 1 in 1.9 million \
+         (2^-20.8), by a multiple of 65535 with 1 in 21,846 (2^-14.4), by a multiple of 16711935 with 1 in 86, by a multiple of 1431655765 \
+         with 1 in 81 (from word {})",
         at("b0")
     );
     let prover =
@@ -56,12 +57,11 @@ fn something_is_found_of_every_job() {
 
 #[test]
 fn totals_under_one_vector() {
-    let p = Parameters { r: 1, ..P };
+    let p = Parameters { r: 1, L: 5, ..P };
     let job = made(&p, 3).job;
     let told: Vec<String> = review(&job).unwrap().iter().map(|finding| finding.to_string()).collect();
-    let totals =
-        "by a multiple of 255 with 1 in 4.2 million (2^-22.0), by a multiple of 65535 with 1 in 32,769 (2^-15.0), \
-                  by a multiple of 16711935 with 1 in 129 ";
+    let totals = "by a multiple of 255 passes one transcript with at least 1 in 4.2 million (2^-22.0), by a multiple of 65535 with \
+                  1 in 32,769 (2^-15.0), by a multiple of 16711935 with 1 in 129 (from";
     assert_eq!(told.iter().filter(|line| line.contains(totals)).count(), 1, "{told:?}");
 }
 
@@ -118,8 +118,8 @@ fn norms_that_21_does_not_force() {
     ];
     for (k, (beta_sq, divisor, chance)) in steps.into_iter().enumerate() {
         let line = format!(
-            "norms are not forced by check 21: 6·beta_sq is at least {divisor}^2, so p can be sent modulo {divisor}, and a witness beyond \
-             beta_sq = {beta_sq} passes one transcript with {chance} (from word 13)"
+            "norms are not forced by check 21: p can be sent modulo {divisor}, since 6·beta_sq is at least its square, and a witness beyond \
+             beta_sq passes one transcript with at least {chance} (from word 13)"
         );
         assert_eq!(told(beta_sq), [line]);
         let before = told(beta_sq - 1);
@@ -137,8 +137,7 @@ fn beta_above_q_over_125() {
     };
     // (q/125)² is 1180591620167655.5
     assert_eq!(told(1180591620167655).len(), 1);
-    let line = "beta is above q/125, the paper's condition for check 21 to bound a norm: beta_sq is 1180591620167656, and (q/125)^2 \
-                is 1180591620167655 (from word 13)";
+    let line = "beta is above q/125, the paper's condition on check 21: beta_sq is then at most 1180591620167655 (from word 13)";
     assert_eq!(told(1180591620167656)[1], line);
 }
 

@@ -109,7 +109,9 @@ fn end_of(job: &[u32], judged: &[Judged], args: &Args) -> Outcome {
         ("together", worth(&of_job, judged, counted).map_or(Json::Null, Json::Text)),
         ("verdicts", Json::List(list)),
     ];
-    let end = strict(End::new(worst, end_line(&of_job, judged, counted)), Some(&of_job), args);
+    let zero_weights = judged.iter().any(|one| !one.warnings.is_empty());
+    let end = End::new(worst, end_line(&of_job, judged, counted));
+    let end = strict(end, Some(&of_job), zero_weights, args);
     Ok(end.printing(out).with(fields).with(of_job.fields(&of_job.worth)).warning(told))
 }
 

@@ -66,24 +66,23 @@ pub fn line(verdict: &Verdict, slices: [&[u32]; 3], job: Option<&Told>, warnings
     match (verdict, job) {
         (Verdict::Refused(refusal), _) => judge::told(refusal, [0, 1, 2].map(|k| (SLICES[k], slices[k]))),
         (Verdict::Accepted { cells_left }, Some(job)) => {
-            format!("accepted; {}{}", job.short(&job.with(warnings)), cells(*cells_left))
+            format!("accepted; {}{}", job.short(&job.worth_with(warnings)), cells(*cells_left))
         }
         _ => verdict.to_string(),
     }
 }
 
-/// An end of acceptances is a failure under --strict where a check can never fail.
-pub fn strict(end: End, job: Option<&Told>, args: &Args) -> End {
+/// An end of acceptances is a failure under --strict where a check can never fail, or weights are all zero.
+pub fn strict(end: End, job: Option<&Told>, zero_weights: bool, args: &Args) -> End {
     let never = job.map(Told::never_fail).unwrap_or_default();
-    if end.status != Status::Fine || !args.flag("--strict") || never.is_empty() {
+    let tests = if never.len() == 1 { "test" } else { "tests" };
+    let never = (!never.is_empty()).then(|| format!("{tests} {} can never fail", listed(&never)));
+    let zero = zero_weights.then(|| "weights are all zero".to_string());
+    let reasons: Vec<String> = never.into_iter().chain(zero).collect();
+    if end.status != Status::Fine || !args.flag("--strict") || reasons.is_empty() {
         return end;
     }
-    let tests = if never.len() == 1 { "test" } else { "tests" };
-    End {
-        status: Status::Failed,
-        line: format!("{}; --strict: {tests} {} can never fail", end.line, listed(&never)),
-        ..end
-    }
+    End { status: Status::Failed, line: format!("{}; --strict: {}", end.line, reasons.join(", ")), ..end }
 }
 
 /// An end of acceptances is a failure where the job is not that of the statement that `--statement` names.
@@ -131,11 +130,12 @@ pub fn run(command: &Command, args: &Args) -> Outcome {
     let slices: [&[u32]; 3] = [&job, &randomness, &transcript];
     let (status, fields) = told(&verdict);
     let no_findings = || vec![("findings", Json::List(Vec::new()))];
-    let of_job = told_of_job.as_ref().map_or_else(no_findings, |job| job.fields(&job.with(&warnings)));
+    let of_job = told_of_job.as_ref().map_or_else(no_findings, |job| job.fields(&job.worth_with(&warnings)));
     let said = line(&verdict, slices, told_of_job.as_ref(), &warnings);
-    let end = strict(End::new(status, said), told_of_job.as_ref(), args).with(fields).with(of_job);
+    let end = strict(End::new(status, said), told_of_job.as_ref(), !warnings.is_empty(), args);
+    let end = end.with(fields).with(of_job).warning(warnings.clone());
     let compared = given.as_ref().filter(|_| told_of_job.is_some()).map(|given| given.compared(&job));
-    let end = held(end.warning(warnings.clone()), compared.as_ref());
+    let end = held(end, compared.as_ref());
     if let Some(path) = report {
         progress.step("writing the page");
         let (job, compared) = (told_of_job.as_ref(), compared.as_ref());

@@ -13,10 +13,11 @@ pub fn list(report: &Report) -> String {
         return section("states", heading, "<p>Not read: the job was refused.</p>\n");
     }
     let all = constraints(report.slices[0]);
-    let shown: String = all.iter().take(SHOWN).map(|told| format!("<li>{}</li>\n", escape(told))).collect();
+    let shown: String =
+        all.iter().take(SHOWN).map(|told| format!("<li class=\"stated\">{}</li>\n", escape(told))).collect();
     let more = match all.len().saturating_sub(SHOWN) {
         0 => String::new(),
-        more => format!("<li>and {more} more: labrador describe lists them all</li>\n"),
+        more => format!("<li class=\"stated\">and {more} more: labrador describe lists them all</li>\n"),
     };
     let compared = report.compared.map(|compared| format!("<p>{}.</p>\n", escape(&compared.told.join("; "))));
     let compared = compared.unwrap_or_default();

@@ -10,7 +10,7 @@ use crate::worth::{chance_sentence, drawn_sentence};
 /// The verdict in a line; an acceptance has what it is worth beside it.
 pub fn title(report: &Report) -> String {
     match (report.verdict, report.job) {
-        (Verdict::Accepted { .. }, Some(job)) => format!("Accepted; {}", job.short(&job.with(report.warnings))),
+        (Verdict::Accepted { .. }, Some(job)) => format!("Accepted; {}", job.short(&job.worth_with(report.warnings))),
         (Verdict::Accepted { .. }, None) => unreachable!("an acceptance is under a fit job"),
         (Verdict::Failed(check), _) => format!("Not accepted: check {} failed", check.number()),
         (Verdict::Refused(refusal), _) => format!("Refused: refusal {}", refusal.number()),
@@ -35,7 +35,7 @@ fn sentences(report: &Report) -> Vec<String> {
 
 /// What the acceptance is worth.
 fn worth(report: &Report) -> String {
-    let of_job = report.job.map(|job| job.with(report.warnings));
+    let of_job = report.job.map(|job| job.worth_with(report.warnings));
     of_job.map_or_else(String::new, |worth| format!("{}; {}", chance_sentence(&worth), drawn_sentence(&worth)))
 }
 
@@ -56,7 +56,7 @@ fn cells(report: &Report) -> String {
 }
 
 pub fn header(report: &Report) -> String {
-    let worthless = report.job.is_some_and(|job| job.with(report.warnings).certain);
+    let worthless = report.job.is_some_and(|job| job.worth_with(report.warnings).certain);
     let (class, mark) = match report.verdict {
         Verdict::Accepted { .. } if worthless => ("refused", "!"),
         Verdict::Accepted { .. } => ("accepted", "✓"),

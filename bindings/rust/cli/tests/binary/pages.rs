@@ -66,7 +66,7 @@ fn no_finding_is_cut_without_its_count() {
     let desk = Desk::with("page_cut", &case);
     let page = page_of(&desk);
     // five of the 22 in one item, and six more; the others are counted
-    assert!(page.contains("22 things that the job does not force, the worst first."), "{page}");
+    assert!(page.contains("22 found, the worst first. The verdict stands."), "{page}");
     assert_eq!(page.matches("<li>").count(), 8);
     assert!(page.contains("<li>and 11 more: labrador review lists them all</li>"), "{page}");
 }

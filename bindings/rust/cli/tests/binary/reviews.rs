@@ -27,9 +27,9 @@ fn every_job_has_its_worth_and_its_findings() {
         "the test of refusal 14 can never fail: ",
         "the test of refusal 15 can never fail: ",
         "the test of refusal 16 can never fail: ",
-        "norms are not forced by check 21: 6·beta_sq is at least 16711935^2, ",
+        "norms are not forced by check 21: p can be sent modulo 16711935, ",
         "beta is above q/125, ",
-        "totals are forced modulo 255 only: a total that is wrong passes one transcript by a multiple of 255 with 1 in 1.9 million (2^-20.8), ",
+        "totals are forced modulo 255 only: one that is wrong by a multiple of 255 passes one transcript with at least 1 in 1.9 million (2^-20.8), ",
         "the test of refusal 13 can never fail: ",
         "bound_A is tested by the prover alone: ",
     ]) {
@@ -63,7 +63,7 @@ fn figures_follow_the_parameters() {
     let told = [
         (Parameters { L: 16, ..small }, "1 in 86", 10, 21),
         (Parameters { L: 32, ..small }, "1 in 86", 10, 20),
-        (Parameters { r: 1, L: 5, ..small }, "1 in 129", 10, 22),
+        (Parameters { r: 1, L: 5, ..small }, "1 in 129", 10, 25),
     ];
     for (p, chance, drawn, joint) in told {
         desk.put("job", &made(&p, 3).job);

@@ -87,6 +87,10 @@ fn weights_that_are_all_zero_are_told() {
         let page = std::fs::read_to_string(desk.path("page.html")).unwrap();
         assert!(page.contains(&format!("<p>Warning: {warning}.</p>")), "{page}");
         assert!(page.contains("<header class=\"refused\">"), "{page}");
+        let strict = run(&desk, &format!("{VERIFY} --strict"));
+        assert_eq!(strict.status, 1);
+        let reasons = "; --strict: tests 21, 23, 14, 15 and 16 can never fail, weights are all zero\n";
+        assert!(strict.line.ends_with(reasons), "{}", strict.line);
     }
     let fit = run(&Desk::with("zero_none", &with_answer(0)), &format!("{VERIFY} --json"));
     assert!(fit.out.contains("\"warnings\":[]"), "{}", fit.out);

@@ -78,7 +78,12 @@ fn the_page_has_the_totals() {
     };
     let (status, plain) = page("");
     assert_eq!(status, 0);
-    assert!(plain.contains("<li>total 60 = s0</li>\n<li>total -5 = - 2 * s0[1] + s1[0..32]</li>"), "{plain}");
+    assert!(
+        plain.contains(
+            "<li class=\"stated\">total 60 = s0</li>\n<li class=\"stated\">total -5 = - 2 * s0[1] + s1[0..32]</li>"
+        ),
+        "{plain}"
+    );
     assert!(!plain.contains("those of the seed"));
     let (status, held) = page("--statement a.statement");
     assert_eq!(status, 0);
