@@ -92,7 +92,7 @@ pub fn chance_sentence(worth: &Worth) -> String {
 pub fn drawn_sentence(worth: &Worth) -> String {
     match worth.drawn_needed(64) {
         Some(needed) => format!(
-            "64 bits need {needed} transcripts of this job, each with randomness of its own that the desk draws round after round, all \
+            "64 bits need at least {needed} transcripts of this job, each with randomness of its own that the desk draws round after round, all \
              accepted, no retry"
         ),
         None => "no number of transcripts gives 64 bits".to_string(),
@@ -103,7 +103,7 @@ pub fn drawn_sentence(worth: &Worth) -> String {
 pub fn joint_sentence(worth: &Worth) -> Option<String> {
     let needed = worth.joint_needed(64)?;
     Some(format!(
-        "64 bits need {needed} transcripts where one joint hash of all of them draws the randomness; no number is enough where each has a hash \
+        "64 bits need at least {needed} transcripts where one joint hash of all of them draws the randomness; no number is enough where each has a hash \
          of its own"
     ))
 }

@@ -1,7 +1,7 @@
 //! Many transcripts whose randomness is drawn by one joint hash: each round's draw hashes that round's messages of all.
 
 use super::fraction::Fraction;
-use super::modulus::Modulus;
+use super::modulus::{linear_factors, Modulus};
 use super::natural::Natural;
 use super::Worth;
 
@@ -45,10 +45,10 @@ pub(super) fn tries(worth: &Worth, count: u32) -> Option<Fraction> {
             all.extend((a == count).then_some(psi));
             continue;
         };
-        let zeros = if worth.vectors == 1 { 1 } else { 2 };
+        let zeros = linear_factors(worth.vectors);
         for (b, beta) in (0..).zip(tries_for_at_least(count - a, slot)) {
             let c = count - a - b;
-            let challenges = ground(c, Fraction::new(slot.into(), zeros).pow(c));
+            let challenges = ground(c, Fraction::new(slot.into(), zeros.into()).pow(c));
             all.push(psi.add(&ground(b, beta)).add(&challenges));
         }
     }

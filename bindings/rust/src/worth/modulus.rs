@@ -43,11 +43,20 @@ impl Modulus {
         Fraction::new(1, self.least_prime.into()).pow(rows)
     }
 
-    /// An error in one slot of p elements: beta weighs it to 0, or a form of the challenges is 0 there, whose zeros are two in p,
-    /// or of one vector alone, a square, one in p. Together 1 - (1 - 1/p)^3 or 1 - (1 - 1/p)^2.
+    /// An error in one slot of p elements: beta weighs it to 0, or a linear factor of the form of the challenges is 0 there, each in
+    /// one of p draws. Together 1 - (1 - 1/p)^3, or of one vector 1 - (1 - 1/p)^2.
     pub(super) fn slips_through(slot: u32, vectors: u32) -> Fraction {
-        let (p, power) = (u128::from(slot), if vectors == 1 { 2 } else { 3 });
+        let (p, power) = (u128::from(slot), 1 + linear_factors(vectors));
         Fraction::new(p.pow(power) - (p - 1).pow(power), p.pow(power))
+    }
+}
+
+/// The linear factors of the form of the challenges with the most zeros: c_1·(c_1 - c_2), or of one vector c_1 twice.
+pub(super) fn linear_factors(vectors: u32) -> u32 {
+    if vectors == 1 {
+        1
+    } else {
+        2
     }
 }
 

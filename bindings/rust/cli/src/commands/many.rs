@@ -71,7 +71,7 @@ fn end_line(job: &Told, judged: &[Judged], counted: u32) -> String {
     let told = format!("{accepted} of {} transcripts accepted", judged.len());
     match worth(job, judged, counted) {
         Some(worth) => format!(
-            "{told}{few}; together {worth}, if the desk drew the randomness and nothing was tried again; {}",
+            "{told}{few}; together: {worth}, if the desk drew the randomness and nothing was tried again; {}",
             job.things()
         ),
         None => format!(

@@ -32,6 +32,6 @@ pub fn list(report: &Report) -> String {
         0 => String::new(),
         more => format!("<li>and {more} more: labrador review lists them all</li>\n"),
     };
-    let told = format!("<p>{} found, the worst first. The verdict stands.</p>\n", job.findings.len());
+    let told = format!("<p>{} found, the worst first: what an acceptance leaves open.</p>\n", job.findings.len());
     section("findings", "What the job does not force", &format!("{told}<ul>\n{shown}{more}</ul>\n"))
 }

@@ -25,11 +25,11 @@ fn all_accepted_is_0() {
     let desk = three("many_accepted");
     let told = run(&desk, THREE);
     let drawn = "if the desk drew the randomness and nothing was tried again; 10 things that the job does not force\n";
-    let line = format!("labrador: 3 of 3 transcripts accepted; together 1 in 531,441 (19.0 bits), {drawn}");
+    let line = format!("labrador: 3 of 3 transcripts accepted; together: 1 in 531,441 (19.0 bits), {drawn}");
     assert_eq!((told.status, told.line), (0, line));
     let good = "accepted; one transcript: 1 in 81; 10 things that the job does not force";
     assert_eq!(told.out, format!("t1: {good}\nt2: {good}\nt3: {good}\n"));
-    let line = format!("labrador: 1 of 1 transcripts accepted; together 1 in 81 (6.3 bits), {drawn}");
+    let line = format!("labrador: 1 of 1 transcripts accepted; together: 1 in 81 (6.3 bits), {drawn}");
     assert_eq!(run(&desk, "verify-many --job job r2 t2").line, line);
     let json = run(&desk, &format!("{THREE} --json")).out;
     for part in ["\"accepted\":3,\"counted\":3,\"together\":\"1 in 531,441 (19.0 bits)\"", "\"warnings\":[]"] {
@@ -51,7 +51,7 @@ fn eight_give_50_bits() {
         desk.put(&format!("t{k}"), &prove(&case.job, &randomness, &case.witness).unwrap());
         call += &format!(" r{k} t{k}");
     }
-    let line = "labrador: 8 of 8 transcripts accepted; together 1 in 1.9·10^15 (50.7 bits), if the desk drew";
+    let line = "labrador: 8 of 8 transcripts accepted; together: 1 in 1.9·10^15 (50.7 bits), if the desk drew";
     let told = run(&desk, &call);
     assert!(told.status == 0 && told.line.starts_with(line), "{}", told.line);
 }
@@ -70,7 +70,7 @@ fn what_is_handed_in_twice_counts_once() {
     let lines = [
         "labrador: warning: t4 has the transcript of t1: the two count once",
         "labrador: warning: t5 has section psi of the randomness of t2: the two count once",
-        "labrador: 4 of 4 transcripts accepted, 2 of them counted; together 1 in 6,561 (12.7 bits), if the desk drew the randomness and nothing \
+        "labrador: 4 of 4 transcripts accepted, 2 of them counted; together: 1 in 6,561 (12.7 bits), if the desk drew the randomness and nothing \
          was tried again; 10 things that the job does not force",
     ];
     assert_eq!(told.line.lines().collect::<Vec<_>>(), lines);
@@ -90,13 +90,13 @@ fn zero_weights_count_nothing() {
     let warning = "labrador: warning: t2: beta is all zero in the randomness: the constant-term constraints and the projection p were not tested";
     assert_eq!(lines[0], warning);
     assert!(
-        lines[1].starts_with("labrador: 3 of 3 transcripts accepted, 2 of them counted; together 1 in 6,561 "),
+        lines[1].starts_with("labrador: 3 of 3 transcripts accepted, 2 of them counted; together: 1 in 6,561 "),
         "{}",
         told.line
     );
     assert!(told.out.contains("t2: accepted; one transcript: 1 in 1 (worth nothing); "), "{}", told.out);
     let alone = run(&desk, "verify-many --job job r2 t2").line;
-    let line = "labrador: 1 of 1 transcripts accepted, 0 of them counted; together 1 in 1 (worth nothing), if";
+    let line = "labrador: 1 of 1 transcripts accepted, 0 of them counted; together: 1 in 1 (worth nothing), if";
     assert!(alone.contains(line), "{alone}");
 }
 

@@ -29,11 +29,12 @@ fn an_accepted_transcript() {
     let headline = "Accepted; one transcript: 1 in 81; 10 things that the job does not force";
     assert!(page.contains(&format!("<title>{headline}</title>")));
     assert!(page.contains(&format!("<h1><span aria-hidden=\"true\">✓</span> {headline}</h1>")), "{page}");
-    let worth = "One accepted transcript leaves a false statement a chance of at least 1 in 81; 64 bits need 11 transcripts of this job, each \
+    let worth = "One accepted transcript leaves a false statement a chance of at least 1 in 81; 64 bits need at least 11 transcripts of this job, each \
                  with randomness of its own that the desk draws round after round, all accepted, no retry.";
     assert!(page.contains(worth), "{page}");
     assert_eq!(marks(&page), [13, 0, 0]);
     assert_eq!(page.matches("(condition)").count(), 4);
+    assert_eq!(page.matches("✓ passed</span> (can never fail)").count(), 5);
     assert_eq!(page.matches("<div class=\"bar\">").count(), 5);
     assert_eq!(page.matches("<li>").count(), 6);
     assert!(page.contains("<li>tests 21, 23, 14, 15 and 16 can never fail: these limits limit nothing</li>"));
@@ -66,7 +67,7 @@ fn no_finding_is_cut_without_its_count() {
     let desk = Desk::with("page_cut", &case);
     let page = page_of(&desk);
     // five of the 22 in one item, and six more; the others are counted
-    assert!(page.contains("22 found, the worst first. The verdict stands."), "{page}");
+    assert!(page.contains("22 found, the worst first: what an acceptance leaves open."), "{page}");
     assert_eq!(page.matches("<li>").count(), 8);
     assert!(page.contains("<li>and 11 more: labrador review lists them all</li>"), "{page}");
 }

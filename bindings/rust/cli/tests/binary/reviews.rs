@@ -19,7 +19,11 @@ fn every_job_has_its_worth_and_its_findings() {
     let found = run(&desk, "review job");
     assert_eq!((found.status, found.out.lines().count()), (1, 3 + 10));
     let lines: Vec<&str> = found.out.lines().collect();
-    let worth = [format!("{CHANCE} 1 in 81"), format!("64 bits need 11 {DRAWN}"), format!("64 bits need 28 {JOINT}")];
+    let worth = [
+        format!("{CHANCE} 1 in 81"),
+        format!("64 bits need at least 11 {DRAWN}"),
+        format!("64 bits need at least 28 {JOINT}"),
+    ];
     assert_eq!(lines[..3], worth);
     for (line, begin) in lines[3..].iter().zip([
         "check 21 can never fail: this limit limits nothing, since no norm is above ",
@@ -71,8 +75,8 @@ fn figures_follow_the_parameters() {
         let lines: Vec<&str> = out.lines().collect();
         let worth = [
             format!("{CHANCE} {chance}"),
-            format!("64 bits need {drawn} {DRAWN}"),
-            format!("64 bits need {joint} {JOINT}"),
+            format!("64 bits need at least {drawn} {DRAWN}"),
+            format!("64 bits need at least {joint} {JOINT}"),
         ];
         assert_eq!(lines[..3], worth);
     }

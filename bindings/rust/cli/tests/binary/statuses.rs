@@ -184,6 +184,15 @@ fn every_command_has_help_with_an_example() {
             assert!(help.out.contains(&format!("Example:\n  labrador {command} ")), "{}", help.out);
         }
     }
+    for command in ["verify", "verify-many"] {
+        let help = run(&desk, &format!("{command} --help")).out;
+        assert!(
+            help.contains("--strict ") && help.contains("exit status 1 also where a check can never fail"),
+            "{help}"
+        );
+    }
+    let review = run(&desk, "review --help").out;
+    assert!(review.contains("Exit status 0 where it finds only what holds of every job, 1 with more."), "{review}");
     assert_eq!(run(&desk, "--help").out, run(&desk, "help").out);
     assert_eq!(run(&desk, "--version").status, 0);
 }
