@@ -1,36 +1,29 @@
-//! Three sheds, a total each: statement, stock, bounds, proof and verdict: `cargo run --offline --example statement`.
+//! Three sheds with a total each: statement, bounds, job, stock, proof and verdict: `cargo run --offline --example statement`.
 
-use labrador::statement::{check, fit, Statement, Stock};
-use labrador::{load, prove, verify};
+use labrador::statement::{check, fit, Lines, Seed, Statement, Stock, Term, Total, GREATEST_BOUND};
+use labrador::{load, prove, verify, Parameters};
 
-const TEXT: &str = "
-statement 1
-n 1
-r 3
-kappa 4  # rows of A, then of B and C, then of D
-kappa_1 4
-kappa_2 4
-log_q 32
-b 256
-t_1 4
-t_2 4
-L 5
-seed 8d1c2f5be0937a64c1d20b3f5e6a7788990a1b2c3d4e5f60718293a4b5c6d7e8
-total 640 = s0
-total 700 = s1
-total -20 = s0 - s1 + 2 * s2[0..20]
-";
+/// A total of all lines of a shed.
+fn total(right: i64, vector: u32) -> Total {
+    Total { right, terms: vec![Term { factor: 1, lines: Lines::All { vector } }] }
+}
 
 fn main() -> Result<(), Box<dyn std::error::Error>> {
-    let draft = Statement::parse_without_bounds(TEXT)?;
-    let numbers: Vec<i64> = [vec![10; 64], vec![7; 50], vec![25; 14], vec![1; 20]].concat();
-    let stock = Stock::new(draft.parameters(), &numbers)?;
-    let statement = draft.with_bounds(fit(&draft, &stock, 40, 20)?.bounds);
-    println!("{statement}");
+    let parameters = Parameters { n: 8, r: 3, L: 5, ..Parameters::SMALL };
+    let totals = vec![total(5120, 0), total(600, 1), total(-20, 2)];
+    let draft = Statement::new(parameters, [GREATEST_BOUND; 6], totals, Seed([7; 32]))?;
+    // 512 lines a shed, in order; the rest of the last one is 0
+    let stock = Stock::new(&parameters, &[vec![10; 512], vec![600], vec![0; 511], vec![-20]].concat())?;
+    let statement = draft.with_bounds(fit(&draft, &stock, 10, 20)?.bounds);
+    print!("{statement}");
     let (job, witness) = (statement.job(), stock.witness());
-    check(&job, &witness)?.sides.iter().for_each(|side| println!("misses by {}", side.difference()));
-    // a desk draws the randomness, round after round; this one is a test's
+    for side in check(&job, &witness)?.sides {
+        println!("left {}, right {}, difference {}", side.left, side.right, side.difference());
+    }
+    // a desk draws the randomness, round after round; this one is a test load's
     let randomness = load(statement.parameters(), 2026)?.randomness;
     println!("{}", verify(&job, &randomness, &prove(&job, &randomness, &witness)?));
+    let wrong = Statement::parse(&statement.to_string().replace("= s2", "= s3")).unwrap_err();
+    println!("{wrong}");
     Ok(())
 }

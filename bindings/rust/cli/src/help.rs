@@ -168,8 +168,11 @@ pub const ADD_PROJECTIONS: Command = Command {
     example: "labrador add-projections --p a.p shed1/p shed2/p",
 };
 
-const STATED: Opt =
-    opt("--statement", "FILE", "the statement file: says whether the job is its job, and A to D are those of its seed");
+const STATED: Opt = opt(
+    "--statement",
+    "FILE",
+    "a statement file: is the job its job, and are A to D those of its seed? Status 1 where not",
+);
 
 pub const STATEMENT: Command = Command {
     name: "statement",

@@ -115,7 +115,7 @@ impl Statement {
         parse::parse(text, false)
     }
 
-    /// The same statement with other bounds.
+    /// The same statement with other bounds; one above [`GREATEST_BOUND`] is that.
     pub fn with_bounds(&self, bounds: [u128; BOUNDS.len()]) -> Statement {
         Statement { said: Said { bounds: bounds.map(|bound| bound.min(GREATEST_BOUND)), ..self.said.clone() }, ..*self }
     }

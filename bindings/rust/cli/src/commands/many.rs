@@ -8,7 +8,7 @@ use labrador::{verify_many, verify_many_with, Refusal, Sent, Slice, Verdict};
 
 use crate::args::Args;
 use crate::commands::verify::{held, line, strict, told};
-use crate::end::{unfit, usage, End, Outcome, Status};
+use crate::end::{self, usage, End, Outcome, Status};
 use crate::files::read_slice;
 use crate::help::Command;
 use crate::json::Json;
@@ -17,8 +17,7 @@ use crate::stated::Given;
 use crate::worth::{together, warnings, Told};
 
 fn refused(refusal: Refusal) -> End {
-    let numbers = [("number", refusal.number().into()), ("place", refusal.place())];
-    unfit(refusal.to_string()).with(numbers.map(|(name, number)| (name, Json::Number(number))).to_vec())
+    end::refused(&refusal, refusal.to_string())
 }
 
 /// The words of a randomness and of a transcript.

@@ -44,6 +44,14 @@ fn the_words_of_a_seed() {
     assert!(seed.words().take(100000).all(|word| word < Q));
 }
 
+/// A seed whose third word is 4294967295, which is passed over.
+#[test]
+fn a_word_at_q_is_passed_over() {
+    let seed: Seed = format!("aa0cbf5d{}", "0".repeat(56)).parse().unwrap();
+    let words: Vec<u32> = seed.words().take(5).collect();
+    assert_eq!(words, [3643184837, 2879949217, 299519887, 3525661941, 3197821447]);
+}
+
 #[test]
 fn a_seed_is_64_hex_digits() {
     let seed: Seed = SEED.to_uppercase().parse().unwrap();

@@ -4,7 +4,7 @@ use labrador::section_one::BOUNDS;
 use labrador::statement::{fit, Statement, Stock};
 
 use crate::args::{number, Args};
-use crate::end::{unfit, usage, End, Outcome, Status};
+use crate::end::{refused, usage, End, Outcome, Status};
 use crate::help::Command;
 use crate::json::Json;
 use crate::progress::Progress;
@@ -28,7 +28,7 @@ pub fn run(command: &Command, args: &Args) -> Outcome {
     let stock = stock.map_err(|mistake| texts::wrong(&list, &mistake))?;
     let progress = Progress::start();
     progress.step(format!("proving and verifying {sessions} sessions"));
-    let fit = fit(&statement, &stock, slack, sessions).map_err(|refusal| unfit(refusal.to_string()))?;
+    let fit = fit(&statement, &stock, slack, sessions).map_err(|refusal| refused(&refusal, refusal.to_string()))?;
     drop(progress);
     let passed = fit.verdicts.iter().filter(|verdict| verdict.is_accepted()).count();
     let first = fit.verdicts.iter().find(|verdict| !verdict.is_accepted());

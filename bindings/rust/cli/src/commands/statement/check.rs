@@ -5,7 +5,7 @@ use labrador::Slice;
 
 use super::counted;
 use crate::args::Args;
-use crate::end::{unfit, End, Outcome, Status};
+use crate::end::{refused, End, Outcome, Status};
 use crate::files::read_slice;
 use crate::help::Command;
 use crate::json::Json;
@@ -79,8 +79,7 @@ pub fn run(command: &Command, args: &Args) -> Outcome {
     let witness = read_slice(Slice::Witness, &witness)?.words;
     let checked = check(&job, &witness).map_err(|refusal| {
         let handed = [(Slice::Job, &job[..]), (Slice::Witness, &witness), (Slice::Randomness, &[])];
-        let numbers = [("number", refusal.number().into()), ("place", refusal.place())];
-        unfit(judge::told(&refusal, handed)).with(numbers.map(|(name, number)| (name, Json::Number(number))).to_vec())
+        refused(&refusal, judge::told(&refusal, handed))
     })?;
     let sides = checked.sides.iter().map(told);
     let norms = (0..checked.norms.len()).map(|vector| norm_told(&checked, vector));

@@ -6,7 +6,7 @@ use labrador::statement::{NoStatement, NoTotal, Said, Seed, Statement};
 use labrador::{output_need, Slice};
 
 use crate::args::Args;
-use crate::end::{unfit, usage, End, Outcome, Status};
+use crate::end::{refused, usage, End, Outcome, Status};
 use crate::files::{bytes_of, read_slice};
 use crate::help::Command;
 use crate::json::Json;
@@ -39,7 +39,7 @@ fn make(command: &Command, file: &Path, args: &Args) -> Outcome {
     output::admit(&[&path], &[file], force)?;
     let statement = texts::statement(file)?;
     let job = statement.job();
-    output_need(&job).map_err(|refusal| unfit(refusal.to_string()))?;
+    output_need(&job).map_err(|refusal| refused(&refusal, refusal.to_string()))?;
     output::write(&[Output { path, secret: false, bytes: bytes_of(&job) }], force)?;
     let totals = statement.totals().len();
     let line = format!("made a job of {} words with {}", job.len(), counted(totals, "total"));
@@ -64,19 +64,16 @@ fn from(path: &Path, args: &Args) -> Outcome {
 }
 
 fn no_statement(path: &Path, none: &NoStatement) -> End {
-    let (status, fields) = match none {
-        NoStatement::Refused(refusal) => {
-            let numbers = [("number", refusal.number().into()), ("place", refusal.place())];
-            (Status::Unfit, numbers.map(|(name, number)| (name, Json::Number(number))).to_vec())
-        }
-        NoStatement::Constraints(none) => {
-            let told = |no_total: &NoTotal| {
-                let (kind, index) = (Json::text(no_total.kind), Json::Number(no_total.index));
-                Json::Object(vec![("kind", kind), ("index", index), ("from_word", Json::Number(no_total.at))])
-            };
-            (Status::Failed, vec![("no_totals", Json::List(none.iter().map(told).collect()))])
-        }
-        NoStatement::Matrices(place) => (Status::Failed, vec![("word", Json::Number(place.index))]),
+    let line = format!("{}: {none}", path.display());
+    let told = |no_total: &NoTotal| {
+        let (kind, index) = (Json::text(no_total.kind), Json::Number(no_total.index));
+        Json::Object(vec![("kind", kind), ("index", index), ("from_word", Json::Number(no_total.at))])
     };
-    End::new(status, format!("{}: {none}", path.display())).with(fields)
+    match none {
+        NoStatement::Refused(refusal) => refused(refusal, line),
+        NoStatement::Constraints(none) => {
+            End::new(Status::Failed, line).with(vec![("no_totals", Json::List(none.iter().map(told).collect()))])
+        }
+        NoStatement::Matrices(place) => End::new(Status::Failed, line).with(vec![("word", Json::Number(place.index))]),
+    }
 }

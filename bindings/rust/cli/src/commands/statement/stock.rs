@@ -7,7 +7,7 @@ use labrador::statement::Stock;
 use labrador::{output_need, Slice};
 
 use crate::args::Args;
-use crate::end::{unfit, usage, End, Outcome, Status};
+use crate::end::{refused, usage, End, Outcome, Status};
 use crate::files::{bytes_of, read_slice};
 use crate::help::Command;
 use crate::json::Json;
@@ -22,7 +22,7 @@ pub fn run(command: &Command, args: &Args) -> Outcome {
     let (path, force) = (args.needed(command, "--witness")?, args.flag("--force"));
     output::admit(&[&path], &[file, &job], force)?;
     let job = read_slice(Slice::Job, &job)?.words;
-    output_need(&job).map_err(|refusal| unfit(refusal.to_string()))?;
+    output_need(&job).map_err(|refusal| refused(&refusal, refusal.to_string()))?;
     let p = SectionOne::read(&job).expect("the job is fit").parameters;
     let stock = Stock::parse(&p, &texts::read(file)?).map_err(|mistake| texts::wrong(file, &mistake))?;
     let witness = stock.witness();
