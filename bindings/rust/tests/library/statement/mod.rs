@@ -9,6 +9,7 @@ mod check;
 mod files;
 mod jobs;
 mod mistakes;
+mod random;
 mod seeds;
 mod stocks;
 mod trips;

@@ -5,15 +5,15 @@ use labrador::statement::{Lines, Seed, Statement, Term, Total};
 use labrador::{output_need, Parameters, GREATEST};
 
 /// Numbers that anyone can repeat.
-struct Draw(u64);
+pub struct Draw(pub u64);
 
 impl Draw {
-    fn below(&mut self, limit: u64) -> u64 {
+    pub fn below(&mut self, limit: u64) -> u64 {
         self.0 = self.0.wrapping_mul(6364136223846793005).wrapping_add(1442695040888963407);
         (self.0 >> 33) % limit
     }
 
-    fn within(&mut self, least: u32, greatest: u32) -> u32 {
+    pub fn within(&mut self, least: u32, greatest: u32) -> u32 {
         least + self.below(u64::from(greatest - least) + 1) as u32
     }
 
