@@ -1,19 +1,19 @@
 -- What check 22 does not force: the verdict on a message with altered b'' is one equation.
-use mathlib.Core.Path.{_≡_, refl, sym, ap, ap₂, _∙_}
-use mathlib.Core.List.{[], _∷_}
+use mathlib.Core.Path.{_≡_, refl, sym, ap, _∙_}
+use mathlib.Core.List.{[]}
 use mathlib.Core.Logic.{_↔_}
-use Prim.Native.Nat.{ℕ, _+_, _*_, _%_, _<_}
+use Prim.Native.Nat.{ℕ, _+_, _*_, _<_}
 use native.Mathlib.Nat.{mod-eq-of-lt}
-use native.Mathlib.Decide.{decLe, ℕ-discrete}
+use native.Mathlib.Decide.{ℕ-discrete}
 use Rattle.lists.specs.Sum.{Σ}
 use Rattle.algebra.specs.Ops as Ops
 use Rattle.algebra.specs.Ops.{Ops}
 use Rattle.algebra.proofs.Ring.{CRing, ring, add-nil, add-neg, add-neg-cancel, add-cancel-left, neg-dist, neg-neg}
 use Rattle.algebra.proofs.Sum.{sum-ext}
 use Rattle.algebra.proofs.Dot.{dot-add-right}
-use Rattle.definitions.specs.Zq.{Q, zneg, zsub}
-use Rattle.definitions.specs.Answer.{Answer, fine, accepted, failed, _then_}
-use Rattle.definitions.specs.Rq.{Element, coeff, rzero}
+use Rattle.definitions.specs.Zq.{zneg, zsub}
+use Rattle.definitions.specs.Answer.{fine, accepted, failed, _then_}
+use Rattle.definitions.specs.Rq.{Element, coeff}
 use Rattle.definitions.specs.Ring.{Residue, residue, canonical-mod, ZqOps, RqOps, words, constant}
 use Rattle.definitions.proofs.ZqRing.{zq-ring, residue-zneg, residue-zsub}
 use Rattle.definitions.proofs.RqRing.{rq-ring, words-path}
@@ -26,7 +26,7 @@ use Rattle.protocol.specs.Parameters.{Parameters}
 use Rattle.protocol.specs.Formulas as F
 use Rattle.protocol.specs.Formulas.{_⊕_, _⊗_, sum, pairs, left, a-sum, φ-sum, b-sum}
 use Rattle.protocol.specs.Prover.{t-norm, g-norm, h-norm}
-use Rattle.protocol.specs.Conditions.{p-norm, psi-error, sent, computed, digit-sum, cells-left, alpha-error}
+use Rattle.protocol.specs.Conditions.{psi-error, sent, computed, cells-left, alpha-error}
 use Rattle.protocol.specs.Verifier.{twice, same, check-21, check-22, check-23, check-24, check-25, check-26, check-27, check-28, check-29, checks}
 use Rattle.protocol.proofs.Agrees.{Agrees}
 use Rattle.protocol.proofs.Fine.{require-holds, then-fine-left, then-fine-right}
@@ -151,8 +151,14 @@ module _ (X : Public) (s : ℕ → ℕ → Element) (ε : ℕ → Element) (with
     where
       agrees : Agrees X s (honest X s)
       agrees = record {
-        u₁ = λ k h. refl; p = λ j h. refl; b″ = λ k h. refl; u₂ = λ k h. refl;
-        z = λ m h. refl; t = λ i k h l. refl; g = λ i j h l. refl; h = λ i j h l. refl;
+        u₁ = λ k h. refl;
+        p = λ j h. refl;
+        b″ = λ k h. refl;
+        u₂ = λ k h. refl;
+        z = λ m h. refl;
+        t = λ i k h l. refl;
+        g = λ i j h l. refl;
+        h = λ i j h l. refl;
       }
 
   -- T1: the ring constraints met and Σ β_k⊗ε_k = 0, the verdict is that of the norms, as if the psi condition were not there

@@ -1,15 +1,15 @@
 -- The same on words: the verifier's verdict on the prover's transcript with the words of section b'' replaced.
-use mathlib.Core.Path.{_≡_, refl, sym, ap, ap₂, subst, _∙_}
+use mathlib.Core.Path.{_≡_, refl, sym, ap, ap₂, _∙_}
 use mathlib.Core.List.{List, [], _∷_, _++_}
 use Prim.Native.Nat.{ℕ, suc, _+_, _*_, _≤_, _<_}
 use native.Mathlib.Decide.{decLe}
 use native.Mathlib.Nat.{zero-add}
 use native.Mathlib.Omega.{arith}
-use lib.ListN.{length, getD, set, take, drop, length-append}
+use lib.ListN.{length, set, drop, length-append}
 use lib.Seq.{drop-at}
 use Rattle.lists.specs.Table.{table}
-use Rattle.lists.specs.Part.{part, splice}
-use Rattle.lists.proofs.Table.{length-table, getD-table, table-ext}
+use Rattle.lists.specs.Part.{splice}
+use Rattle.lists.proofs.Table.{length-table, getD-table}
 use Rattle.lists.proofs.Splice.{splice-eq, getD-splice-before, part-splice-before, part-splice-after, part-splice-same}
 use Rattle.definitions.specs.Answer.{fine, accepted, refused, failed, _then_}
 use Rattle.definitions.specs.Rq.{Element}
@@ -17,10 +17,10 @@ use Rattle.definitions.specs.Ring.{RqOps, element}
 use Rattle.protocol.specs.Checks.{require}
 use Rattle.protocol.specs.Parameters.{Parameters, parameters}
 use Rattle.protocol.specs.Layout.{Section, span, start, sections, transcript-sections, transcript-refusal, scratch-need}
-use Rattle.protocol.specs.Views.{Public, public, witness, Message, message, element-at}
+use Rattle.protocol.specs.Views.{Public, public, witness, message, element-at}
 use Rattle.protocol.specs.Formulas as F
 use Rattle.protocol.specs.Formulas.{_⊕_, flat}
-use Rattle.protocol.specs.Prover.{whole, transcript, prove, prove-output}
+use Rattle.protocol.specs.Prover.{whole, transcript, prove}
 use Rattle.protocol.specs.Conditions.{cells-left, alpha-error}
 use Rattle.protocol.specs.Verifier.{same, checks, verify-refusal, verify}
 use Rattle.protocol.proofs.Agrees.{Agrees}
@@ -29,7 +29,7 @@ use Rattle.protocol.proofs.Flat.{length-flat, flat-canonical, element-of-flat}
 use Rattle.protocol.proofs.Sections.{Filled, more, InRange, length-sections, layout-fine, ranged-fine}
 use Rattle.protocol.proofs.ReadBack.{transcript-filled, read-back}
 use Rattle.protocol.proofs.Accepted.{admitted, short, before-work, in-work, output-made, made-whole}
-use Rattle.soundness.specs.Altered.{with-b″, altered, altered-words, beta-sum, RingsMet, Within, Corrects, norms}
+use Rattle.soundness.specs.Altered.{with-b″, altered, altered-words, made-transcript, beta-sum, RingsMet, Corrects, norms}
 use Rattle.soundness.proofs.Altered.{verdict, equation-holds}
 
 -- words replaced past the first
@@ -133,22 +133,21 @@ module _ (X : Public) (s : ℕ → ℕ → Element) (ε : ℕ → Element) where
       ∙ getD-table L (altered ε (message P T) .b″) k (RqOps .nil) h
       ∙ ap (λ x. x ⊕ ε k) (read-back X s .b″ k h)
 
-module _ (J R W scratch output : List ℕ) (lent : ℕ) (ε : ℕ → Element) (proved : prove whole J R W (length scratch) (length output) ≡ fine) (enough : scratch-need (parameters J) ≤ lent) where
-  -- the public values, the witness, and the transcript that the prover makes
+-- a prover's call that is refused nothing, and scratch enough for the verifier
+module _ (J R W scratch output : List ℕ) (lent : ℕ) (proved : prove whole J R W (length scratch) (length output) ≡ fine) (enough : scratch-need (parameters J) ≤ lent) where
+  -- the public values and the witness
   abbrev pub X : Public
   X = public J R
 
   abbrev pub s : ℕ → ℕ → Element
   s = witness (parameters J) W
 
-  abbrev pub made : List ℕ
-  made = take (span (transcript-sections (parameters J))) (prove-output whole J R W scratch output)
-
-  -- the verdict on the prover's transcript with altered b'': 21, 23, and one equation
-  pub one-equation-of-words : Corrects X s ε
-      → verify J R (altered-words (parameters J) ε made) lent ≡ norms X s then require (same (alpha-error X s) (beta-sum X ε)) (failed 27 []) then accepted (cells-left X s)
+  -- the verdict on the prover's transcript with altered b'': 21, 23, and one equation, Σ alpha_k⊗error_k = Σ β_k⊗ε_k
+  pub one-equation-of-words : (ε : ℕ → Element) → Corrects X s ε
+      → verify J R (altered-words (parameters J) ε (made-transcript J R W scratch output)) lent
+      ≡ norms X s then require (same (alpha-error X s) (beta-sum X ε)) (failed 27 []) then accepted (cells-left X s)
   unfolding verify verify-refusal
-  one-equation-of-words corrects =
+  one-equation-of-words ε corrects =
       let P = parameters J in
       let call = admitted whole J R W (length scratch) (length output) (before-work whole J R W scratch output proved) in
       let bounds = short X s (in-work whole J R W scratch output proved) in
@@ -157,7 +156,7 @@ module _ (J R W scratch output : List ℕ) (lent : ℕ) (ε : ℕ → Element) (
       (then-both-fine (then-both-fine (then-both-fine (call .job) (call .randomness)) (refuses-nothing X s ε)) (require-holds (decLe (scratch-need P) lent) (refused 1 (scratch-need P)) enough))
       ∙ verdict X s ε (message P (T′ X s ε)) (agrees X s ε) (added X s ε) (then-both-fine (then-both-fine (bounds .of-t) (bounds .of-g)) (bounds .of-h)) corrects
 
-  -- T1 over the verifier's words: as if the psi condition were not there
-  pub as-without-psi-of-words : RingsMet X s → Corrects X s ε → beta-sum X ε ≡ RqOps .nil
-      → verify J R (altered-words (parameters J) ε made) lent ≡ norms X s then accepted (cells-left X s)
-  as-without-psi-of-words met corrects zero = one-equation-of-words corrects ∙ equation-holds X s ε met zero
+  -- T1 over the verifier's words: the ring constraints met and Σ β_k⊗ε_k = 0, as if the psi condition were not there
+  pub as-without-psi-of-words : (ε : ℕ → Element) → RingsMet X s → Corrects X s ε → beta-sum X ε ≡ RqOps .nil
+      → verify J R (altered-words (parameters J) ε (made-transcript J R W scratch output)) lent ≡ norms X s then accepted (cells-left X s)
+  as-without-psi-of-words ε met corrects zero = one-equation-of-words ε corrects ∙ equation-holds X s ε met zero

@@ -1,2 +1,5 @@
 pub mod Altered
 pub mod AlteredWords
+pub mod Slot
+pub mod SlotVerdict
+pub mod Slot257

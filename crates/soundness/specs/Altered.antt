@@ -3,6 +3,7 @@ use mathlib.Core.Path.{_≡_}
 use mathlib.Core.List.{List, [], _∷_}
 use Prim.Native.Nat.{ℕ, _*_, _<_}
 use native.Mathlib.Decide.{decLe}
+use lib.ListN.{take}
 use Rattle.lists.specs.Table.{table}
 use Rattle.lists.specs.Part.{splice}
 use Rattle.definitions.specs.Zq.{zneg}
@@ -10,12 +11,12 @@ use Rattle.definitions.specs.Answer.{Answer, fine, failed, _then_}
 use Rattle.definitions.specs.Rq.{Element, coeff, rzero}
 use Rattle.definitions.specs.Ring.{words}
 use Rattle.protocol.specs.Checks.{require}
-use Rattle.protocol.specs.Parameters.{Parameters}
-use Rattle.protocol.specs.Layout.{start, transcript-sections}
+use Rattle.protocol.specs.Parameters.{Parameters, parameters}
+use Rattle.protocol.specs.Layout.{span, start, transcript-sections}
 use Rattle.protocol.specs.Views.{Public, Message, message}
 use Rattle.protocol.specs.Formulas as F
 use Rattle.protocol.specs.Formulas.{_⊕_, _⊗_, sum, flat}
-use Rattle.protocol.specs.Prover.{t-norm, g-norm, h-norm}
+use Rattle.protocol.specs.Prover.{t-norm, g-norm, h-norm, whole, prove-output}
 use Rattle.protocol.specs.Conditions.{p-norm, psi-error, digit-sum, ring-error}
 
 -- a message with another b''
@@ -33,6 +34,10 @@ altered-words P ε T = splice T (start (transcript-sections P) 2) (flat (table (
 -- the message that the formulas give of a witness
 abbrev pub honest : Public → (ℕ → ℕ → Element) → Message
 honest X s = record { u₁ = F.u₁ X s; p = F.p X s; b″ = F.b″ X s; u₂ = F.u₂ X s; z = F.z X s; t = F.t X s; g = F.g X s; h = F.h X s }
+
+-- the transcript that the prover makes: its output to the length needed
+abbrev pub made-transcript : (J R W scratch output : List ℕ) → List ℕ
+made-transcript J R W scratch output = take (span (transcript-sections (parameters J))) (prove-output whole J R W scratch output)
 
 module _ (X : Public) where
   open Public X using (P, beta)

@@ -1,5 +1,6 @@
 -- A slot: a root ζ of X^64 + 1 modulo a divisor p of Q, and the element that only its value at ζ takes part in.
 use mathlib.Core.Path.{_≡_}
+use mathlib.Core.List.{[], _∷_}
 use Prim.Native.Nat.{ℕ, _+_, _*_, _/_, _%_, _^_, _<_}
 use Rattle.lists.specs.Table.{table}
 use Rattle.lists.specs.Sum.{Σ}
@@ -25,6 +26,10 @@ pub record ExactlyOne (n : ℕ) (A : ℕ → Type 0) : Type 0 where
   pub has : A one
   pub only : (j : ℕ) → j < n → A j → j ≡ one
 
+-- X
+abbrev pub X¹ : Element
+X¹ = element (0 ∷ 1 ∷ [])
+
 module _ (S : Slot) where
   open Slot S using (p, ζ, ζ⁻¹)
 
@@ -33,8 +38,11 @@ module _ (S : Slot) where
   Q/p = Q / p
 
   -- e_i = (Q/p)·ζ^(−i)
+  unfoldable pub e-at : ℕ → ℕ
+  e-at i = Q/p * ζ⁻¹ ^ i
+
   unfoldable pub e : Element
-  e = element (table 64 (λ i. Q/p * ζ⁻¹ ^ i))
+  e = element (table 64 e-at)
 
   -- α(ζ) = Σ α_i·ζ^i
   unfoldable pub at-ζ : Element → ℕ

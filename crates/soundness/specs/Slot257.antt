@@ -1,6 +1,6 @@
 -- The slots that Q = 3·5·17·257·65537 gives: 257 and 65537 are 1 modulo 128, so X^64 + 1 has roots modulo both.
 use mathlib.Core.Path.{_≡_, refl}
-use Prim.Native.Nat.{ℕ, _*_}
+use Prim.Native.Nat.{_*_}
 use Rattle.definitions.specs.Zq.{Q}
 use Rattle.soundness.specs.Slot.{Slot}
 
