@@ -129,7 +129,8 @@ module _ (X : Public) (s : ℕ → ℕ → Element) (ε : ℕ → Element) where
   added : (k : ℕ) → k < L → message P T′ .b″ k ≡ F.b″ X s k ⊕ ε k
   unfolding altered-words
   added k h =
-      element-of-flat T′ (start (transcript-sections P) 2) elements k (RqOps .nil) (part-splice-same 0 T (start (transcript-sections P) 2) (flat elements) room) (rw (length-table L (altered ε (message P T) .b″)) h)
+      element-of-flat T′ (start (transcript-sections P) 2) elements k (RqOps .nil) (part-splice-same 0 T (start (transcript-sections P) 2) (flat elements) room)
+      (rw (length-table L (altered ε (message P T) .b″)) h)
       ∙ getD-table L (altered ε (message P T) .b″) k (RqOps .nil) h
       ∙ ap (λ x. x ⊕ ε k) (read-back X s .b″ k h)
 

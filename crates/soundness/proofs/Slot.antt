@@ -10,19 +10,20 @@ use lib.Dec.{lit<}
 use lib.ListN.{getD}
 use Rattle.algebra.specs.Ops as Ops
 use Rattle.algebra.specs.Ops.{Ops}
-use Rattle.algebra.proofs.Ring.{CRing, neg-unique, neg-neg, mul-neg, one-mul, nil-mul, add-mul}
+use Rattle.algebra.proofs.Ring.{CRing, neg-unique, neg-neg, mul-neg, one-mul, mul-nil, nil-mul, add-mul}
 use Rattle.algebra.proofs.Sum.{sum-ext, sum-single, sum-mul-right}
 use Rattle.algebra.proofs.Antiperiodic.{Antiperiodic, Anti, mulF}
 use Rattle.definitions.specs.Zq.{Q}
 use Rattle.definitions.specs.Rq.{Element, coeff}
 use Rattle.definitions.specs.Ring.{Residue, residue, ZqOps, RqOps, words, scalar, scale, constant}
-use Rattle.definitions.proofs.Modulo.{mul-mod-second, add-neg-mod, add-cancel-mod}
+use Rattle.definitions.proofs.Modulo.{mul-mod-second}
 use Rattle.definitions.proofs.ZqRing.{zq-ring, residue-mod, residue-add, residue-mul}
-use Rattle.definitions.proofs.RqRing.{rq-ring, coefficient, element-path, coefficient-table, coefficient-rscale, coefficient-rzero, coefficient-element, residue-products, continued, carry, carry-below, carry-path, carry-mul, AntiOps}
-use Rattle.definitions.proofs.Scalar.{scale-scalar, scale-plus, scale-mod}
+use Rattle.definitions.proofs.RqRing.{rq-ring, coefficient, element-path, coefficient-table, coefficient-rscale, coefficient-element, residue-products, continued, carry, carry-below, carry-path, carry-mul, AntiOps}
+use Rattle.definitions.proofs.Scalar.{scalar-zero, scale-scalar, scale-plus, scale-mod}
 use Rattle.definitions.proofs.Conjugate.{constant-word}
 use Rattle.protocol.specs.Formulas.{_⊕_, _⊗_}
 use Rattle.soundness.specs.Slot.{Slot, ExactlyOne, X¹, e-at, e, at-ζ}
+use Rattle.soundness.proofs.SlotOne.{exactly-one-iff, one-solution}
 
 -- a function that a point's powers move back
 module _ (O : Ops) (R : CRing O) (d : ℕ) (f : ℕ → O .Carrier) (anti : Antiperiodic O d f) (p : ℕ → O .Carrier) (back : (i j : ℕ) → O .mul (p i) (f (j + i)) ≡ f j) where
@@ -84,16 +85,15 @@ module _ (S : Slot) where
   share-same : (x y : ℕ) → x % p ≡ y % p → residue (Q / p * x) ≡ residue (Q / p * y)
   share-same x y h = residue-mod (Q / p * x) (Q / p * y) (share-mod x ∙ ap (λ n. Q / p * n) h ∙ sym (share-mod y))
 
-  -- a multiple of Q/p is 0 modulo Q just where p divides the factor
-  share-zero : (x : ℕ) → (residue (Q / p * x) ≡ ZqOps .nil) ↔ (x % p ≡ 0)
-  share-zero x = (
-    λ h. cancel (Q / p) (x % p) divides (sym (share-mod x) ∙ ap (λ (y : Residue). y .0) h),
-    λ h. share-same x 0 (h ∙ sym (Nat.zero-mod p)) ∙ ap residue (Nat.mul-zero (Q / p)),
-  )
+  -- and equal multiples of Q/p equal remainders
+  share-cancel : (x y : ℕ) → residue (Q / p * x) ≡ residue (Q / p * y) → x % p ≡ y % p
+  share-cancel x y h = cancel (Q / p) (x % p) (y % p) divides (sym (share-mod x) ∙ ap (λ (z : Residue). z .0) h ∙ share-mod y)
     where
-      cancel : (d r : ℕ) → Q ≡ p * d → d * r ≡ 0 → r ≡ 0
-      cancel zero r w h = absurd (omega arith)
-      cancel (suc d) r w h = omega arith
+      cancel : (d r t : ℕ) → Q ≡ p * d → d * r ≡ d * t → r ≡ t
+      cancel zero r t w h = absurd (omega arith)
+      cancel (suc d) r t w h =
+          let pos : 0 < suc d = omega arith in
+          sym (Nat.mul-div-cancel-left r {n = suc d} pos) ∙ ap (λ n. n / suc d) h ∙ Nat.mul-div-cancel-left t {n = suc d} pos
 
   -- (Q/p)·ζ^(−k) for every k
   f : ℕ → Residue
@@ -133,7 +133,8 @@ module _ (S : Slot) where
       ap (λ x. ZqOps .add x (residue (Q / p * ζ⁻¹ ^ k))) (sym (residue-mul (ζ ^ 64) (Q / p * ζ⁻¹ ^ k)))
       ∙ sym (residue-add (ζ ^ 64 * (Q / p * ζ⁻¹ ^ k)) (Q / p * ζ⁻¹ ^ k))
       ∙ ap residue (order (ζ ^ 64) (Q / p) (ζ⁻¹ ^ k))
-      ∙ share-zero (ζ⁻¹ ^ k * (ζ ^ 64 + 1)) .1 (sym (mul-mod-second p (ζ⁻¹ ^ k) (ζ ^ 64 + 1)) ∙ ap (λ n. ζ⁻¹ ^ k * n % p) root ∙ ap (λ n. n % p) (Nat.mul-zero (ζ⁻¹ ^ k)) ∙ Nat.zero-mod p)
+      ∙ share-same (ζ⁻¹ ^ k * (ζ ^ 64 + 1)) 0 (sym (mul-mod-second p (ζ⁻¹ ^ k) (ζ ^ 64 + 1)) ∙ ap (λ n. ζ⁻¹ ^ k * n % p) root ∙ ap (λ n. n % p) (Nat.mul-zero (ζ⁻¹ ^ k)))
+      ∙ ap residue (Nat.mul-zero (Q / p))
     where
       order : (z d w : ℕ) → z * (d * w) + d * w ≡ d * (w * (z + 1))
       order z d w = omega arith
@@ -168,19 +169,35 @@ module _ (S : Slot) where
       ∙ zq-ring .mul-comm (residue (at-ζ S α)) (f k)
       ∙ sym (coefficient-multiple (at-ζ S α) k h))
 
-  -- a multiple of e is 0 just where p divides the factor
-  pub multiple-is-zero : (w : ℕ) → (scale (e S) w ≡ RqOps .nil) ↔ (w % p ≡ 0)
+  -- coefficient k of w·e
+  multiple-at : (w k : ℕ) → k < 64 → coefficient (scale (e S) w) k ≡ residue (Q / p * (ζ⁻¹ ^ k * w))
   unfolding f e-at
-  multiple-is-zero w = (
-    λ h. share-zero w .0 (sym (ap (λ n. residue (Q / p * n)) (ap (λ n. n * w) (Nat.pow-zero ζ⁻¹) ∙ Nat.one-mul w)) ∙ sym (term 0) ∙ sym (coefficient-multiple w 0 (lit< tt)) ∙ ap (λ a. coefficient a 0) h ∙ coefficient-rzero 0 (lit< tt)),
-    λ h. element-path (scale (e S) w) (RqOps .nil) (λ k l. coefficient-multiple w k l ∙ term k ∙ share-zero (ζ⁻¹ ^ k * w) .1 (divided k h) ∙ sym (coefficient-rzero k l)),
+  multiple-at w k h = coefficient-multiple w k h ∙ sym (residue-mul (Q / p * ζ⁻¹ ^ k) w) ∙ ap residue (Nat.mul-assoc (Q / p) (ζ⁻¹ ^ k) w)
+
+  -- coeff0(w·e) = w·Q/p
+  multiple-at-0 : (w : ℕ) → coefficient (scale (e S) w) 0 ≡ residue (Q / p * w)
+  multiple-at-0 w = multiple-at w 0 (lit< tt) ∙ ap (λ n. residue (Q / p * n)) (ap (λ n. n * w) (Nat.pow-zero ζ⁻¹) ∙ Nat.one-mul w)
+
+  -- multiples of e are the same just where the factors are equal modulo p
+  pub multiples-same : (w y : ℕ) → (scale (e S) w ≡ scale (e S) y) ↔ (w % p ≡ y % p)
+  multiples-same w y = (
+    λ h. share-cancel w y (sym (multiple-at-0 w) ∙ ap (λ a. coefficient a 0) h ∙ multiple-at-0 y),
+    λ h. element-path (scale (e S) w) (scale (e S) y) (λ k l. multiple-at w k l ∙ share-same (ζ⁻¹ ^ k * w) (ζ⁻¹ ^ k * y) (times k h) ∙ sym (multiple-at y k l)),
   )
     where
-      divided : (k : ℕ) → w % p ≡ 0 → ζ⁻¹ ^ k * w % p ≡ 0
-      divided k h = sym (mul-mod-second p (ζ⁻¹ ^ k) w) ∙ ap (λ n. ζ⁻¹ ^ k * n % p) h ∙ ap (λ n. n % p) (Nat.mul-zero (ζ⁻¹ ^ k)) ∙ Nat.zero-mod p
+      times : (k : ℕ) → w % p ≡ y % p → ζ⁻¹ ^ k * w % p ≡ ζ⁻¹ ^ k * y % p
+      times k h = sym (mul-mod-second p (ζ⁻¹ ^ k) w) ∙ ap (λ n. ζ⁻¹ ^ k * n % p) h ∙ mul-mod-second p (ζ⁻¹ ^ k) y
 
-      term : (k : ℕ) → ZqOps .mul (f k) (residue w) ≡ residue (Q / p * (ζ⁻¹ ^ k * w))
-      term k = sym (residue-mul (Q / p * ζ⁻¹ ^ k) w) ∙ ap residue (Nat.mul-assoc (Q / p) (ζ⁻¹ ^ k) w)
+  -- 0·e = 0
+  no-multiple : scale (e S) 0 ≡ RqOps .nil
+  no-multiple = scale-scalar (e S) 0 ∙ ap (_⊗_ (e S)) scalar-zero ∙ mul-nil RqOps rq-ring (e S)
+
+  -- a multiple of e is 0 just where p divides the factor
+  pub multiple-is-zero : (w : ℕ) → (scale (e S) w ≡ RqOps .nil) ↔ (w % p ≡ 0)
+  multiple-is-zero w = (
+    λ h. multiples-same w 0 .0 (h ∙ sym no-multiple) ∙ Nat.zero-mod p,
+    λ h. multiples-same w 0 .1 (h ∙ sym (Nat.zero-mod p)) ∙ no-multiple,
+  )
 
   -- α⊗e = 0 exactly when α(ζ) ≡ 0 modulo p
   pub zero-exactly-when : (α : Element) → (α ⊗ e S ≡ RqOps .nil) ↔ (at-ζ S α % p ≡ 0)
@@ -188,11 +205,14 @@ module _ (S : Slot) where
       let iff = multiple-is-zero (at-ζ S α) in
       (λ h. iff .0 (sym (product-with-e α) ∙ h), λ h. product-with-e α ∙ iff .1 h)
 
+  -- p is not 1
+  large : 1 < p
+  large = omega (arith, inverse, Nat.mod-lt (ζ * ζ⁻¹) positive)
+
   -- coeff0(e) = Q/p
   pub constant-e : coeff (words (e S)) 0 ≡ Q / p
   unfolding f e-at constant
   constant-e =
-      let large : 1 < p = omega (arith, inverse, Nat.mod-lt (ζ * ζ⁻¹) positive) in
       sym (constant-word (e S))
       ∙ ap (λ (x : Residue). x .0) (coefficient-e 0 (lit< tt))
       ∙ share-mod (ζ⁻¹ ^ 0)
@@ -205,7 +225,8 @@ module _ (S : Slot) where
   unfolding power
   product-with-X = product-with-e X¹ ∙ scale-mod (e S) (at-ζ S X¹) ζ (ap (λ (y : Residue). y .0)
       (sym (residue-at-ζ X¹)
-      ∙ sum-single ZqOps zq-ring 64 1 (λ i. ZqOps .mul (coefficient X¹ i) (power i)) (lit< tt) (λ i h n. ap (λ y. ZqOps .mul y (power i)) (coefficient-element (0 ∷ 1 ∷ []) i h ∙ other i n) ∙ nil-mul ZqOps zq-ring (power i))
+      ∙ sum-single ZqOps zq-ring 64 1 (λ i. ZqOps .mul (coefficient X¹ i) (power i)) (lit< tt)
+      (λ i h n. ap (λ y. ZqOps .mul y (power i)) (coefficient-element (0 ∷ 1 ∷ []) i h ∙ other i n) ∙ nil-mul ZqOps zq-ring (power i))
       ∙ ap (λ y. ZqOps .mul y (power 1)) (coefficient-element (0 ∷ 1 ∷ []) 1 (lit< tt))
       ∙ one-mul ZqOps zq-ring (power 1)
       ∙ ap residue (Nat.pow-suc ζ 0 ∙ ap (λ n. n * ζ) (Nat.pow-zero ζ) ∙ Nat.one-mul ζ)))
@@ -224,17 +245,13 @@ module _ (S : Slot) where
 
   -- of the weights α, α ⊕ 1, …, α ⊕ (p − 1) exactly one sends e to 0
   pub one-weight : (α : Element) → ExactlyOne p (λ j. (α ⊕ scalar j) ⊗ e S ≡ RqOps .nil)
-  one-weight α = record {
-    one = j₀;
-    below = Nat.mod-lt (p - at-ζ S α % p) positive;
-    has = shifted α j₀ ∙ multiple-is-zero (at-ζ S α + j₀) .1 sum-zero;
-    only = λ j h zero. sym (Nat.mod-eq-of-lt h)
-        ∙ add-cancel-mod p positive j (at-ζ S α) j₀ (ap (λ n. n % p) (Nat.add-comm j (at-ζ S α)) ∙ multiple-is-zero (at-ζ S α + j) .0 (sym (shifted α j) ∙ zero) ∙ sym sum-zero ∙ ap (λ n. n % p) (Nat.add-comm (at-ζ S α) j₀))
-        ∙ Nat.mod-mod (p - at-ζ S α % p) p;
-  }
-    where
-      j₀ : ℕ
-      j₀ = (p - at-ζ S α % p) % p
+  one-weight α =
+      exactly-one-iff (λ j.
+      let once : (at-ζ S α + 1 * j) % p ≡ (at-ζ S α + j) % p = ap (λ n. (at-ζ S α + n) % p) (Nat.one-mul j) in
+      let iff = multiple-is-zero (at-ζ S α + j) in
+      (λ h. shifted α j ∙ iff .1 (sym once ∙ h), λ h. once ∙ iff .0 (sym (shifted α j) ∙ h)))
+      (one-solution p positive 1 1 (Nat.mod-eq-of-lt large) (at-ζ S α))
 
-      sum-zero : (at-ζ S α + j₀) % p ≡ 0
-      sum-zero = Nat.add-mod-mod (at-ζ S α) (p - at-ζ S α % p) p ∙ add-neg-mod p positive (at-ζ S α)
+  -- (α ⊕ j)(ζ) ≡ α(ζ) + j modulo p
+  pub at-ζ-shifted : (α : Element) (j : ℕ) → at-ζ S (α ⊕ scalar j) % p ≡ (at-ζ S α + j) % p
+  at-ζ-shifted α j = multiples-same (at-ζ S (α ⊕ scalar j)) (at-ζ S α + j) .0 (sym (product-with-e (α ⊕ scalar j)) ∙ shifted α j)
