@@ -161,6 +161,6 @@ module _ (X : Public) (s : ℕ → ℕ → Element) (ε : ℕ → Element) (with
         h = λ i j h l. refl;
       }
 
-  -- T1: the ring constraints met and Σ β_k⊗ε_k = 0, the verdict is that of the norms, as if the psi condition were not there
+  -- what 22 does not force: the ring constraints met and Σ β_k⊗ε_k = 0, the verdict is that of the norms, as if the psi condition were not there
   pub as-without-psi : RingsMet X s → beta-sum X ε ≡ RqOps .nil → checks X (altered ε (honest X s)) ≡ norms X s then accepted (cells-left X s)
   as-without-psi met zero = one-equation ∙ equation-holds X s ε met zero

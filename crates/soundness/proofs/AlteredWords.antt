@@ -157,7 +157,7 @@ module _ (J R W scratch output : List ℕ) (lent : ℕ) (proved : prove whole J 
       (then-both-fine (then-both-fine (then-both-fine (call .job) (call .randomness)) (refuses-nothing X s ε)) (require-holds (decLe (scratch-need P) lent) (refused 1 (scratch-need P)) enough))
       ∙ verdict X s ε (message P (T′ X s ε)) (agrees X s ε) (added X s ε) (then-both-fine (then-both-fine (bounds .of-t) (bounds .of-g)) (bounds .of-h)) corrects
 
-  -- T1 over the verifier's words: the ring constraints met and Σ β_k⊗ε_k = 0, as if the psi condition were not there
+  -- what 22 does not force, over the verifier's words: the ring constraints met and Σ β_k⊗ε_k = 0, as if the psi condition were not there
   pub as-without-psi-of-words : (ε : ℕ → Element) → RingsMet X s → Corrects X s ε → beta-sum X ε ≡ RqOps .nil
       → verify J R (altered-words (parameters J) ε (made-transcript J R W scratch output)) lent ≡ norms X s then accepted (cells-left X s)
   as-without-psi-of-words ε met corrects zero = one-equation-of-words ε corrects ∙ equation-holds X s ε met zero

@@ -1,4 +1,4 @@
--- Errors that are multiples of Q/p, hidden in one slot: the verdict is one equation modulo p.
+-- Errors that are multiples of Q/p: with ε in one slot the verdict is one equation modulo p.
 use mathlib.Core.Path.{_≡_, refl, sym, ap, _∙_}
 use mathlib.Core.Bool.{Bool, true, false, cond}
 use mathlib.Core.Logic.{_↔_}
