@@ -155,7 +155,7 @@ module _ (J R W scratch output : List ℕ) (lent : ℕ) (proved : prove whole J 
       one-equation-of-words J R W scratch output lent proved enough (ε S X m) (slot-corrects S X m s multiples)
       ∙ ap (λ x. norms X s then x then accepted (cells-left X s)) (equation-is S X m s multiples met)
 
-  -- the equation met and both norms within their limits, the transcript is accepted, whatever the constant-term errors are
+  -- the equation met and both norms within their limits, the transcript is accepted, whatever multiples of Q/p the constant-term errors are
   pub accepted-in-one-slot : (S : Slot) (m : ℕ → ℕ) → RingsMet X s → Multiples S X m s
       → p-norm X s ≤ 128 * X .P .beta-sq → digit-sum X s ≤ X .P .beta-prime-sq → weighed S X m (X .beta) ≡ 0
       → verify J R (altered-words (parameters J) (ε S X m) (made-transcript J R W scratch output)) lent ≡ accepted (cells-left X s)
