@@ -1,0 +1,3 @@
+pub mod Altered
+pub mod Slot
+pub mod Slot257
