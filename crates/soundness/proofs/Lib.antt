@@ -1,0 +1,3 @@
+pub mod Modulus
+pub mod Gcd
+pub mod Rows

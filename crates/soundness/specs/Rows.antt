@@ -1,0 +1,69 @@
+-- What a row of psi lets through (the paper's first aggregation): errors e_0 … e_{l−1} of l constant-term constraints, weighed by a row ψ.
+use mathlib.Core.Path.{_≡_}
+use mathlib.Core.Logic.{_⊎_}
+use Prim.Native.Nat.{ℕ, _+_, _*_, _%_, _<_, _∣_}
+use Rattle.lists.specs.Sum.{Σ}
+use Rattle.protocol.specs.Views.{Public}
+
+-- the errors weighed by a row, modulo q: Σ ψ_x·e_x
+abbrev pub weighed : (q l : ℕ) → (ψ e : ℕ → ℕ) → ℕ
+weighed q l ψ e = Σ l (λ x. ψ x * e x) % q
+
+-- d = gcd(q, e_0, …, e_{l−1}): it divides q and each error, and every common divisor divides it
+pub record Gcd (q l : ℕ) (e : ℕ → ℕ) (d : ℕ) : Type 0 where
+  pub divides-q : d ∣ q
+  pub divides : (x : ℕ) → x < l → d ∣ e x
+  pub greatest : (t : ℕ) → t ∣ q → ((x : ℕ) → x < l → t ∣ e x) → t ∣ d
+
+-- all l errors are 0 modulo q
+abbrev pub All-zero : (q l : ℕ) → (ℕ → ℕ) → Type 0
+All-zero q l e = (x : ℕ) → x < l → e x % q ≡ 0
+
+-- no number but 1 and q divides q
+abbrev pub Prime : ℕ → Type 0
+Prime q = (t : ℕ) → t ∣ q → (t ≡ 1) ⊎ (t ≡ q)
+
+-- the row ψ + j·ψ*, modulo q
+unfoldable pub moved : (q j : ℕ) → (ψ* ψ : ℕ → ℕ) → ℕ → ℕ
+moved q j ψ* ψ x = (ψ x + j * ψ* x) % q
+
+-- a fact holds of exactly one number below n
+pub record Exactly-one (n : ℕ) (holds : ℕ → Type 0) : Type 0 where
+  pub the-one : ℕ
+  pub below : the-one < n
+  pub it-holds : holds the-one
+  pub no-other : (j : ℕ) → j < n → holds j → j ≡ the-one
+
+-- there is a row ψ* such that for every row ψ exactly one of the n rows ψ + j·ψ*, j < n, weighs the errors to 0.
+-- The rows of one j go onto those of another by adding a multiple of ψ*, one to one: so exactly one in n of all rows weighs the errors to 0.
+abbrev pub One-row-in : (n q l : ℕ) → (ℕ → ℕ) → Type 0
+One-row-in n q l e = (ψ* : ℕ → ℕ) × ((ψ : ℕ → ℕ) → Exactly-one n (λ j. weighed q l (moved q j ψ* ψ) e ≡ 0))
+
+-- a fact holds of exactly one tuple of L numbers below n
+pub record Exactly-one-tuple (L n : ℕ) (holds : (ℕ → ℕ) → Type 0) : Type 0 where
+  pub the-one : ℕ → ℕ
+  pub below : (k : ℕ) → k < L → the-one k < n
+  pub it-holds : holds the-one
+  pub no-other : (j : ℕ → ℕ) → ((k : ℕ) → k < L → j k < n) → holds j → (k : ℕ) → k < L → j k ≡ the-one k
+
+-- the public values with other rows in the place of psi
+abbrev pub with-psi : Public → (ℕ → ℕ → ℕ) → Public
+with-psi X ψ = record {
+  P = X .P;
+  a′ = X .a′;
+  φ′ = X .φ′;
+  b₀ = X .b₀;
+  a = X .a;
+  φ = X .φ;
+  b = X .b;
+  A = X .A;
+  B = X .B;
+  C = X .C;
+  D = X .D;
+  Π = X .Π;
+  psi = ψ;
+  omega = X .omega;
+  alpha = X .alpha;
+  beta = X .beta;
+  c = X .c;
+}
