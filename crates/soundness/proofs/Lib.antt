@@ -1,3 +1,6 @@
 pub mod Modulus
 pub mod Gcd
 pub mod Rows
+pub mod RowsOfPsi
+pub mod Third
+pub mod Units

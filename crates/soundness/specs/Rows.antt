@@ -3,7 +3,10 @@ use mathlib.Core.Path.{_≡_}
 use mathlib.Core.Logic.{_⊎_}
 use Prim.Native.Nat.{ℕ, _+_, _*_, _%_, _<_, _∣_}
 use Rattle.lists.specs.Sum.{Σ}
+use Rattle.definitions.specs.Zq.{Q}
+use Rattle.definitions.specs.Rq.{Element}
 use Rattle.protocol.specs.Views.{Public}
+use Rattle.protocol.specs.Conditions.{constant-error, psi-error}
 
 -- the errors weighed by a row, modulo q: Σ ψ_x·e_x
 abbrev pub weighed : (q l : ℕ) → (ψ e : ℕ → ℕ) → ℕ
@@ -46,9 +49,9 @@ pub record Exactly-one-tuple (L n : ℕ) (holds : (ℕ → ℕ) → Type 0) : Ty
   pub it-holds : holds the-one
   pub no-other : (j : ℕ → ℕ) → ((k : ℕ) → k < L → j k < n) → holds j → (k : ℕ) → k < L → j k ≡ the-one k
 
--- the public values with other rows in the place of psi
-abbrev pub with-psi : Public → (ℕ → ℕ → ℕ) → Public
-with-psi X ψ = record {
+-- the public values with others in the place of psi and alpha
+abbrev pub with-weights : Public → (ℕ → ℕ → ℕ) → (ℕ → Element) → Public
+with-weights X ψ α = record {
   P = X .P;
   a′ = X .a′;
   φ′ = X .φ′;
@@ -63,7 +66,28 @@ with-psi X ψ = record {
   Π = X .Π;
   psi = ψ;
   omega = X .omega;
-  alpha = X .alpha;
+  alpha = α;
   beta = X .beta;
   c = X .c;
 }
+
+-- with other rows in the place of psi
+abbrev pub with-psi : Public → (ℕ → ℕ → ℕ) → Public
+with-psi X ψ = with-weights X ψ (X .alpha)
+
+module _ (X : Public) (s : ℕ → ℕ → Element) where
+  -- some constant-term constraint is not met
+  abbrev pub Some-error : Type 0
+  Some-error = ((x : ℕ) → x < X .P .l → constant-error X s x ≡ 0) → ⊥
+
+  -- d = gcd(Q, errors of the constant-term constraints)
+  abbrev pub Gcd-of-errors : ℕ → Type 0
+  Gcd-of-errors = Gcd Q (X .P .l) (constant-error X s)
+
+  -- there is a row ψ* such that for every psi and every k exactly one j < n lets the row psi_k + j·ψ* weigh the errors to 0: one in n of all rows
+  abbrev pub One-psi-row-in : ℕ → Type 0
+  One-psi-row-in n = (ψ* : ℕ → ℕ) × ((psi : ℕ → ℕ → ℕ) (k : ℕ) → Exactly-one n (λ j. psi-error (with-psi X (λ i. moved Q j ψ* (psi i))) s k ≡ 0))
+
+  -- and for every psi exactly one tuple j_0 … j_{L−1} of numbers below n lets all L rows psi_k + j_k·ψ* do so: one in n^L of all psi
+  abbrev pub One-psi-in : (L n : ℕ) → Type 0
+  One-psi-in L n = (ψ* : ℕ → ℕ) × ((psi : ℕ → ℕ → ℕ) → Exactly-one-tuple L n (λ j. (k : ℕ) → k < L → psi-error (with-psi X (λ i. moved Q (j i) ψ* (psi i))) s k ≡ 0))
