@@ -4,3 +4,5 @@ pub mod Rows
 pub mod RowsOfPsi
 pub mod Third
 pub mod Units
+pub mod Monomials
+pub mod Weights

@@ -35,6 +35,13 @@ module _ (O : Ops) (R : CRing O) where
       signs : (a f : Carrier) → neg a ⊗ neg f ≡ a ⊗ f
       signs a f = simp (ring, R)
 
+  -- a difference taken the other way round
+  pub unit-swap : (a b : Carrier) → IsUnit O (a ⊕ neg b) → IsUnit O (b ⊕ neg a)
+  unit-swap a b u = rw (signs a b) at (unit-neg (a ⊕ neg b) u)
+    where
+      signs : (a b : Carrier) → neg (a ⊕ neg b) ≡ b ⊕ neg a
+      signs a b = simp (ring, R)
+
   -- a factor of a unit
   pub unit-factor : (a b : Carrier) → IsUnit O (a ⊗ b) → IsUnit O a
   unit-factor a b (f, p) = (b ⊗ f, sym (R .mul-assoc a b f) ∙ p)
