@@ -1,12 +1,12 @@
 -- Euclid's algorithm: the greatest common divisor of a modulus and finitely many numbers, and that modulo the modulus it is a weighted sum of these.
 use mathlib.Core.Path.{_≡_, refl, sym, ap, ap₂, _∙_}
 use mathlib.Core.Bool.{cond}
+use mathlib.Core.Logic.{_⊎_, inl, inr}
 use Prim.Native.Nat.{ℕ, zero, suc, _+_, _-_, _*_, _/_, _%_, _≤_, _<_, _∣_}
-use native.Mathlib.Nat.{mod-lt, mod-self, zero-mod, mod-add-div', mod-add-mod, add-mod-mod, add-mul-mod-self-right, not-suc-le-zero}
+use native.Mathlib.Nat.{mod-lt, mod-self, zero-mod, mod-add-div', mod-add-mod, add-mul-mod-self-right, not-suc-le-zero}
 use native.Mathlib.Nat.{dvd-refl, dvd-zero, dvd-trans, dvd-add, dvd-mod-iff, dvd-mul-left-of-dvd, dvd-antisymm, eq-or-lt-of-le}
 use native.Mathlib.Decide.{ℕ-discrete}
 use native.Mathlib.Omega.{arith}
-use mathlib.Core.Logic.{_⊎_, inl, inr}
 use borrow.Author.Tests.{eq-eqb, ne-eqb}
 use lib.Dec.{eqb}
 use Rattle.lists.specs.Sum.{Σ}

@@ -6,7 +6,7 @@ use native.Mathlib.Nat as Nat
 use native.Mathlib.Decide.{decLt}
 use native.Mathlib.Omega.{arith}
 use borrow.Author.Tests.{eq-eqb, ne-eqb}
-use lib.Dec.{eqb, ltb, lit<}
+use lib.Dec.{eqb, lit<}
 use Rattle.lists.specs.Table.{table}
 use Rattle.algebra.proofs.Ring.{neg-neg, neg-nil, nil-add, one-mul}
 use Rattle.algebra.proofs.Antiperiodic.{Antiperiodic, Anti, extend, extend-below, extend-anti, constF, mulF, mulF-shift, const-mulF, anti-path}
@@ -157,7 +157,9 @@ difference-unit zero (suc n) h k d =
     subst (λ e. IsUnit RqOps (RqOps .add e (RqOps .neg (shift (suc n))))) (sym shift-zero)
     (subst (IsUnit RqOps) (sym (nil-add RqOps rq-ring (RqOps .neg (shift (suc n))))) (unit-neg RqOps rq-ring (shift (suc n)) (shift-unit n (omega arith))))
 difference-unit (suc m) zero h k d =
-    subst (IsUnit RqOps) (sym (ap (λ e. RqOps .add (shift (suc m)) (RqOps .neg e)) shift-zero ∙ ap (RqOps .add (shift (suc m))) (neg-nil RqOps rq-ring) ∙ rq-ring .add-nil (shift (suc m)))) (shift-unit m (omega arith))
+    subst (IsUnit RqOps)
+    (sym (ap (λ e. RqOps .add (shift (suc m)) (RqOps .neg e)) shift-zero ∙ ap (RqOps .add (shift (suc m))) (neg-nil RqOps rq-ring) ∙ rq-ring .add-nil (shift (suc m))))
+    (shift-unit m (omega arith))
 difference-unit (suc m) (suc n) h k d =
     subst₂ (λ e f. IsUnit RqOps (RqOps .add e (RqOps .neg f))) (sym (shift-power m (omega arith))) (sym (shift-power n (omega arith)))
     (powers-unit (128 - m) (128 - n) (omega arith) (omega arith) (omega arith) (omega arith) (λ q. d (omega arith)))

@@ -1,15 +1,15 @@
 -- Which part of all rows weighs errors to 0, over any modulus q: with d = gcd(q, e_0, …, e_{l−1}) exactly d/q of them.
 use mathlib.Core.Path.{_≡_, sym, ap, ap₂, _∙_}
 use mathlib.Core.Logic.{_↔_, _⊎_, inl, inr}
-use Prim.Native.Nat.{ℕ, _+_, _-_, _*_, _/_, _%_, _≤_, _<_, _∣_}
+use Prim.Native.Nat.{ℕ, _+_, _-_, _*_, _/_, _%_, _≤_, _<_}
 use native.Mathlib.Nat.{mod-lt, mod-eq-of-lt, add-mod-mod, add-comm, mul-comm, mul-zero, mul-one, div-one, mul-le-mul-right, lt-of-mul-lt-mul-left}
 use native.Mathlib.Nat.{mul-div-cancel', pos-of-dvd-of-pos, dvd-iff-mod-eq-zero, dvd-of-mul-dvd-mul-left, mul-dvd-mul-left, mod-eq-zero-of-dvd}
 use native.Mathlib.Decide.{decLe, ℕ-discrete}
 use native.Mathlib.Omega.{arith}
 use Rattle.lists.specs.Sum.{Σ}
-use Rattle.lists.proofs.Sum.{Σ-ext, Σ-add, Σ-mul-left, Σ-mod-ext}
+use Rattle.lists.proofs.Sum.{Σ-add, Σ-mul-left, Σ-mod-ext}
 use Rattle.definitions.proofs.Modulo.{mul-mod-first, mul-mod-second, add-neg-mod, add-cancel-mod}
-use Rattle.soundness.specs.Rows.{weighed, Gcd, All-zero, Prime, moved, Exactly-one, One-row-in}
+use Rattle.soundness.specs.Rows.{weighed, Gcd, All-zero, Prime, At-most-a-third, moved, Exactly-one, One-row-in}
 use Rattle.soundness.proofs.Gcd.{dvd-weighed, gcd-exists, gcd-weighed}
 
 -- of the numbers below n exactly one makes m a multiple of n
@@ -95,14 +95,14 @@ module _ (q l : ℕ) (e : ℕ → ℕ) (d : ℕ) (pos : 0 < q) (g : Gcd q l e d)
     gcd-below h = some (λ x k. ap (λ y. e x % y) (sym h) ∙ mod-eq-zero-of-dvd d (g .divides x k))
 
     -- so d is at most a third of an odd q: at most one row in three weighs the errors to 0
-    pub at-most-a-third : q % 2 ≡ 1 → 3 * d ≤ q
+    pub at-most-a-third : q % 2 ≡ 1 → At-most-a-third d q
     at-most-a-third odd = go (decLe 3 (q / d))
       where
-        go : Dec (3 ≤ q / d) → 3 * d ≤ q
+        go : Dec (3 ≤ q / d) → At-most-a-third d q
         go (yes h) = omega (arith, mul-le-mul-right d h, mul-comm d (q / d), steps)
         go (no h) = cases (ℕ-discrete (q / d) 1) (ℕ-discrete (q / d) 2)
           where
-            cases : Dec (q / d ≡ 1) → Dec (q / d ≡ 2) → 3 * d ≤ q
+            cases : Dec (q / d ≡ 1) → Dec (q / d ≡ 2) → At-most-a-third d q
             cases (yes f) k = absurd (gcd-below (sym (mul-one d) ∙ ap (λ x. d * x) (sym f) ∙ steps))
             cases (no f) (yes k) = let twice : d * 2 ≡ q = ap (λ x. d * x) (sym k) ∙ steps in omega arith
             cases (no f) (no k) = let p = steps-positive in omega arith

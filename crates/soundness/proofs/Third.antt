@@ -1,5 +1,5 @@
 -- The errors that most rows let through: multiples of Q/3, where 3 divides Q. One row in three weighs them to 0.
-use mathlib.Core.Path.{_≡_, refl, sym, ap, _∙_}
+use mathlib.Core.Path.{_≡_, refl}
 use mathlib.Core.Logic.{_↔_}
 use Prim.Native.Nat.{ℕ, _*_, _/_, _≤_, _<_, _∣_}
 use native.Mathlib.Nat.{le-of-dvd, pos-of-dvd-of-pos, dvd-of-mod-eq-zero}

@@ -86,14 +86,17 @@ module _ (O : Ops) (R : CRing O) where
     doubled zero m h d = absurd (d (ap (λ x. x % 128) (sym (Nat.one-mul m)) ∙ h))
     doubled (suc t) m h d = go (ℕ-discrete (m % 128) 64) (doubled t (m + m))
       where
-        again : (p m : ℕ) → p * 2 * m ≡ p * (m + m)
-        again p m = omega arith
+        out : (p m : ℕ) → p * (m + m) ≡ p * 2 * m
+        out p m = omega arith
+
+        again : 2 ^ t * (m + m) ≡ 2 ^ suc t * m
+        again = out (2 ^ t) m ∙ ap (λ x. x * m) (sym (Nat.pow-suc 2 t))
 
         go : Dec (m % 128 ≡ 64) → ((2 ^ t * (m + m)) % 128 ≡ 0 → ((m + m) % 128 ≡ 0 → ⊥) → IsUnit O (one ⊕ neg (g (m + m)))) → IsUnit O (one ⊕ neg (g m))
         go (yes e) r = rw (minus-one m e, neg-neg O R one) two
         go (no e) r =
             unit-factor (one ⊕ neg (g m)) (one ⊕ g m)
-            (rw (square m) at (r (ap (λ x. x % 128) (sym (again (2 ^ t) m) ∙ ap (λ x. x * m) (sym (Nat.pow-suc 2 t))) ∙ h) (λ z. half-multiple (m % 128) (Nat.mod-lt m (omega arith)) (sym (Nat.add-mod m m 128) ∙ z) d e)))
+            (rw (square m) at (r (ap (λ x. x % 128) again ∙ h) (λ z. half-multiple (m % 128) (Nat.mod-lt m (omega arith)) (sym (Nat.add-mod m m 128) ∙ z) d e)))
 
     -- 1 less a power, unless the power is 1
     one-less-power : (m : ℕ) → (m % 128 ≡ 0 → ⊥) → IsUnit O (one ⊕ neg (g m))

@@ -1,5 +1,5 @@
 -- Which part of all weights lets errors through: where ε_k is not 0, of 129 weights w_k ⊕ x at most one lets Σ w_i⊗ε_i vanish.
-use mathlib.Core.Path.{_≡_, sym, ap, _∙_}
+use mathlib.Core.Path.{_≡_, refl, sym, ap, _∙_}
 use mathlib.Core.Bool.{Bool, true, false, cond}
 use Prim.Native.Nat.{ℕ, _<_}
 use native.Mathlib.Decide.{ℕ-discrete}
@@ -26,7 +26,7 @@ shifted-sum n w ε k v h =
     ∙ sum-add RqOps rq-ring n (λ i. w i ⊗ ε i) only
     ∙ ap (λ x. sum n (λ i. w i ⊗ ε i) ⊕ x)
     (sum-single RqOps rq-ring n k only h (λ i l d. ap (λ c. cond c v (RqOps .nil) ⊗ ε i) (ne-eqb i k d) ∙ nil-mul RqOps rq-ring (ε i))
-    ∙ ap (λ c. cond c v (RqOps .nil) ⊗ ε k) (eq-eqb k k (λ i. k)))
+    ∙ ap (λ c. cond c v (RqOps .nil) ⊗ ε k) (eq-eqb k k refl))
   where
     only : ℕ → Element
     only i = cond (eqb i k) v (RqOps .nil) ⊗ ε i

@@ -1,7 +1,7 @@
 -- What a row of psi lets through (the paper's first aggregation): errors e_0 … e_{l−1} of l constant-term constraints, weighed by a row ψ.
 use mathlib.Core.Path.{_≡_}
 use mathlib.Core.Logic.{_⊎_}
-use Prim.Native.Nat.{ℕ, _+_, _*_, _%_, _<_, _∣_}
+use Prim.Native.Nat.{ℕ, _+_, _*_, _%_, _≤_, _<_, _∣_}
 use Rattle.lists.specs.Sum.{Σ}
 use Rattle.definitions.specs.Zq.{Q}
 use Rattle.definitions.specs.Rq.{Element}
@@ -22,9 +22,13 @@ pub record Gcd (q l : ℕ) (e : ℕ → ℕ) (d : ℕ) : Type 0 where
 abbrev pub All-zero : (q l : ℕ) → (ℕ → ℕ) → Type 0
 All-zero q l e = (x : ℕ) → x < l → e x % q ≡ 0
 
--- no number but 1 and q divides q
+-- no number but 1 and q divides q: q is a prime, or 1
 abbrev pub Prime : ℕ → Type 0
 Prime q = (t : ℕ) → t ∣ q → (t ≡ 1) ⊎ (t ≡ q)
+
+-- d/q, the part of all rows that weighs the errors to 0, is at most one third
+abbrev pub At-most-a-third : (d q : ℕ) → Type 0
+At-most-a-third d q = 3 * d ≤ q
 
 -- the row ψ + j·ψ*, modulo q
 unfoldable pub moved : (q j : ℕ) → (ψ* ψ : ℕ → ℕ) → ℕ → ℕ
@@ -38,7 +42,7 @@ pub record Exactly-one (n : ℕ) (holds : ℕ → Type 0) : Type 0 where
   pub no-other : (j : ℕ) → j < n → holds j → j ≡ the-one
 
 -- there is a row ψ* such that for every row ψ exactly one of the n rows ψ + j·ψ*, j < n, weighs the errors to 0.
--- The rows of one j go onto those of another by adding a multiple of ψ*, one to one: so exactly one in n of all rows weighs the errors to 0.
+-- Adding a multiple of ψ* carries the rows ψ of one j onto those of another, one to one: so exactly one in n of all rows weighs the errors to 0.
 abbrev pub One-row-in : (n q l : ℕ) → (ℕ → ℕ) → Type 0
 One-row-in n q l e = (ψ* : ℕ → ℕ) × ((ψ : ℕ → ℕ) → Exactly-one n (λ j. weighed q l (moved q j ψ* ψ) e ≡ 0))
 

@@ -9,17 +9,18 @@ use Rattle.definitions.specs.Rq.{Element, rzero}
 use Rattle.definitions.specs.Ring.{words, element, RqOps}
 use Rattle.protocol.specs.Views.{Public}
 use Rattle.protocol.specs.Formulas.{_⊕_, _⊗_, sum}
-use Rattle.protocol.specs.Conditions.{ring-error, alpha-error}
+use Rattle.protocol.specs.Conditions.{alpha-error}
 use Rattle.soundness.specs.Rows.{with-weights}
 
 -- X^i, for i < 64
 unfoldable pub monomial : ℕ → Element
 monomial i = element (table 64 (λ k. cond (eqb k i) 1 0))
 
--- 0, X^0 … X^63 and −X^0 … −X^63: so many, and by number
+-- how many elements 0, X^i and −X^i there are, i < 64
 abbrev pub shifts : ℕ
 shifts = 1 + 2 * 64
 
+-- they by number: 0, then X^0 … X^63, then −X^0 … −X^63
 unfoldable pub shift : ℕ → Element
 shift zero = RqOps .nil
 shift (suc m) = cond (ltb m 64) (monomial m) (RqOps .neg (monomial (m - 64)))
@@ -28,7 +29,7 @@ shift (suc m) = cond (ltb m 64) (monomial m) (RqOps .neg (monomial (m - 64)))
 abbrev pub IsUnit : (O : Ops) → O .Carrier → Type 0
 IsUnit O e = (f : O .Carrier) × (O .mul e f ≡ O .one)
 
--- the weights w_0, …, w_k ⊕ v, …
+-- the weights w with v added to w_k
 unfoldable pub shifted : (ℕ → Element) → ℕ → Element → ℕ → Element
 shifted w k v i = cond (eqb i k) (w i ⊕ v) (w i)
 
