@@ -22,7 +22,8 @@ use Rattle.definitions.proofs.RqRing.{rq-ring, coefficient, element-path, coeff
 use Rattle.definitions.proofs.Scalar.{scalar-zero, scale-scalar, scale-plus, scale-mod}
 use Rattle.definitions.proofs.Conjugate.{constant-word}
 use Rattle.protocol.specs.Formulas.{_⊕_, _⊗_}
-use Rattle.soundness.specs.Slot.{Slot, ExactlyOne, X¹, e-at, e, at-ζ}
+use Rattle.soundness.specs.Share.{Exactly-one}
+use Rattle.soundness.specs.Slot.{Slot, X¹, e-at, e, at-ζ}
 use Rattle.soundness.proofs.SlotOne.{exactly-one-iff, one-solution}
 
 -- a function that a point's powers move back
@@ -244,7 +245,7 @@ module _ (S : Slot) where
       ∙ sym (scale-plus (e S) (at-ζ S α) j)
 
   -- of the weights α, α ⊕ 1, …, α ⊕ (p − 1) exactly one sends e to 0
-  pub one-weight : (α : Element) → ExactlyOne p (λ j. (α ⊕ scalar j) ⊗ e S ≡ RqOps .nil)
+  pub one-weight : (α : Element) → Exactly-one p (λ j. (α ⊕ scalar j) ⊗ e S ≡ RqOps .nil)
   one-weight α =
       exactly-one-iff (λ j.
       let once : (at-ζ S α + 1 * j) % p ≡ (at-ζ S α + j) % p = ap (λ n. (at-ζ S α + n) % p) (Nat.one-mul j) in

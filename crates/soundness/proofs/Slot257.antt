@@ -5,7 +5,8 @@ use Prim.Native.Nat.{_%_}
 use Rattle.definitions.specs.Rq.{Element, coeff}
 use Rattle.definitions.specs.Ring.{RqOps, words, scalar}
 use Rattle.protocol.specs.Formulas.{_⊕_, _⊗_}
-use Rattle.soundness.specs.Slot.{ExactlyOne, e, at-ζ}
+use Rattle.soundness.specs.Share.{Exactly-one}
+use Rattle.soundness.specs.Slot.{e, at-ζ}
 use Rattle.soundness.specs.Slot257.{slot-257, slot-65537}
 use Rattle.soundness.proofs.Slot.{zero-exactly-when, constant-e, one-weight}
 
@@ -18,7 +19,7 @@ pub zero-modulo-257 : (α : Element) → (α ⊗ e slot-257 ≡ RqOps .nil) ↔ 
 zero-modulo-257 = zero-exactly-when slot-257
 
 -- one weight in 257 sends e to 0
-pub one-weight-in-257 : (α : Element) → ExactlyOne 257 (λ j. (α ⊕ scalar j) ⊗ e slot-257 ≡ RqOps .nil)
+pub one-weight-in-257 : (α : Element) → Exactly-one 257 (λ j. (α ⊕ scalar j) ⊗ e slot-257 ≡ RqOps .nil)
 one-weight-in-257 = one-weight slot-257
 
 -- coeff0(e) = Q/65537
@@ -30,5 +31,5 @@ pub zero-modulo-65537 : (α : Element) → (α ⊗ e slot-65537 ≡ RqOps .nil) 
 zero-modulo-65537 = zero-exactly-when slot-65537
 
 -- one weight in 65537 sends e to 0
-pub one-weight-in-65537 : (α : Element) → ExactlyOne 65537 (λ j. (α ⊕ scalar j) ⊗ e slot-65537 ≡ RqOps .nil)
+pub one-weight-in-65537 : (α : Element) → Exactly-one 65537 (λ j. (α ⊕ scalar j) ⊗ e slot-65537 ≡ RqOps .nil)
 one-weight-in-65537 = one-weight slot-65537

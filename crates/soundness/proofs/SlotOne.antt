@@ -5,15 +5,15 @@ use Prim.Native.Nat.{ℕ, _+_, _-_, _*_, _%_, _<_}
 use native.Mathlib.Nat as Nat
 use native.Mathlib.Omega.{arith}
 use Rattle.definitions.proofs.Modulo.{mul-mod-first, mul-mod-second, add-neg-mod, add-cancel-mod}
-use Rattle.soundness.specs.Slot.{ExactlyOne}
+use Rattle.soundness.specs.Share.{Exactly-one}
 
 -- of two properties that hold together
-pub exactly-one-iff : {n : ℕ} {A B : ℕ → Type 0} → ((j : ℕ) → A j ↔ B j) → ExactlyOne n A → ExactlyOne n B
+pub exactly-one-iff : {n : ℕ} {A B : ℕ → Type 0} → ((j : ℕ) → A j ↔ B j) → Exactly-one n A → Exactly-one n B
 exactly-one-iff iff found = record {
-  one = found .one;
+  the-one = found .the-one;
   below = found .below;
-  has = iff (found .one) .0 (found .has);
-  only = λ j h b. found .only j h (iff j .1 b);
+  it-holds = iff (found .the-one) .0 (found .it-holds);
+  no-other = λ j h b. found .no-other j h (iff j .1 b);
 }
 
 module _ (p : ℕ) (positive : 0 < p) (w u : ℕ) (unit : u * w % p ≡ 1) where
@@ -26,8 +26,8 @@ module _ (p : ℕ) (positive : 0 < p) (w u : ℕ) (unit : u * w % p ≡ 1) where
       ∙ ap (λ n. n % p) (Nat.one-mul x)
 
   -- exactly one j below p has c + w·j ≡ 0 modulo p
-  pub one-solution : (c : ℕ) → ExactlyOne p (λ j. (c + w * j) % p ≡ 0)
-  one-solution c = record { one = j₀; below = Nat.mod-lt (u * (p - c % p)) positive; has = solves; only = alone }
+  pub one-solution : (c : ℕ) → Exactly-one p (λ j. (c + w * j) % p ≡ 0)
+  one-solution c = record { the-one = j₀; below = Nat.mod-lt (u * (p - c % p)) positive; it-holds = solves; no-other = alone }
     where
       j₀ : ℕ
       j₀ = u * (p - c % p) % p

@@ -7,6 +7,7 @@ use Prim.Native.Nat.{ℕ, zero, suc, _+_, _*_, _/_, _%_, _≤_, _<_}
 use native.Mathlib.Nat as Nat
 use native.Mathlib.Decide.{decLe, ℕ-discrete}
 use native.Mathlib.Omega.{arith}
+use borrow.Author.Tests.{ne-eqb}
 use lib.Dec.{eqb}
 use lib.ListN.{length}
 use Rattle.lists.specs.Sum.{Σ}
@@ -36,7 +37,9 @@ use Rattle.protocol.proofs.Fine.{require-holds, then-both-fine}
 use Rattle.protocol.proofs.Checks.{require-iff}
 use Rattle.protocol.proofs.Corollary.{alpha-error-zero}
 use Rattle.soundness.specs.Altered.{altered, altered-words, made-transcript, honest, beta-sum, Within, RingsMet, Corrects, norms}
-use Rattle.soundness.specs.Slot.{Slot, ExactlyOne, shift, e, at-ζ, Multiples, v, ε, weighed}
+use Rattle.soundness.specs.Share.{Exactly-one}
+use Rattle.soundness.specs.Weights.{shifted}
+use Rattle.soundness.specs.Slot.{Slot, e, at-ζ, Multiples, v, ε, weighed-at-ζ}
 use Rattle.soundness.proofs.Altered.{one-equation}
 use Rattle.soundness.proofs.AlteredWords.{one-equation-of-words}
 use Rattle.soundness.proofs.SlotOne.{exactly-one-iff, one-solution}
@@ -72,8 +75,8 @@ module _ (S : Slot) where
         ∙ ap (RqOps .neg) (sum-of-multiples (X .P .L) (λ k. v S X m k * at-ζ S (X .beta k)))
 
     -- Σ β_k⊗ε_k = 0 exactly when Σ v_k·β_k(ζ) ≡ 0 modulo p
-    pub beta-sum-zero : (beta-sum X (ε S X m) ≡ RqOps .nil) ↔ (weighed S X m (X .beta) ≡ 0)
-    unfolding weighed
+    pub beta-sum-zero : (beta-sum X (ε S X m) ≡ RqOps .nil) ↔ (weighed-at-ζ S X m (X .beta) ≡ 0)
+    unfolding weighed-at-ζ
     beta-sum-zero =
         let total = Σ (X .P .L) (λ k. v S X m k * at-ζ S (X .beta k)) in (
           λ h. multiple-is-zero S total .0 (neg-inj RqOps rq-ring (scale (e S) total) (RqOps .nil) (sym beta-sum-is ∙ h ∙ sym (neg-nil RqOps rq-ring))),
@@ -81,24 +84,30 @@ module _ (S : Slot) where
         )
 
     -- where v_k is a unit modulo p, exactly one of the weights β_k, β_k ⊕ 1, …, β_k ⊕ (p − 1) meets the equation
-    pub one-beta : (β : ℕ → Element) (k u : ℕ) → k < X .P .L → u * v S X m k % p ≡ 1 → ExactlyOne p (λ j. weighed S X m (shift k j β) ≡ 0)
-    unfolding weighed
+    pub one-beta : (β : ℕ → Element) (k u : ℕ) → k < X .P .L → u * v S X m k % p ≡ 1 → Exactly-one p (λ j. weighed-at-ζ S X m (shifted β k (scalar j)) ≡ 0)
+    unfolding weighed-at-ζ shifted
     one-beta β k u h unit = exactly-one-iff (λ j. (λ z. moved j ∙ z, λ z. sym (moved j) ∙ z)) (one-solution p (positive S) (v S X m k) u unit total)
       where
         total : ℕ
         total = Σ (X .P .L) (λ i. v S X m i * at-ζ S (β i))
 
         -- one term of the sum, reduced
-        term : (j i : ℕ) (t : Bool) → v S X m i * at-ζ S (cond t (β k ⊕ scalar j) (β i)) % p ≡ v S X m i * cond t (at-ζ S (β k) + j) (at-ζ S (β i)) % p
-        term j i true = sym (mul-mod-second p (v S X m i) (at-ζ S (β k ⊕ scalar j))) ∙ ap (λ n. v S X m i * n % p) (at-ζ-shifted S (β k) j) ∙ mul-mod-second p (v S X m i) (at-ζ S (β k) + j)
+        term : (j i : ℕ) (t : Bool) → v S X m i * at-ζ S (cond t (β i ⊕ scalar j) (β i)) % p ≡ v S X m i * cond t (at-ζ S (β i) + j) (at-ζ S (β i)) % p
+        term j i true = sym (mul-mod-second p (v S X m i) (at-ζ S (β i ⊕ scalar j))) ∙ ap (λ n. v S X m i * n % p) (at-ζ-shifted S (β i) j) ∙ mul-mod-second p (v S X m i) (at-ζ S (β i) + j)
         term j i false = refl
+
+        -- the changed value is that at k
+        at-k : (j i : ℕ) → Dec (i ≡ k) → cond (eqb i k) (at-ζ S (β i) + j) (at-ζ S (β i)) ≡ cond (eqb i k) (at-ζ S (β k) + j) (at-ζ S (β i))
+        at-k j i (yes same) = ap (λ x. cond (eqb i k) (at-ζ S (β x) + j) (at-ζ S (β i))) same
+        at-k j i (no other) = ap (λ c. cond c (at-ζ S (β i) + j) (at-ζ S (β i))) (ne-eqb i k other) ∙ sym (ap (λ c. cond c (at-ζ S (β k) + j) (at-ζ S (β i))) (ne-eqb i k other))
 
         more : (a b c w j : ℕ) → a + w * c ≡ b + w * (c + j) → a ≡ b + w * j
         more a b c w j e = omega arith
 
-        moved : (j : ℕ) → Σ (X .P .L) (λ i. v S X m i * at-ζ S (shift k j β i)) % p ≡ (total + v S X m k * j) % p
+        moved : (j : ℕ) → Σ (X .P .L) (λ i. v S X m i * at-ζ S (shifted β k (scalar j) i)) % p ≡ (total + v S X m k * j) % p
         moved j =
-            Σ-mod-ext (X .P .L) p (λ i. v S X m i * at-ζ S (shift k j β i)) (λ i. v S X m i * cond (eqb i k) (at-ζ S (β k) + j) (at-ζ S (β i))) (λ i l. term j i (eqb i k))
+            Σ-mod-ext (X .P .L) p (λ i. v S X m i * at-ζ S (shifted β k (scalar j) i)) (λ i. v S X m i * cond (eqb i k) (at-ζ S (β k) + j) (at-ζ S (β i)))
+            (λ i l. term j i (eqb i k) ∙ ap (λ n. v S X m i * n % p) (at-k j i (ℕ-discrete i k)))
             ∙ ap (λ n. n % p) (more _ total (at-ζ S (β k)) (v S X m k) j (Σ-changed (X .P .L) k (v S X m) (λ i. at-ζ S (β i)) (at-ζ S (β k) + j) h))
 
     module _ (s : ℕ → ℕ → Element) (multiples : Multiples S X m s) where
@@ -126,17 +135,17 @@ module _ (S : Slot) where
           ∙ sym (ap residue (psi-error-multiple k) ∙ residue-reduced (Q / p * v S X m k))))
 
       -- the ring constraints met, 27 asks that Σ v_k·β_k(ζ) ≡ 0 modulo p
-      equation-is : RingsMet X s → require (same (alpha-error X s) (beta-sum X (ε S X m))) (failed 27 []) ≡ require (ℕ-discrete (weighed S X m (X .beta)) 0) (failed 27 [])
+      equation-is : RingsMet X s → require (same (alpha-error X s) (beta-sum X (ε S X m))) (failed 27 []) ≡ require (ℕ-discrete (weighed-at-ζ S X m (X .beta)) 0) (failed 27 [])
       equation-is met =
           let none = alpha-error-zero X s met ∙ sym words-nil in
-          require-iff (same (alpha-error X s) (beta-sum X (ε S X m))) (ℕ-discrete (weighed S X m (X .beta)) 0) (failed 27 []) (failed 27 [])
+          require-iff (same (alpha-error X s) (beta-sum X (ε S X m))) (ℕ-discrete (weighed-at-ζ S X m (X .beta)) 0) (failed 27 []) (failed 27 [])
           (λ h. beta-sum-zero .0 (words-path (beta-sum X (ε S X m)) (RqOps .nil) (sym h ∙ none)))
           (λ h. none ∙ ap words (sym (beta-sum-zero .1 h)))
           refl
 
       -- the verdict on the message with altered b'': 21, 23, and one equation modulo p
       pub one-slot : Within X s → RingsMet X s
-          → checks X (altered (ε S X m) (honest X s)) ≡ norms X s then require (ℕ-discrete (weighed S X m (X .beta)) 0) (failed 27 []) then accepted (cells-left X s)
+          → checks X (altered (ε S X m) (honest X s)) ≡ norms X s then require (ℕ-discrete (weighed-at-ζ S X m (X .beta)) 0) (failed 27 []) then accepted (cells-left X s)
       one-slot within met = one-equation X s (ε S X m) within slot-corrects ∙ ap (λ x. norms X s then x then accepted (cells-left X s)) (equation-is met)
 
 -- the same over the verifier's words: a prover's call that is refused nothing, and scratch enough for the verifier
@@ -150,14 +159,14 @@ module _ (J R W scratch output : List ℕ) (lent : ℕ) (proved : prove whole J 
 
   pub one-slot-of-words : (S : Slot) (m : ℕ → ℕ) → RingsMet X s → Multiples S X m s
       → verify J R (altered-words (parameters J) (ε S X m) (made-transcript J R W scratch output)) lent
-      ≡ norms X s then require (ℕ-discrete (weighed S X m (X .beta)) 0) (failed 27 []) then accepted (cells-left X s)
+      ≡ norms X s then require (ℕ-discrete (weighed-at-ζ S X m (X .beta)) 0) (failed 27 []) then accepted (cells-left X s)
   one-slot-of-words S m met multiples =
       one-equation-of-words J R W scratch output lent proved enough (ε S X m) (slot-corrects S X m s multiples)
       ∙ ap (λ x. norms X s then x then accepted (cells-left X s)) (equation-is S X m s multiples met)
 
   -- the equation met and both norms within their limits, the transcript is accepted, whatever multiples of Q/p the constant-term errors are
   pub accepted-in-one-slot : (S : Slot) (m : ℕ → ℕ) → RingsMet X s → Multiples S X m s
-      → p-norm X s ≤ 128 * X .P .beta-sq → digit-sum X s ≤ X .P .beta-prime-sq → weighed S X m (X .beta) ≡ 0
+      → p-norm X s ≤ 128 * X .P .beta-sq → digit-sum X s ≤ X .P .beta-prime-sq → weighed-at-ζ S X m (X .beta) ≡ 0
       → verify J R (altered-words (parameters J) (ε S X m) (made-transcript J R W scratch output)) lent ≡ accepted (cells-left X s)
   unfolding norms
   accepted-in-one-slot S m met multiples projection digits solved =
@@ -165,5 +174,5 @@ module _ (J R W scratch output : List ℕ) (lent : ℕ) (proved : prove whole J 
       ∙ (λ i.
       then-both-fine (require-holds (decLe (p-norm X s) (128 * X .P .beta-sq)) (failed 21 (p-norm X s ∷ 128 * X .P .beta-sq ∷ [])) projection)
       (require-holds (decLe (digit-sum X s) (X .P .beta-prime-sq)) (failed 23 (digit-sum X s ∷ X .P .beta-prime-sq ∷ [])) digits) i
-      then require-holds (ℕ-discrete (weighed S X m (X .beta)) 0) (failed 27 []) solved i
+      then require-holds (ℕ-discrete (weighed-at-ζ S X m (X .beta)) 0) (failed 27 []) solved i
       then accepted (cells-left X s))

@@ -1,17 +1,15 @@
 -- A slot: a root ζ of X^64 + 1 modulo a divisor p of Q, and the element e of it, whose product with α depends on α(ζ) modulo p alone.
 use mathlib.Core.Path.{_≡_}
-use mathlib.Core.Bool.{cond}
 use mathlib.Core.List.{[], _∷_}
 use Prim.Native.Nat.{ℕ, _+_, _*_, _/_, _%_, _^_, _<_}
-use lib.Dec.{eqb}
 use Rattle.lists.specs.Table.{table}
 use Rattle.lists.specs.Sum.{Σ}
 use Rattle.definitions.specs.Zq.{Q}
 use Rattle.definitions.specs.Rq.{Element, coeff}
-use Rattle.definitions.specs.Ring.{RqOps, words, element, scalar, scale}
+use Rattle.definitions.specs.Ring.{RqOps, words, element, scale}
 use Rattle.protocol.specs.Views.{Public}
-use Rattle.protocol.specs.Formulas.{_⊕_}
 use Rattle.protocol.specs.Conditions.{constant-error}
+use Rattle.soundness.specs.Rows.{weighed}
 
 -- p divides Q, ζ^64 ≡ −1 modulo p, and ζ⁻¹ is the inverse of ζ
 pub record Slot : Type 0 where
@@ -22,20 +20,9 @@ pub record Slot : Type 0 where
   pub root : (ζ ^ 64 + 1) % p ≡ 0
   pub inverse : ζ * ζ⁻¹ % p ≡ 1
 
--- of the numbers below n exactly one has a property
-pub record ExactlyOne (n : ℕ) (A : ℕ → Type 0) : Type 0 where
-  pub one : ℕ
-  pub below : one < n
-  pub has : A one
-  pub only : (j : ℕ) → j < n → A j → j ≡ one
-
 -- X
 abbrev pub X¹ : Element
 X¹ = element (0 ∷ 1 ∷ [])
-
--- β_k ⊕ j in place of β_k
-abbrev pub shift : ℕ → ℕ → (ℕ → Element) → ℕ → Element
-shift k j β i = cond (eqb i k) (β k ⊕ scalar j) (β i)
 
 module _ (S : Slot) where
   open Slot S using (p, ζ, ζ⁻¹)
@@ -69,5 +56,5 @@ module _ (S : Slot) where
     ε k = RqOps .neg (scale e (v k))
 
     -- Σ v_k·β_k(ζ) modulo p
-    unfoldable pub weighed : (ℕ → Element) → ℕ
-    weighed β = Σ (X .P .L) (λ k. v k * at-ζ (β k)) % p
+    unfoldable pub weighed-at-ζ : (ℕ → Element) → ℕ
+    weighed-at-ζ β = weighed p (X .P .L) v (λ k. at-ζ (β k))
