@@ -18,17 +18,22 @@ fn the_commands_of_the_readme_say_what_it_says() {
     let root = Path::new(env!("CARGO_MANIFEST_DIR")).join("../../..");
     let readme = std::fs::read_to_string(root.join("README.md")).expect("the README");
     let lines = indented(&readme, "From the command line");
-    let commands: Vec<String> =
-        lines.iter().filter(|l| l.starts_with("labrador ") || l.starts_with("printf ")).cloned().collect();
-    let said: Vec<&String> = lines.iter().filter(|l| l.starts_with("labrador: ")).collect();
-    assert_eq!((commands.len(), said.len()), (5, 1), "{lines:?}");
+    let is_typed = |line: &&String| ["labrador ", "printf ", "for "].iter().any(|begin| line.starts_with(begin));
+    let commands: Vec<String> = lines.iter().filter(is_typed).cloned().collect();
+    // said in a line of its own, or between backquotes
+    let part = readme.split("\n## ").find(|part| part.starts_with("From the command line")).unwrap();
+    let quoted = part.split('`').filter(|quoted| quoted.starts_with("labrador: "));
+    let said: Vec<&str> =
+        lines.iter().map(String::as_str).filter(|l| l.starts_with("labrador: ")).chain(quoted).collect();
+    assert!(commands.len() >= 5 && said.len() >= 2, "{lines:?}");
     let desk = Desk::new("readme");
     let folder = Path::new(BINARY).parent().expect("the binary's folder");
     let script = format!("PATH={}:$PATH\n{}", folder.display(), commands.join("\n"));
     let output = Command::new("sh").args(["-c", &script]).current_dir(&desk.folder).output().expect("a shell");
     let told = ran(output);
-    assert_eq!(told.status, 2);
     let answers: Vec<&str> = told.line.lines().collect();
-    assert_eq!(answers.len(), 4, "{}", told.line);
-    assert_eq!((answers[2], answers[3]), ("labrador: accepted, 0 cells with something left", said[0].as_str()));
+    for line in said {
+        assert!(answers.contains(&line), "{line} is not said:\n{}", told.line);
+    }
+    assert!(answers.iter().any(|line| line.starts_with("labrador: accepted; one transcript: 1 in ")), "{}", told.line);
 }
