@@ -1,40 +1,8 @@
-//! Linear equations over the ring, solved modulo each prime of Q.
+//! Linear equations over the ring, solved modulo a prime, and elements joined from their residues.
 
 use labrador::{Element, Q};
 
-/// The primes of Q, which is no multiple of a square.
-pub fn primes() -> Vec<u64> {
-    let (mut rest, mut primes) = (u64::from(Q), Vec::new());
-    let mut factor = 2;
-    while factor * factor <= rest {
-        if rest % factor == 0 {
-            primes.push(factor);
-            rest /= factor;
-            assert!(rest % factor != 0);
-        }
-        factor += 1;
-    }
-    primes.push(rest);
-    primes
-}
-
-fn power(base: u64, exponent: u64, prime: u64) -> u64 {
-    match exponent {
-        0 => 1,
-        _ => {
-            let half = power(base * base % prime, exponent / 2, prime);
-            if exponent % 2 == 0 {
-                half
-            } else {
-                half * base % prime
-            }
-        }
-    }
-}
-
-fn inverse(number: u64, prime: u64) -> u64 {
-    power(number % prime, prime - 2, prime)
-}
+use crate::modular::inverse;
 
 /// u with Σ_m rows[k][m]·u_m = right[k] for each k, modulo a prime; nothing where elimination finds none.
 pub fn solve(rows: &[Vec<Element>], right: &[Element], prime: u64) -> Option<Vec<Element>> {

@@ -10,11 +10,13 @@ mod common;
 
 mod forger;
 mod linear;
+mod modular;
 mod rates;
 mod ring;
 mod sessions;
 mod slot;
 mod statement;
+mod without;
 mod words;
 
 mod long_witness;

@@ -2,6 +2,7 @@
 
 use labrador::{Element, Q};
 
+use crate::modular::power;
 use crate::ring::{mul, scale};
 use crate::words::Words;
 
@@ -13,20 +14,18 @@ pub struct Slot {
     pub powers: Element,
 }
 
-fn power(base: u32, exponent: u32, prime: u32) -> u32 {
-    (0..exponent).fold(1, |product, _| times(product, base, prime))
-}
-
-fn times(a: u32, b: u32, prime: u32) -> u32 {
-    (u64::from(a) * u64::from(b) % u64::from(prime)) as u32
-}
-
 impl Slot {
     /// A slot of a prime that is 1 modulo 128.
     pub fn of(prime: u32) -> Slot {
-        let root = (2..prime).find(|&root| power(root, 64, prime) == prime - 1).expect("a root of X^64 + 1");
-        let powers = Element { coeffs: std::array::from_fn(|i| power(root, 128 - i as u32, prime)) };
+        let to = |root: u32, exponent: u64| power(root.into(), exponent, prime.into()) as u32;
+        let root = (2..prime).find(|&root| to(root, 64) == prime - 1).expect("a root of X^64 + 1");
+        let powers = Element { coeffs: std::array::from_fn(|i| to(root, 128 - i as u64)) };
         Slot { prime, root, powers }
+    }
+
+    /// Whether Q has it: over a modulus that the prime does not divide, there is no slot.
+    pub fn is_of_q(&self) -> bool {
+        Q.is_multiple_of(self.prime)
     }
 
     /// e: coefficient i is (Q/prime)·ζ^(-i).
@@ -34,9 +33,10 @@ impl Slot {
         scale(&self.powers, Q / self.prime)
     }
 
-    /// An element's value at ζ, where the prime divides Q.
+    /// An element's value at ζ.
     pub fn value(&self, a: &Element) -> u32 {
-        a.coeffs.iter().rev().fold(0, |value, &c| (times(value, self.root, self.prime) + c % self.prime) % self.prime)
+        let [prime, root] = [self.prime, self.root].map(u64::from);
+        a.coeffs.iter().rev().fold(0, |value, &c| (value * root + u64::from(c)) % prime) as u32
     }
 }
 
@@ -45,16 +45,13 @@ impl Slot {
 fn a_weight_meets_the_element_in_one_slot() {
     let mut words = Words::seeded(1);
     for slot in [257, 65537].map(Slot::of) {
-        if Q % slot.prime != 0 {
-            continue;
-        }
         let e = slot.element();
-        assert_eq!(mul(&Element::monomial(1, 1), &e), scale(&e, slot.root));
+        assert_eq!(mul(&Element::monomial(1, 1), &e) == scale(&e, slot.root), slot.is_of_q());
         for _ in 0..600 {
             let weight = Element { coeffs: std::array::from_fn(|_| words.number()) };
             let product = mul(&weight, &e);
-            assert_eq!(product, scale(&e, slot.value(&weight)));
-            assert_eq!(product == Element::ZERO, slot.value(&weight) == 0);
+            assert_eq!(product == scale(&e, slot.value(&weight)), slot.is_of_q());
+            assert_eq!(product == Element::ZERO, slot.is_of_q() && slot.value(&weight) == 0);
         }
     }
 }

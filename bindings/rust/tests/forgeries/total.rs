@@ -36,7 +36,7 @@ fn fixed_seeds() {
         let forged = judged(&statement, &slot, None, &mut words);
         let (had, claimed) = statement.total();
         assert_ne!(had, claimed);
-        assert_eq!(forged.verdict.is_accepted(), Q % slot.prime == 0, "seed {seed}: {}", forged.verdict);
+        assert_eq!(forged.verdict.is_accepted(), slot.is_of_q(), "seed {seed}: {}", forged.verdict);
 
         let randomness = &forged.session.randomness;
         let honest = prove(&statement.job, randomness, &statement.witness_slice()).expect("a short witness");
