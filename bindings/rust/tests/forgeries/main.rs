@@ -2,7 +2,7 @@
 //! seed. Each test holds the verdicts and how many are accepted to the figures in `rates`.
 //!
 //! `LABRADOR_SESSIONS=100000 cargo test --offline --release --test forgeries -- --nocapture` runs that many sessions of each
-//! route.
+//! route that has a rate; `-- --ignored` in place of `-- --nocapture` runs what takes too long for every day.
 
 #[allow(dead_code)]
 #[path = "../common/mod.rs"]

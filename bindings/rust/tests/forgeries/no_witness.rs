@@ -61,12 +61,18 @@ fn limited(p: &Parameters, words: &mut Words) -> Statement {
     statement
 }
 
-/// The honest sum in check 23 has r·κ + r(r+1)/2 cells of any size, those of t and h; this one has z's n and one of h. With two
-/// digits of the base 65536 they weigh alike.
+/// The honest sum in check 23 has r·κ + r(r+1)/2 cells of any size, those of t and h; this one has 2·κ + 2 elements of z, the others
+/// being zero, and one cell of h. With two digits of the base 65536 an element and a cell weigh alike.
 #[test]
 fn check_23_with_an_honest_limit_and_a_wide_base() {
-    let p = Parameters { n: 4, r: 3, ..SMALLEST };
-    hold_accepted(&p, 0..8, limited);
+    hold_accepted(&Parameters { n: 4, r: 3, ..SMALLEST }, 0..8, limited);
+}
+
+#[test]
+#[ignore = "half a minute"]
+fn check_23_with_an_honest_limit_at_n_64() {
+    let p = Parameters { n: 64, r: 16, kappa: 4, kappa_1: 4, kappa_2: 4, ..SMALLEST };
+    hold_accepted(&p, 0..1, limited);
 }
 
 /// With four digits of the base 256 the second part of z weighs more than all digits.

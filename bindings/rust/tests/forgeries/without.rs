@@ -104,7 +104,7 @@ pub fn zeros(count: u64) -> Vec<Element> {
 
 /// A z of that form which the rows send to the right sides, modulo a prime: of the first choice of signs that gives one.
 fn isotropic(rows: &[Vec<Element>], right: &[Element], prime: u64) -> Option<Vec<Element>> {
-    let pairs = rows[0].len() / 2;
+    let choices = 1 << (rows[0].len() / 2).min(8);
     let of_signs = |signs: u32| {
         let i = |m: usize| Element::monomial(if signs >> m & 1 == 0 { 1 } else { Q - 1 }, 32);
         let paired = |row: &Vec<Element>| {
@@ -114,5 +114,5 @@ fn isotropic(rows: &[Vec<Element>], right: &[Element], prime: u64) -> Option<Vec
         let u = solve(&rows.iter().map(paired).collect::<Vec<_>>(), right, prime)?;
         Some(u.iter().enumerate().flat_map(|(m, u)| [*u, mul(&i(m), u)]).collect::<Vec<_>>())
     };
-    (0..1 << pairs).find_map(of_signs)
+    (0..choices).find_map(of_signs)
 }
