@@ -1,5 +1,6 @@
 //! Route "no witness at all": where check 23 leaves z free and n is at least 2·κ + 2, any statement is accepted.
 
+use labrador::review::{review, Severity};
 use labrador::{prove, verify, Parameters, Verdict, Q};
 
 use crate::common::set_bound;
@@ -19,11 +20,13 @@ fn judged(statement: &Statement, words: &mut Words) -> Verdict {
     verify(&statement.job, &session.randomness, &session.transcript)
 }
 
-/// Each seed's session is accepted.
+/// Each seed's session is accepted, and the review has said so.
 fn hold_accepted(p: &Parameters, seeds: std::ops::Range<u64>, make: fn(&Parameters, &mut Words) -> Statement) {
     for seed in seeds {
         let mut words = Words::seeded(seed);
-        let verdict = judged(&make(p, &mut words), &mut words);
+        let statement = make(p, &mut words);
+        assert_eq!(review(&statement.job).expect("a fit job")[0].severity(), Severity::Anything);
+        let verdict = judged(&statement, &mut words);
         assert!(verdict.is_accepted(), "seed {seed}: {verdict}");
     }
 }
@@ -81,6 +84,8 @@ fn check_23_with_an_honest_limit_and_a_narrow_base() {
     let p = Parameters { n: 4, r: 3, b: 256, t_1: 4, t_2: 4, ..SMALLEST };
     for seed in 0..4 {
         let mut words = Words::seeded(seed);
-        assert_eq!(judged(&limited(&p, &mut words), &mut words).number(), 23, "seed {seed}");
+        let statement = limited(&p, &mut words);
+        assert_ne!(review(&statement.job).expect("a fit job")[0].severity(), Severity::Anything);
+        assert_eq!(judged(&statement, &mut words).number(), 23, "seed {seed}");
     }
 }
