@@ -1,7 +1,8 @@
 //! LaBRADOR from Rust: the proved calls of `liblabrador.a`, safe, with their answers as enums and in words.
 //!
 //! A store's prover turns a job (the statement), randomness and a witness into a transcript; a lender's verifier judges it.
-//! All four are slices of words (`u32`), each made of sections after their counts.
+//! All four are slices of words (`u32`), each made of sections after their counts. What an acceptance is worth, which of one transcript is
+//! little, says [`worth`]; what a job does not force, [`review`].
 //!
 //! ```
 //! use labrador::{load, prove, verify, Parameters};
@@ -35,6 +36,7 @@ mod number;
 mod place;
 mod prover;
 mod ranges;
+mod reach;
 mod refusal;
 pub mod review;
 mod rounds;
@@ -43,6 +45,7 @@ pub mod sections;
 mod sheds;
 mod verdict;
 mod verifier;
+pub mod worth;
 
 pub use element::{ChallengeWords, DigitRows, Element};
 pub use load::{load, load_into, load_needs, Load, LoadNeeds};

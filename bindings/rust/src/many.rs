@@ -54,7 +54,8 @@ pub fn verify_many_with(
     Ok((0..count as usize).map(verdict).collect())
 }
 
-/// The verdicts on one to eight transcripts with their randomness, each that of [`verify`](crate::verify). Those whose slices have the
+/// The verdicts on one to eight transcripts with their randomness, each that of [`verify`](crate::verify). What accepted ones are worth
+/// together: [`Worth::drawn`](crate::worth::Worth::drawn), for as many as [`repeats`](crate::worth::repeats) leaves. Those whose slices have the
 /// length that the job fixes are judged in one call, which reads the job and its matrices once for all; the others by
 /// themselves, so that none is moved by another's length.
 ///

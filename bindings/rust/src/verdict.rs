@@ -9,7 +9,7 @@ use crate::refusal::Refusal;
 /// What the verifier says of a transcript.
 #[derive(Clone, Debug, PartialEq, Eq)]
 pub enum Verdict {
-    /// Every check passed. `cells_left` cells of t, g and h together have a coefficient with something left after its
+    /// Every check passed; [`crate::worth`] says what that is worth. `cells_left` cells of t, g and h together have a coefficient with something left after its
     /// digits.
     Accepted { cells_left: u64 },
     /// The input is unfit.

@@ -8,9 +8,9 @@ use crate::json::Json;
 /// The exit statuses.
 #[derive(Clone, Copy, Debug, PartialEq, Eq)]
 pub enum Status {
-    /// Accepted, made, or nothing found.
+    /// Accepted, made, or nothing found but what holds of every job.
     Fine = 0,
-    /// A failed check, or something found.
+    /// A failed check, something found, or under --strict a check that can never fail.
     Failed = 1,
     /// Refused or unfit input.
     Unfit = 2,
@@ -26,6 +26,8 @@ pub struct End {
     pub status: Status,
     /// For standard output, unless it is to be JSON.
     pub out: String,
+    /// For standard error before the line, a line each.
+    pub warnings: Vec<String>,
     /// For standard error; nothing is said where it is empty.
     pub line: String,
     /// For machines, beside the status and the line.
@@ -34,11 +36,18 @@ pub struct End {
 
 impl End {
     pub fn new(status: Status, line: impl Into<String>) -> End {
-        End { status, out: String::new(), line: line.into(), fields: Vec::new() }
+        End { status, out: String::new(), warnings: Vec::new(), line: line.into(), fields: Vec::new() }
     }
 
     pub fn printing(mut self, out: String) -> End {
         self.out = out;
+        self
+    }
+
+    /// Said on standard error, and for machines.
+    pub fn warning(mut self, warnings: Vec<String>) -> End {
+        self.fields.push(("warnings", Json::List(warnings.iter().map(Json::text).collect())));
+        self.warnings = warnings;
         self
     }
 
@@ -57,6 +66,7 @@ impl End {
     pub fn say(self, json: bool) -> ExitCode {
         let out = if json { self.to_json() } else { self.out.clone() };
         let printed = print(&out);
+        self.warnings.iter().for_each(|warning| complain(&format!("warning: {warning}")));
         if !self.line.is_empty() {
             complain(&self.line);
         }

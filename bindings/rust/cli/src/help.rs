@@ -25,6 +25,8 @@ const FORCE: Opt = opt("--force", "", "overwrite files that are there");
 const JOB: Opt = opt("--job", "FILE", "the job: the statement");
 const RANDOMNESS: Opt = opt("--randomness", "FILE", "the randomness of the transcript");
 const WITNESS: Opt = opt("--witness", "FILE", "the witness; it is secret");
+const STRICT: Opt =
+    opt("--strict", "", "exit status 1 also where a check can never fail under this job, or weights are all zero");
 const TRANSCRIPT: Opt = opt("--transcript", "FILE", "the transcript");
 
 pub const LOAD: Command = Command {
@@ -60,9 +62,10 @@ pub const DESCRIBE: Command = Command {
 pub const REVIEW: Command = Command {
     name: "review",
     usage: "labrador review JOB",
-    about: "Says what a statement does not force: constraints that say nothing or repeat another, vectors that none touches, limits \
-            that no transcript can pass, rows and columns that are zero or equal, parts too few for the base. Exit status 0 with none, \
-            1 with some.",
+    about: "Says of every job what chance one accepted transcript leaves a false statement, how many transcripts give 64 bits, and what the \
+            statement does not force, the worst first: checks that can never fail, rows of A that are multiples of each other, norms and \
+            totals that can be wrong, constraints that say nothing, repeat or contradict another. The chances are those of the attacks \
+            that are known. Exit status 0 where it finds only what holds of every job, 1 with more.",
     options: &[JSON, HELP],
     example: "labrador review a.job",
 };
@@ -86,14 +89,17 @@ pub const PROVE: Command = Command {
 
 pub const VERIFY: Command = Command {
     name: "verify",
-    usage: "labrador verify --job FILE --randomness FILE --transcript FILE [--report PAGE.html]",
-    about: "Judges a transcript. Exit status 0 accepted, 1 a failed check, 2 refused. The randomness is taken as it is handed in: a \
-            verdict forces nothing where the sender could choose it.",
+    usage: "labrador verify --job FILE --randomness FILE --transcript FILE [--report PAGE.html] [--strict]",
+    about: "Judges a transcript. An acceptance is said with the chance that it leaves a false statement, which no single transcript \
+            makes small, and with the number of things that the job does not force, which labrador review lists. Exit status 0 \
+            accepted, 1 a failed check, 2 refused. The randomness is taken as it is handed in: a verdict forces nothing where the sender \
+            could choose it, or hashed it from this transcript alone.",
     options: &[
         JOB,
         RANDOMNESS,
         TRANSCRIPT,
         opt("--report", "FILE", "write the verdict as a page to read or print"),
+        STRICT,
         FORCE,
         JSON,
         HELP,
@@ -103,10 +109,11 @@ pub const VERIFY: Command = Command {
 
 pub const VERIFY_MANY: Command = Command {
     name: "verify-many",
-    usage: "labrador verify-many --job FILE RANDOMNESS TRANSCRIPT [RANDOMNESS TRANSCRIPT]…",
-    about: "Judges one to eight transcripts for one job, each with its own randomness, and prints a line for each. The job is read once \
-            for all. Exit status 0 all accepted, 1 a failed check, 2 one is refused.",
-    options: &[JOB, JSON, HELP],
+    usage: "labrador verify-many [--strict] --job FILE RANDOMNESS TRANSCRIPT [RANDOMNESS TRANSCRIPT]…",
+    about: "Judges one to eight transcripts for one job, each with its own randomness, and prints a line for each. Where all are accepted it \
+            says what they are worth together if the desk drew the randomness and nothing was tried again; what is handed in twice counts \
+            once. The job is read once for all. Exit status 0 all accepted, 1 a failed check, 2 one is refused.",
+    options: &[JOB, STRICT, JSON, HELP],
     example: "labrador verify-many --job a.job north.randomness north.transcript south.randomness south.transcript",
 };
 

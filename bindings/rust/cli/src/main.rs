@@ -14,6 +14,7 @@ mod judge;
 mod output;
 mod page;
 mod progress;
+mod worth;
 
 fn main() -> ExitCode {
     let arguments: Vec<OsString> = std::env::args_os().skip(1).collect();

@@ -1,4 +1,4 @@
-//! Constraints that say nothing or repeat another, and vectors that none touches.
+//! Constraints that say nothing, repeat another or contradict it, and vectors that none touches.
 
 use super::{Finding, Kind};
 use crate::section_one::Parameters;
@@ -44,16 +44,24 @@ impl<'a> Constraints<'a> {
         self.a.0 + (k * (self.a.1.len() / self.count)) as u64
     }
 
-    fn finding(&self, k: usize) -> Option<Finding> {
+    /// What is wrong with constraint k, held against those before it, and against the constraints that say more than one of this
+    /// kind: the constant term of a ring constraint is a constant-term constraint.
+    fn finding(&self, k: usize, more: Option<&Constraints>) -> Option<Finding> {
         let (kind, index, at) = (self.kind, k as u64, self.begin(k));
         let [a, phi, right] = self.parts(k);
         if zero(a) && zero(phi) {
             let met = zero(right);
             return Some(Finding::NoCoefficient { kind, index, met, at });
         }
-        let earlier = (0..k).find(|&j| self.parts(j) == self.parts(k))?;
-        let of = earlier as u64;
-        Some(Finding::Repeated { kind, index, of, at })
+        let own = (0..k).map(|j| (self, j));
+        let others = more.into_iter().flat_map(|more| (0..more.count).map(move |j| (more, j)));
+        let same_left: Vec<_> = own.chain(others).filter(|(c, j)| c.parts(*j)[..2] == [a, phi]).collect();
+        let same_right = same_left.iter().find(|(c, j)| c.parts(*j)[2][..right.len()] == *right);
+        match (same_right, same_left.first()) {
+            (Some((c, j)), _) => Some(Finding::Repeated { kind, index, of_kind: c.kind, of: *j as u64, at }),
+            (None, Some((c, j))) => Some(Finding::Contradicts { kind, index, of_kind: c.kind, of: *j as u64, at }),
+            (None, None) => None,
+        }
     }
 
     /// Whether some constraint has a coefficient of vector i.
@@ -81,7 +89,10 @@ pub(super) fn review(p: &Parameters, job: &[u32]) -> Vec<Finding> {
     let sections = placed(Slice::Job, p);
     let kinds = [(Kind::ConstantTerm, p.l), (Kind::Ring, p.K)]
         .map(|(kind, count)| Constraints::of(kind, count, &sections, job));
-    let mut found: Vec<Finding> = kinds.iter().flat_map(|c| (0..c.count).filter_map(|k| c.finding(k))).collect();
+    let [constant_terms, rings] = &kinds;
+    let mut found: Vec<Finding> =
+        (0..constant_terms.count).filter_map(|k| constant_terms.finding(k, Some(rings))).collect();
+    found.extend((0..rings.count).filter_map(|k| rings.finding(k, None)));
     let untouched = (0..p.r as usize).filter(|&i| kinds.iter().all(|c| !c.touches(p, i)));
     found.extend(untouched.map(|i| Finding::Untouched { vector: i as u64 }));
     found

@@ -1,59 +1,19 @@
-//! Limits that no norm can pass, and parts too few for the base.
+//! Limits that no norm can pass, limits of 0, and parts too few for the base.
 
 use super::Finding;
 use crate::number::parts_needed;
+use crate::reach::{bound_at, limits};
 use crate::refusal::Refusal;
 use crate::section_one::{Parameters, SectionOne, BOUNDS, PARAMETERS};
 
-/// The greatest size of a centred number.
-const GREATEST: u128 = 2147483647;
-
-/// Where a size goes after one digit: the size less its digit, divided by the base.
-fn rest(size: u128, base: u128) -> u128 {
-    let rem = size % base;
-    let up = u128::from(rem > base / 2);
-    size / base + up
-}
-
-/// The sum over the parts of the greatest square of that digit. A digit is at most half the base, and at most the size that
-/// is left when it is taken.
-fn digit_squares(base: u128, parts: u32) -> u128 {
-    let (mut size, mut sum) = (GREATEST, 0);
-    for _ in 0..parts {
-        let digit = size.min(base / 2);
-        sum += digit * digit;
-        size = rest(size, base);
-    }
-    sum
-}
-
-/// Each limit with its check or refusal and the greatest norm that it can be held against.
-fn greatest_norms(one: &SectionOne) -> [(u32, &'static str, u128, u128); 6] {
-    let p = &one.parameters;
-    let [n, r, kappa, base] = [p.n, p.r, p.kappa, p.b].map(u128::from);
-    let cells = u128::from(p.triangle());
-    let t = 64 * r * kappa * digit_squares(base, p.t_1);
-    let g = 64 * cells * digit_squares(base, p.t_2);
-    let h = 64 * cells * digit_squares(base, p.t_1);
-    let z = 64 * n * (digit_squares(base, 1) + rest(GREATEST, base).pow(2));
-    let greatest = [256 * GREATEST.pow(2), z + t + g + h, 64 * n * GREATEST.pow(2), t, g, h];
-    let numbers = [21, 23, 13, 14, 15, 16];
-    std::array::from_fn(|k| {
-        let (name, limit) = match k {
-            0 => ("128·beta_sq", one.projection_limit()),
-            _ => (BOUNDS[k].name, one.bounds[k]),
-        };
-        (numbers[k], name, limit, greatest[k])
-    })
-}
-
-pub(super) fn unreachable(one: &SectionOne) -> Vec<Finding> {
-    let each = greatest_norms(one).into_iter().enumerate();
-    let finding = |(k, (number, name, limit, greatest))| {
-        let at = (1 + PARAMETERS.len() + 3 * k) as u64;
-        (limit >= greatest).then_some(Finding::Unreachable { number, name, limit, greatest, at })
-    };
-    each.filter_map(finding).collect()
+pub(super) fn review(one: &SectionOne) -> Vec<Finding> {
+    let unreachable = limits(one).into_iter().filter(|limit| limit.limits_nothing()).map(|limit| {
+        let (number, name, greatest, at) = (limit.number, limit.name, limit.greatest, limit.at);
+        Finding::Unreachable { number, name, limit: limit.limit, greatest, at }
+    });
+    let no_room = one.bounds.iter().all(|&bound| bound == 0);
+    let no_room = no_room.then_some(Finding::NoRoom { at: bound_at(BOUNDS[0].name) });
+    unreachable.chain(no_room).chain([Finding::ProverAlone { at: bound_at("bound_A") }]).collect()
 }
 
 pub(super) fn few_parts(p: &Parameters) -> Result<Vec<Finding>, Refusal> {

@@ -1,7 +1,9 @@
-//! Rows of the matrices that are zero or repeat another, and zero columns of A.
+//! Rows of the matrices that are zero or repeat another, rows of A that are multiples of one row, and zero columns of A.
 
 use super::constraints::zero;
 use super::Finding;
+use crate::element::Element;
+use crate::norms::elements;
 use crate::section_one::Parameters;
 use crate::sections::{placed, Placed, Slice};
 
@@ -29,15 +31,53 @@ pub(super) fn review(p: &Parameters, job: &[u32]) -> Vec<Finding> {
             }
         }
     }
+    found.extend(multiples(p, job));
     found
 }
 
+fn a_of(p: &Parameters) -> Placed {
+    let all = placed(Slice::Job, p);
+    all.into_iter().find(|s| s.section.name == "A").expect("A is a matrix of the job")
+}
+
+/// Whether two rows are multiples of one row: modulo each prime of q the ring is a product of fields, so that is where every minor of two
+/// columns is 0.
+fn multiples_of_one(row: &[Element], other: &[Element]) -> bool {
+    let product = |a: &Element, b: &Element| a.mul_fast(b).expect("the job's words are below Q");
+    let columns = 0..row.len();
+    columns
+        .clone()
+        .all(|i| columns.clone().skip(i + 1).all(|j| product(&row[i], &other[j]) == product(&row[j], &other[i])))
+}
+
+/// Rows of A that are multiples of one row; where all are, that alone.
+fn multiples(p: &Parameters, job: &[u32]) -> Vec<Finding> {
+    let section = a_of(p);
+    let (rows, columns) = (p.kappa as usize, p.n as usize);
+    if columns == 1 {
+        return Vec::new();
+    }
+    let entries: Vec<Element> = elements(section.words(job)).collect();
+    let row = |k: usize| &entries[k * columns..(k + 1) * columns];
+    let of_one = |j: usize, k: usize| multiples_of_one(row(j), row(k));
+    if (0..rows).all(|k| (0..k).all(|j| of_one(j, k))) {
+        return vec![Finding::RankOne { rows: rows as u64, at: section.begin() }];
+    }
+    // rows that are zero or equal are told as that
+    let is_zero = |k: usize| row(k).iter().all(|element| *element == Element::ZERO);
+    let is_apart = |j: usize, k: usize| !is_zero(j) && !is_zero(k) && row(j) != row(k);
+    let finding = |k: usize| {
+        let of = (0..k).find(|&j| is_apart(j, k) && of_one(j, k))? as u64;
+        Some(Finding::MultipleRow { row: k as u64, of, at: section.begin() + 64 * (k * columns) as u64 })
+    };
+    (0..rows).filter_map(finding).collect()
+}
+
 pub(super) fn zero_columns(p: &Parameters, job: &[u32]) -> Vec<Finding> {
-    let all = matrices(p);
-    let (section, rows) = all.iter().find(|(s, _)| s.section.name == "A").expect("A is a matrix of the job");
-    let (words, columns) = (section.words(job), p.n as usize);
+    let section = a_of(p);
+    let (words, rows, columns) = (section.words(job), p.kappa as usize, p.n as usize);
     let element = |row: usize, column: usize| &words[64 * (row * columns + column)..][..64];
-    let empty = (0..columns).filter(|&column| (0..*rows).all(|row| zero(element(row, column))));
+    let empty = (0..columns).filter(|&column| (0..rows).all(|row| zero(element(row, column))));
     let finding =
         |column: usize| Finding::ZeroColumn { column: column as u64, at: section.begin() + 64 * column as u64 };
     empty.map(finding).collect()

@@ -14,3 +14,4 @@ mod mistyped;
 mod norms;
 mod review;
 mod sheds;
+mod worth;

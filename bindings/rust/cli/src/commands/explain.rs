@@ -42,7 +42,7 @@ pub fn run(command: &Command, args: &Args) -> Outcome {
     };
     let shown = number.to_string_lossy();
     if shown.parse() == Ok(0u32) {
-        let out = "0: accepted, or made: nothing is refused and every check passed\n".to_string();
+        let out = "0: accepted, or made: nothing is refused and every check passed; labrador review JOB says what an acceptance is worth\n".to_string();
         return Ok(End::new(Status::Fine, "").printing(out).with(vec![("number", Json::Number(0))]));
     }
     match shown.parse().ok().and_then(meaning) {

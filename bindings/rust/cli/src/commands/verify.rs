@@ -2,7 +2,6 @@
 
 use std::path::Path;
 
-use labrador::review::review;
 use labrador::{verify, FailedCheck, Refusal, Verdict};
 
 use crate::args::Args;
@@ -14,6 +13,7 @@ use crate::judge;
 use crate::output::{self, Output};
 use crate::page::{page, Report, SLICES};
 use crate::progress::Progress;
+use crate::worth::{listed, warnings, Told};
 
 /// The figures of a failed check.
 fn figures(check: &FailedCheck) -> Vec<(&'static str, Json)> {
@@ -51,17 +51,37 @@ pub fn told(verdict: &Verdict) -> (Status, Vec<(&'static str, Json)>) {
     (status, [told, more].concat())
 }
 
-/// A verdict in words; a refused file that is fit as another slice is told.
-pub fn line(verdict: &Verdict, slices: [&[u32]; 3]) -> String {
-    match verdict {
-        Verdict::Refused(refusal) => judge::told(refusal, [0, 1, 2].map(|k| (SLICES[k], slices[k]))),
+/// `; 11 cells with something left` where there are any.
+fn cells(cells_left: u64) -> String {
+    match cells_left {
+        0 => String::new(),
+        1 => "; 1 cell with something left".to_string(),
+        cells_left => format!("; {cells_left} cells with something left"),
+    }
+}
+
+/// A verdict in words, an acceptance with what it is worth; a refused file that is fit as another slice is told.
+pub fn line(verdict: &Verdict, slices: [&[u32]; 3], job: Option<&Told>, warnings: &[String]) -> String {
+    match (verdict, job) {
+        (Verdict::Refused(refusal), _) => judge::told(refusal, [0, 1, 2].map(|k| (SLICES[k], slices[k]))),
+        (Verdict::Accepted { cells_left }, Some(job)) => {
+            format!("accepted; {}{}", job.short(&job.worth_with(warnings)), cells(*cells_left))
+        }
         _ => verdict.to_string(),
     }
 }
 
-fn end_of(verdict: &Verdict, slices: [&[u32]; 3]) -> End {
-    let (status, fields) = told(verdict);
-    End::new(status, line(verdict, slices)).with(fields)
+/// An end of acceptances is a failure under --strict where a check can never fail, or weights are all zero.
+pub fn strict(end: End, job: Option<&Told>, zero_weights: bool, args: &Args) -> End {
+    let never = job.map(Told::never_fail).unwrap_or_default();
+    let tests = if never.len() == 1 { "test" } else { "tests" };
+    let never = (!never.is_empty()).then(|| format!("{tests} {} can never fail", listed(&never)));
+    let zero = zero_weights.then(|| "weights are all zero".to_string());
+    let reasons: Vec<String> = never.into_iter().chain(zero).collect();
+    if end.status != Status::Fine || !args.flag("--strict") || reasons.is_empty() {
+        return end;
+    }
+    End { status: Status::Failed, line: format!("{}; --strict: {}", end.line, reasons.join(", ")), ..end }
 }
 
 /// Writes the page; where it fails, the verdict is told with it.
@@ -69,7 +89,7 @@ fn write_page(path: &Path, page: String, force: bool, end: &End) -> Result<(), E
     let file = Output { path: path.to_path_buf(), secret: false, bytes: page.into_bytes() };
     output::write(&[file], force).map_err(|failed| {
         let line = format!("{}, but the page was not written: {}", end.line, failed.line);
-        End::new(Status::FileSystem, line).with(end.fields.clone())
+        End { warnings: end.warnings.clone(), ..End::new(Status::FileSystem, line) }.with(end.fields.clone())
     })
 }
 
@@ -89,13 +109,18 @@ pub fn run(command: &Command, args: &Args) -> Outcome {
     progress.step("verifying: the slices, then the checks 21 to 29");
     let verdict = verify(&job, &randomness, &transcript);
     progress.step("reviewing the job");
-    let findings = review(&job).unwrap_or_default();
-    let told = findings.iter().map(Json::text).collect();
+    let told_of_job = Told::of(&job).ok();
+    let warnings = warnings(&verdict, &job, &randomness);
     let slices: [&[u32]; 3] = [&job, &randomness, &transcript];
-    let end = end_of(&verdict, slices).with(vec![("findings", Json::List(told))]);
+    let (status, fields) = told(&verdict);
+    let no_findings = || vec![("findings", Json::List(Vec::new()))];
+    let of_job = told_of_job.as_ref().map_or_else(no_findings, |job| job.fields(&job.worth_with(&warnings)));
+    let said = line(&verdict, slices, told_of_job.as_ref(), &warnings);
+    let end = strict(End::new(status, said), told_of_job.as_ref(), !warnings.is_empty(), args);
+    let end = end.with(fields).with(of_job).warning(warnings.clone());
     if let Some(path) = report {
         progress.step("writing the page");
-        let page = page(&Report { names, slices, verdict: &verdict, findings: &findings });
+        let page = page(&Report { names, slices, verdict: &verdict, job: told_of_job.as_ref(), warnings: &warnings });
         write_page(path, page, force, &end)?;
     }
     Ok(end)

@@ -20,12 +20,14 @@ fn mark(report: &Report, k: usize) -> (&'static str, &'static str) {
 fn row(report: &Report, k: usize, check: &Check) -> Row {
     let (class, text) = mark(report, k);
     let condition = if check.condition { " <strong>(condition)</strong>" } else { "" };
+    let never = class == "passed" && report.job.is_some_and(|job| job.never_fail().contains(&check.number));
+    let never = if never { " (can never fail)" } else { "" };
     Row {
         class,
         cells: vec![
             check.number.to_string(),
             format!("{}{condition}", escape(check.holds)),
-            format!("<span class=\"mark\">{text}</span>"),
+            format!("<span class=\"mark\">{text}</span>{never}"),
         ],
     }
 }

@@ -3,9 +3,10 @@
 
 use std::path::Path;
 
-use labrador::review::Finding;
 use labrador::section_one::SectionOne;
 use labrador::{Slice, Verdict};
+
+use crate::worth::Told;
 
 mod checks;
 mod findings;
@@ -22,7 +23,10 @@ pub struct Report<'a> {
     pub names: [&'a Path; 3],
     pub slices: [&'a [u32]; 3],
     pub verdict: &'a Verdict,
-    pub findings: &'a [Finding],
+    /// What is said of the job, where it is fit.
+    pub job: Option<&'a Told>,
+    /// What is to be told of the randomness.
+    pub warnings: &'a [String],
 }
 
 /// The slices in the order of a report.
@@ -46,7 +50,7 @@ impl Report<'_> {
 }
 
 pub fn page(report: &Report) -> String {
-    let title = verdict::title(report.verdict);
+    let title = verdict::title(report);
     let beside = [place::around(report), norms::bars(report), findings::list(report)].concat();
     let parts = [
         verdict::header(report),

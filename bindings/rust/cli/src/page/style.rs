@@ -47,7 +47,8 @@ footer { margin-top: .8rem; font-size: .87rem; color: #454545; }
 }
 @page { size: A4; margin: 10mm; }
 @media print {
-  html { font-size: 7.9pt; line-height: 1.22; }
+  html { font-size: 7.6pt; line-height: 1.22; }
+  h1 { font-size: 1.4rem; }
   main { max-width: none; padding: 0; }
   h2 { margin-top: .6rem; }
   th, td { padding-top: .03rem; padding-bottom: .03rem; }

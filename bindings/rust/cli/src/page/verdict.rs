@@ -5,29 +5,38 @@ use labrador::Verdict;
 
 use super::html::escape;
 use super::{Report, SLICES};
+use crate::worth::{chance_sentence, drawn_sentence};
 
-pub fn title(verdict: &Verdict) -> String {
-    match verdict {
-        Verdict::Accepted { .. } => "Accepted".to_string(),
-        Verdict::Failed(check) => format!("Not accepted: check {} failed", check.number()),
-        Verdict::Refused(refusal) => format!("Refused: refusal {}", refusal.number()),
+/// The verdict in a line; an acceptance has what it is worth beside it.
+pub fn title(report: &Report) -> String {
+    match (report.verdict, report.job) {
+        (Verdict::Accepted { .. }, Some(job)) => format!("Accepted; {}", job.short(&job.worth_with(report.warnings))),
+        (Verdict::Accepted { .. }, None) => unreachable!("an acceptance is under a fit job"),
+        (Verdict::Failed(check), _) => format!("Not accepted: check {} failed", check.number()),
+        (Verdict::Refused(refusal), _) => format!("Refused: refusal {}", refusal.number()),
     }
 }
 
 /// What the verdict says, and what follows from it.
-fn sentences(report: &Report) -> [String; 2] {
+fn sentences(report: &Report) -> Vec<String> {
     match report.verdict {
-        Verdict::Accepted { .. } => [
-            "The transcript passes every check of the verifier, for this job and this randomness.".to_string(),
-            cells(report),
-        ],
-        Verdict::Failed(check) => [check.to_string(), check.meaning().follows.to_string()],
+        Verdict::Accepted { .. } => {
+            let passes = "The transcript passes every check of the verifier, for this job and this randomness.";
+            vec![format!("{passes} {}", cells(report)), worth(report)]
+        }
+        Verdict::Failed(check) => vec![check.to_string(), check.meaning().follows.to_string()],
         Verdict::Refused(refusal) => {
             let meaning = refusal.meaning();
             let cause = format!("It is caused by {}. {}", meaning.cause, meaning.follows);
-            [refusal.to_string(), cause]
+            vec![refusal.to_string(), cause]
         }
     }
+}
+
+/// What the acceptance is worth.
+fn worth(report: &Report) -> String {
+    let of_job = report.job.map(|job| job.worth_with(report.warnings));
+    of_job.map_or_else(String::new, |worth| format!("{}; {}", chance_sentence(&worth), drawn_sentence(&worth)))
 }
 
 /// How many cells of t, g and h have something left.
@@ -47,13 +56,17 @@ fn cells(report: &Report) -> String {
 }
 
 pub fn header(report: &Report) -> String {
+    let worthless = report.job.is_some_and(|job| job.worth_with(report.warnings).certain);
     let (class, mark) = match report.verdict {
+        Verdict::Accepted { .. } if worthless => ("refused", "!"),
         Verdict::Accepted { .. } => ("accepted", "✓"),
         Verdict::Failed(_) => ("failed", "✗"),
         Verdict::Refused(_) => ("refused", "✗"),
     };
-    let heading = escape(&title(report.verdict));
-    let told: String = sentences(report).iter().map(|s| format!("<p>{}</p>\n", escape(&sentence(s)))).collect();
+    let heading = escape(&title(report));
+    let warnings = report.warnings.iter().map(|warning| format!("warning: {warning}"));
+    let told = warnings.chain(sentences(report));
+    let told: String = told.map(|s| format!("<p>{}</p>\n", escape(&sentence(&s)))).collect();
     let files: Vec<String> = SLICES.iter().zip(report.names).zip(report.slices).map(file).collect();
     format!(
         "<header class=\"{class}\">\n<h1><span aria-hidden=\"true\">{mark}</span> {heading}</h1>\n{told}<p>{}</p>\n</header>\n",

@@ -1,8 +1,8 @@
 //! Many transcripts in one call.
 
-use labrador::{prove, Parameters};
+use labrador::{prove, Parameters, Slice};
 
-use crate::common::{made, with_answer};
+use crate::common::{begin, made, with_answer};
 use crate::desk::Desk;
 use crate::run::run;
 
@@ -24,10 +24,88 @@ const THREE: &str = "verify-many --job job r1 t1 r2 t2 r3 t3";
 fn all_accepted_is_0() {
     let desk = three("many_accepted");
     let told = run(&desk, THREE);
-    assert_eq!((told.status, told.line.as_str()), (0, "labrador: 3 of 3 transcripts accepted\n"));
-    let good = "accepted, 0 cells with something left";
+    let drawn = "if the desk drew the randomness and nothing was tried again; 10 things that the job does not force\n";
+    let line = format!("labrador: 3 of 3 transcripts accepted; together: 1 in 531,441 (19.0 bits), {drawn}");
+    assert_eq!((told.status, told.line), (0, line));
+    let good = "accepted; one transcript: 1 in 81; 10 things that the job does not force";
     assert_eq!(told.out, format!("t1: {good}\nt2: {good}\nt3: {good}\n"));
-    assert_eq!(run(&desk, "verify-many --job job r2 t2").line, "labrador: 1 of 1 transcripts accepted\n");
+    let line = format!("labrador: 1 of 1 transcripts accepted; together: 1 in 81 (6.3 bits), {drawn}");
+    assert_eq!(run(&desk, "verify-many --job job r2 t2").line, line);
+    let json = run(&desk, &format!("{THREE} --json")).out;
+    for part in ["\"accepted\":3,\"counted\":3,\"together\":\"1 in 531,441 (19.0 bits)\"", "\"warnings\":[]"] {
+        assert!(json.contains(part), "{part}: {json}");
+    }
+    let strict = run(&desk, &format!("{THREE} --strict"));
+    assert_eq!(strict.status, 1);
+    assert!(strict.line.ends_with("; --strict: tests 21, 23, 14, 15 and 16 can never fail\n"), "{}", strict.line);
+}
+
+#[test]
+fn eight_give_50_bits() {
+    let case = with_answer(0);
+    let desk = Desk::with("many_eight", &case);
+    let mut call = "verify-many --job job".to_string();
+    for k in 1..=8 {
+        let randomness = made(&Parameters::SMALL, k).randomness;
+        desk.put(&format!("r{k}"), &randomness);
+        desk.put(&format!("t{k}"), &prove(&case.job, &randomness, &case.witness).unwrap());
+        call += &format!(" r{k} t{k}");
+    }
+    let line = "labrador: 8 of 8 transcripts accepted; together: 1 in 1.9·10^15 (50.7 bits), if the desk drew";
+    let told = run(&desk, &call);
+    assert!(told.status == 0 && told.line.starts_with(line), "{}", told.line);
+}
+
+#[test]
+fn what_is_handed_in_twice_counts_once() {
+    let desk = three("many_twice");
+    let same = prove(&desk.words("job"), &desk.words("r1"), &desk.words("witness")).unwrap();
+    desk.put("t4", &same);
+    let mut psi = desk.words("r3");
+    let at = begin(Slice::Randomness, &Parameters::SMALL, "psi");
+    psi[at..at + 8].copy_from_slice(&desk.words("r2")[at..at + 8]);
+    desk.put("r5", &psi);
+    desk.put("t5", &prove(&desk.words("job"), &psi, &desk.words("witness")).unwrap());
+    let told = run(&desk, "verify-many --job job r1 t1 r2 t2 r1 t4 r5 t5");
+    let lines = [
+        "labrador: warning: t4 has the transcript of t1: the two count once",
+        "labrador: warning: t5 has section psi of the randomness of t2: the two count once",
+        "labrador: 4 of 4 transcripts accepted, 2 of them counted; together: 1 in 6,561 (12.7 bits), if the desk drew the randomness and nothing \
+         was tried again; 10 things that the job does not force",
+    ];
+    assert_eq!(told.line.lines().collect::<Vec<_>>(), lines);
+    assert_eq!((told.status, told.out.lines().count()), (0, 4));
+}
+
+#[test]
+fn zero_weights_count_nothing() {
+    let desk = three("many_zero");
+    let mut zero = desk.words("r2");
+    let at = begin(Slice::Randomness, &Parameters::SMALL, "beta");
+    zero[at..at + 64 * 4].fill(0);
+    desk.put("r2", &zero);
+    desk.put("t2", &prove(&desk.words("job"), &zero, &desk.words("witness")).unwrap());
+    let told = run(&desk, THREE);
+    let lines: Vec<&str> = told.line.lines().collect();
+    let warning = "labrador: warning: t2: beta is all zero in the randomness: the constant-term constraints and the projection p were not tested";
+    assert_eq!(lines[0], warning);
+    assert!(
+        lines[1].starts_with("labrador: 3 of 3 transcripts accepted, 2 of them counted; together: 1 in 6,561 "),
+        "{}",
+        told.line
+    );
+    assert!(told.out.contains("t2: accepted; one transcript: 1 in 1 (worth nothing); "), "{}", told.out);
+    let alone = run(&desk, "verify-many --job job r2 t2").line;
+    let line = "labrador: 1 of 1 transcripts accepted, 0 of them counted; together: 1 in 1 (worth nothing), if";
+    assert!(alone.contains(line), "{alone}");
+}
+
+/// The line where not all of three are accepted: nothing is said of their worth.
+fn told_of(accepted: u32) -> String {
+    format!(
+        "labrador: {accepted} of 3 transcripts accepted; what they are worth together is said only where all are accepted, and nothing was tried \
+         again; 10 things that the job does not force\n"
+    )
 }
 
 #[test]
@@ -37,7 +115,7 @@ fn one_that_fails_alters_no_other() {
     words[1] ^= 1;
     desk.put("t2", &words);
     let told = run(&desk, THREE);
-    assert_eq!((told.status, told.line.as_str()), (1, "labrador: 2 of 3 transcripts accepted\n"));
+    assert_eq!((told.status, told.line.as_str()), (1, told_of(2).as_str()));
     let lines: Vec<&str> = told.out.lines().collect();
     assert_eq!(lines[1], "t2: check 28 failed: u1 is not the commitment to the digits of t and g");
     assert!(lines[0].starts_with("t1: accepted") && lines[2].starts_with("t3: accepted"), "{}", told.out);
@@ -45,9 +123,12 @@ fn one_that_fails_alters_no_other() {
     words.pop();
     desk.put("t2", &words);
     let told = run(&desk, "verify-many --job job r1 t1 r2 t2 r1 t3 --json");
-    assert_eq!((told.status, told.line.as_str()), (2, "labrador: 1 of 3 transcripts accepted\n"));
-    for part in ["\"accepted\":1", "\"transcript\":\"t2\",\"says\":\"refusal 9: ", "\"verdict\":\"failed\",\"number\":"]
-    {
+    assert_eq!((told.status, told.line.as_str()), (2, told_of(1).as_str()));
+    for part in [
+        "\"accepted\":1,\"counted\":1,\"together\":null",
+        "\"transcript\":\"t2\",\"says\":\"refusal 9: ",
+        "\"verdict\":\"failed\",\"number\":",
+    ] {
         assert!(told.out.contains(part), "{part}: {}", told.out);
     }
     let exchanged = run(&desk, "verify-many --job job t1 r1");

@@ -81,7 +81,9 @@ fn no_room_on_the_disk_leaves_nothing() {
     let told = shell(format!("{VERIFY} --report page.html"));
     assert_eq!(told.status, 3);
     assert!(
-        told.line.starts_with("labrador: accepted, 0 cells with something left, but the page was not written: "),
+        told.line.starts_with(
+            "labrador: accepted; one transcript: 1 in 81; 10 things that the job does not force, but the page was not written: "
+        ),
         "{}",
         told.line
     );

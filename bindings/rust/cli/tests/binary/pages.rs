@@ -2,7 +2,9 @@
 
 use std::fs;
 
-use crate::common::with_answer;
+use labrador::{Parameters, Slice};
+
+use crate::common::{begin, made, with_answer};
 use crate::desk::Desk;
 use crate::run::{run, VERIFY};
 
@@ -24,12 +26,50 @@ fn marks(page: &str) -> [usize; 3] {
 #[test]
 fn an_accepted_transcript() {
     let page = page_of(&desk_of("page", 0));
-    assert!(page.contains("<title>Accepted</title>"));
+    let headline = "Accepted; one transcript: 1 in 81; 10 things that the job does not force";
+    assert!(page.contains(&format!("<title>{headline}</title>")));
+    assert!(page.contains(&format!("<h1><span aria-hidden=\"true\">✓</span> {headline}</h1>")), "{page}");
+    let worth = "One accepted transcript leaves a false statement a chance of at least 1 in 81; 64 bits need at least 11 transcripts of this job, each \
+                 with randomness of its own that the desk draws round after round, all accepted, no retry.";
+    assert!(page.contains(worth), "{page}");
     assert_eq!(marks(&page), [13, 0, 0]);
     assert_eq!(page.matches("(condition)").count(), 4);
+    assert_eq!(page.matches("✓ passed</span> (can never fail)").count(), 5);
     assert_eq!(page.matches("<div class=\"bar\">").count(), 5);
-    assert!(page.contains("check 21 is never answered"));
+    assert_eq!(page.matches("<li>").count(), 6);
+    assert!(page.contains("<li>tests 21, 23, 14, 15 and 16 can never fail: these limits limit nothing</li>"));
     assert!(page.contains("Cells of t, g and h with something left after their digits: 0 of 24."));
+}
+
+#[test]
+fn an_acceptance_that_is_worth_nothing_is_no_green_one() {
+    let desk = Desk::with("page_worthless", &made(&Parameters { n: 10, r: 2, ..Parameters::SMALL }, 7));
+    let page = page_of(&desk);
+    let headline = "Accepted; one transcript: 1 in 1 (worth nothing); 11 things that the job does not force";
+    assert!(
+        page.contains(&format!("<header class=\"refused\">\n<h1><span aria-hidden=\"true\">!</span> {headline}</h1>"))
+    );
+    assert!(page.contains("a chance of at least 1 in 1 (worth nothing); no number of transcripts gives 64 bits."));
+    let first = "<ul>\n<li>any statement is accepted for certain, without a witness: ";
+    assert!(page.contains(first), "{page}");
+}
+
+#[test]
+fn no_finding_is_cut_without_its_count() {
+    let p = Parameters { n: 1, r: 8, ..Parameters::SMALL };
+    let mut case = made(&p, 7);
+    // no constraint has a coefficient: eight vectors, four constraints
+    for name in ["a'", "phi'", "a", "phi"] {
+        let at = begin(Slice::Job, &p, name);
+        let end = at + case.job[at - 1] as usize;
+        case.job[at..end].fill(0);
+    }
+    let desk = Desk::with("page_cut", &case);
+    let page = page_of(&desk);
+    // five of the 22 in one item, and six more; the others are counted
+    assert!(page.contains("22 found, the worst first: what an acceptance leaves open."), "{page}");
+    assert_eq!(page.matches("<li>").count(), 8);
+    assert!(page.contains("<li>and 11 more: labrador review lists them all</li>"), "{page}");
 }
 
 #[test]

@@ -16,20 +16,25 @@ fn a_load_of_own_parameters_is_proved_and_accepted() {
     assert_eq!(rounds.status, 0, "{}", rounds.line);
     assert_eq!(desk.words("rounds"), desk.words("transcript"));
     let verdict = run(&desk, VERIFY);
-    assert_eq!((verdict.status, verdict.line.as_str()), (0, "labrador: accepted, 0 cells with something left\n"));
+    // no constant-term constraints, so no total and no psi
+    let line = "labrador: accepted; one transcript: 1 in 86; 9 things that the job does not force\n";
+    assert_eq!((verdict.status, verdict.line.as_str()), (0, line));
 }
 
 #[test]
 fn a_load_takes_l_apart_from_kappa() {
     let desk = Desk::new("l_apart");
-    for (given, kappa, rows) in [("kappa=2 L=9", 2, 9), ("log_q=16", 4, 8), ("log_q=16 L=11 kappa=1", 1, 11)] {
+    let loads = [("kappa=2 L=9", 2, 9, 10), ("log_q=16", 4, 8, 10), ("log_q=16 L=11 kappa=1", 1, 11, 11)];
+    for (given, kappa, rows, things) in loads {
         let made = run(&desk, &format!("{LOAD} n=2 r=2 --force {given}"));
         assert_eq!(made.status, 0, "{}", made.line);
         let job = desk.words("job");
         assert_eq!((job[0], job[3], job[12]), (30, kappa, rows), "{given}");
         assert_eq!(run(&desk, &format!("{PROVE} --transcript transcript --force")).status, 0);
         let verdict = run(&desk, VERIFY);
-        assert_eq!((verdict.status, verdict.line.as_str()), (0, "labrador: accepted, 0 cells with something left\n"));
+        let line =
+            format!("labrador: accepted; one transcript: 1 in 86; {things} things that the job does not force\n");
+        assert_eq!((verdict.status, verdict.line), (0, line));
     }
     let described = run(&desk, "describe job --json").out;
     assert!(described.contains("\"t_2\":4,\"L\":11,\"beta_sq\":"), "{described}");
@@ -44,7 +49,8 @@ fn an_acceptance_says_its_cells() {
     assert_eq!(run(&desk, &format!("{PROVE} --transcript transcript")).status, 0);
     let verdict = run(&desk, &format!("{VERIFY} --json --report page.html"));
     // 8 cells of t and 3 of h
-    assert_eq!((verdict.status, verdict.line.as_str()), (0, "labrador: accepted, 11 cells with something left\n"));
+    let line = "labrador: accepted; one transcript: 1 in 81; 11 things that the job does not force; 11 cells with something left\n";
+    assert_eq!((verdict.status, verdict.line.as_str()), (0, line));
     assert!(verdict.out.contains("\"verdict\":\"accepted\",\"number\":0,\"cells_left\":11,"), "{}", verdict.out);
     let page = std::fs::read_to_string(desk.path("page.html")).unwrap();
     assert!(page.contains("Cells of t, g and h with something left after their digits: 11 of 14. The commitments"));
@@ -63,7 +69,7 @@ fn each_verdict_has_its_status_and_line() {
         assert_eq!(verdict.status, status, "{}", verdict.line);
         assert_eq!(verdict.line.lines().count(), 1);
         let told = match number {
-            0 => "labrador: accepted, 0 cells with something left".to_string(),
+            0 => "labrador: accepted; one transcript: 1 in 81; 10 things that the job does not force\n".to_string(),
             1..=16 => format!("labrador: refusal {number}: "),
             _ => format!("labrador: check {number} failed: "),
         };
@@ -87,25 +93,6 @@ fn a_refused_proof_makes_no_file() {
         assert!(proved.line.starts_with("labrador: refusal 12: the witness's word 5 is 4294967295"), "{}", proved.line);
     }
     assert_eq!(desk.names(), ["job", "randomness", "transcript", "witness"]);
-}
-
-#[test]
-fn reviews_have_their_status() {
-    let desk = Desk::with("reviews", &with_answer(0));
-    let found = run(&desk, "review job");
-    assert_eq!(found.status, 1);
-    assert_eq!(found.out.lines().count(), 6);
-    assert!(found.out.starts_with("check 21 is never answered: "), "{}", found.out);
-    assert_eq!(found.line, "labrador: 6 things that the job does not force\n");
-    let mut job = desk.words("job");
-    for k in 0..6 {
-        crate::common::set_bound(&mut job, labrador::section_one::BOUNDS[k].name, 1000);
-    }
-    desk.put("job", &job);
-    let sound = run(&desk, "review job");
-    assert_eq!((sound.status, sound.out.as_str(), sound.line.as_str()), (0, "", "labrador: nothing was found\n"));
-    desk.put("job", &job[..20]);
-    assert_eq!(run(&desk, "review job").status, 2);
 }
 
 #[test]
@@ -197,6 +184,15 @@ fn every_command_has_help_with_an_example() {
             assert!(help.out.contains(&format!("Example:\n  labrador {command} ")), "{}", help.out);
         }
     }
+    for command in ["verify", "verify-many"] {
+        let help = run(&desk, &format!("{command} --help")).out;
+        assert!(
+            help.contains("--strict ") && help.contains("exit status 1 also where a check can never fail"),
+            "{help}"
+        );
+    }
+    let review = run(&desk, "review --help").out;
+    assert!(review.contains("Exit status 0 where it finds only what holds of every job, 1 with more."), "{review}");
     assert_eq!(run(&desk, "--help").out, run(&desk, "help").out);
     assert_eq!(run(&desk, "--version").status, 0);
 }

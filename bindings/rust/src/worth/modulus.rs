@@ -1,0 +1,91 @@
+//! What the worth of an acceptance takes of the modulus: all other figures are worked out from here.
+
+use super::fraction::Fraction;
+use crate::number::Q;
+
+/// The facts of a modulus.
+#[derive(Clone, Copy, Debug, PartialEq, Eq)]
+pub struct Modulus {
+    pub q: u32,
+    /// The least prime that divides q. A row of psi weighs an error that is a multiple of q divided by this to 0 in one of
+    /// this many draws.
+    pub least_prime: u32,
+    /// The primes p that divide q for which X^64 + 1 splits into 64 factors of degree 1: residue fields of p elements,
+    /// called slots. The least first.
+    pub slots: &'static [u32],
+}
+
+/// 4294967295 = 3·5·17·257·65537.
+pub const MODULUS: Modulus = Modulus { q: Q, least_prime: 3, slots: &[257, 65537] };
+
+/// A number whose multiples are not zero in these slots alone, so that an error of that size has to slip through only there.
+#[derive(Clone, Debug, PartialEq, Eq)]
+pub struct Divisor {
+    pub number: u32,
+    pub slots: Vec<u32>,
+}
+
+impl Modulus {
+    /// q divided by the product of each choice of slots, the least number first.
+    pub fn divisors(&self) -> Vec<Divisor> {
+        let choice = |bits: u32| {
+            let chosen = self.slots.iter().enumerate().filter(|(k, _)| bits >> k & 1 == 1);
+            let slots: Vec<u32> = chosen.map(|(_, &slot)| slot).collect();
+            Divisor { number: slots.iter().fold(self.q, |number, slot| number / slot), slots }
+        };
+        let mut all: Vec<Divisor> = (1..1 << self.slots.len()).map(choice).collect();
+        all.sort_by_key(|divisor| divisor.number);
+        all
+    }
+
+    /// An error in all rows of psi that is a multiple of q divided by the least prime.
+    pub(super) fn weighed_to_zero(&self, rows: u32) -> Fraction {
+        Fraction::new(1, self.least_prime.into()).pow(rows)
+    }
+
+    /// An error in one slot of p elements: beta weighs it to 0, or a linear factor of the form of the challenges is 0 there, each in
+    /// one of p draws. Together 1 - (1 - 1/p)^3, or of one vector 1 - (1 - 1/p)^2.
+    pub(super) fn slips_through(slot: u32, vectors: u32) -> Fraction {
+        let (p, power) = (u128::from(slot), 1 + linear_factors(vectors));
+        Fraction::new(p.pow(power) - (p - 1).pow(power), p.pow(power))
+    }
+}
+
+/// The linear factors of the form of the challenges with the most zeros: c_1·(c_1 - c_2), or of one vector c_1 twice.
+pub(super) fn linear_factors(vectors: u32) -> u32 {
+    if vectors == 1 {
+        1
+    } else {
+        2
+    }
+}
+
+#[cfg(test)]
+mod tests {
+    use super::{Modulus, MODULUS};
+
+    #[test]
+    fn the_facts_of_the_modulus() {
+        let Modulus { q, least_prime, slots } = MODULUS;
+        assert!((2..least_prime).all(|p| q % p != 0) && q % least_prime == 0);
+        for slot in slots {
+            assert!((2..*slot).all(|d| slot % d != 0), "{slot} is prime");
+            assert_eq!((q % slot, slot % 128), (0, 1));
+        }
+        // the other primes of q are not 1 modulo 128
+        let rest = slots.iter().fold(q, |rest, slot| rest / slot);
+        assert_eq!((rest, [3, 5, 17].iter().product::<u32>()), (255, 255));
+    }
+
+    #[test]
+    fn the_divisors() {
+        let all = MODULUS.divisors();
+        let numbers: Vec<u32> = all.iter().map(|divisor| divisor.number).collect();
+        assert_eq!(numbers, [255, 65535, 16711935]);
+        assert_eq!(
+            (&all[0].slots[..], &all[1].slots[..], &all[2].slots[..]),
+            (&[257, 65537][..], &[65537][..], &[257][..])
+        );
+        assert!(Modulus { slots: &[], ..MODULUS }.divisors().is_empty());
+    }
+}
