@@ -1,6 +1,6 @@
 //! The greatest norm that each limit can be held against.
 
-use crate::section_one::{SectionOne, BOUNDS, PARAMETERS};
+use crate::section_one::{Parameters, SectionOne, BOUNDS, PARAMETERS};
 
 /// The greatest size of a centred number.
 const GREATEST: u128 = 2147483647;
@@ -65,6 +65,26 @@ pub(crate) fn limits(one: &SectionOne) -> [Limit; 6] {
         };
         Limit { number: numbers[k], name, limit, greatest: greatest[k], at: bound_at(BOUNDS[k].name) }
     })
+}
+
+/// The square, on the average, of a number that is drawn evenly from an interval of this width around 0.
+fn drawn_evenly(width: u128) -> u128 {
+    width * width / 12
+}
+
+/// The norms, on the average, of the two parts of an element of z and of the digits of a cell of h that have any size.
+fn any_size(p: &Parameters) -> [u128; 2] {
+    let (q, base) = (2 * GREATEST + 1, u128::from(p.b));
+    let digits = (0..p.t_1).map(|k| drawn_evenly(base.min(q / base.checked_pow(k).unwrap_or(q + 1))));
+    [drawn_evenly(base.min(q)) + drawn_evenly(q / base), digits.sum()].map(|square| 64 * square)
+}
+
+/// The sum of check 23, on the average, of 2·kappa + 2 elements of z and one cell of h that have any size, the rest being zero:
+/// where the limits of 23 and of h have room for it.
+pub(crate) fn room_for_any_z(one: &SectionOne) -> Option<u128> {
+    let [element, cell] = any_size(&one.parameters);
+    let sum = u128::from(2 * one.parameters.kappa + 2) * element + cell;
+    (one.bound("beta_prime_sq") >= sum && one.bound("bound_D") >= cell).then_some(sum)
 }
 
 /// Whether the check or refusal of this number can never be answered.

@@ -89,7 +89,7 @@ module _ (X : Public) (s : ℕ → ℕ → Element) (M : Message) (agrees : Agre
   same-sent k h = ap (λ e. coeff (words e) 0) (agrees .b″ k h)
 
   -- the second value of check 22
-  same-computed : (k : ℕ) → (Σ l (λ x. psi k x * b₀ x) + Σ 256 (λ j. omega k j * M .p j)) % Q ≡ computed X s k
+  pub same-computed : (k : ℕ) → (Σ l (λ x. psi k x * b₀ x) + Σ 256 (λ j. omega k j * M .p j)) % Q ≡ computed X s k
   unfolding computed
   same-computed k = ap (λ x. (Σ l (λ x. psi k x * b₀ x) + x) % Q) (Σ-ext 256 (λ j. omega k j * M .p j) (λ j. omega k j * F.p X s j) (λ j h. ap (_*_ (omega k j)) (agrees .p j h)))
 
@@ -127,17 +127,17 @@ module _ (X : Public) (s : ℕ → ℕ → Element) (M : Message) (agrees : Agre
       (failed 27 []) (failed 27 []) (met .0) (met .1) refl
 
   -- 14 of the t that is sent
-  t-norm-is : t-norm X (M .t) ≡ t-norm X (F.t X s)
+  pub t-norm-is : t-norm X (M .t) ≡ t-norm X (F.t X s)
   unfolding t-norm
   t-norm-is = ap (λ es. require (decLe (norm-of es) (P .bound-B)) (refused 14 0)) same-t
 
   -- 15 of the g that is sent
-  g-norm-is : g-norm X (M .g) ≡ g-norm X (F.g X s)
+  pub g-norm-is : g-norm X (M .g) ≡ g-norm X (F.g X s)
   unfolding g-norm
   g-norm-is = ap (λ es. require (decLe (norm-of es) (P .bound-C)) (refused 15 0)) same-g
 
   -- 16 of the h that is sent
-  h-norm-is : h-norm X (M .h) ≡ h-norm X (F.h X s)
+  pub h-norm-is : h-norm X (M .h) ≡ h-norm X (F.h X s)
   unfolding h-norm
   h-norm-is = ap (λ es. require (decLe (norm-of es) (P .bound-D)) (refused 16 0)) same-h
 

@@ -1,7 +1,7 @@
 //! What a false statement's chance rests on: no witness at all, norms beyond their bound, wrong totals.
 
 use super::Finding;
-use crate::reach::bound_at;
+use crate::reach::{bound_at, never_fails, room_for_any_z};
 use crate::section_one::SectionOne;
 use crate::sections::{placed, Slice};
 use crate::worth::{passes_without_witness, Worth};
@@ -14,14 +14,16 @@ pub(super) fn review(one: &SectionOne) -> Vec<Finding> {
 fn anything(one: &SectionOne) -> Option<Finding> {
     let p = &one.parameters;
     let at = bound_at("beta_prime_sq");
-    passes_without_witness(one).then_some(Finding::AnythingPasses { n: p.n, kappa: p.kappa, at })
+    let limit = one.bound("beta_prime_sq");
+    let room = room_for_any_z(one).filter(|_| !never_fails(one, 23)).map(|sum| (sum, limit));
+    passes_without_witness(one).then_some(Finding::AnythingPasses { n: p.n, kappa: p.kappa, room, at })
 }
 
-/// The greatest divisor M of q for which p modulo M is within the limit of 21: its 256 entries have M²/12 each on the average,
-/// together 128·M²/6.
+/// The greatest divisor M of q for which p modulo M is within the limit of 21, 128·beta_sq: its 256 entries have M²/12 each on the
+/// average, so beta_sq reaches M²/6.
 fn norm(one: &SectionOne, worth: &Worth) -> Option<Finding> {
     let beta_sq = one.bound("beta_sq");
-    let reached = |number: u32| 6 * beta_sq >= u128::from(number).pow(2);
+    let reached = |number: u32| beta_sq >= u128::from(number).pow(2) / 6;
     let divisor = worth.modulus.divisors().into_iter().rfind(|divisor| reached(divisor.number))?;
     let chance = worth.in_slots(&divisor.slots);
     Some(Finding::NormNotForced { divisor: divisor.number, chance, at: bound_at("beta_sq") })

@@ -35,8 +35,9 @@ impl fmt::Display for Kind {
 /// Something that a job does not force. `at` is the index of the first word that it is about.
 #[derive(Clone, Debug, PartialEq, Eq)]
 pub enum Finding {
-    /// Check 23 can never fail and n is at least 2·kappa + 2: any statement passes, without a witness.
-    AnythingPasses { n: u32, kappa: u32, at: u64 },
+    /// Check 23 can never fail, or has room for a z of any size (that sum and the limit), and n is at least 2·kappa + 2: any statement
+    /// passes, without a witness.
+    AnythingPasses { n: u32, kappa: u32, room: Option<(u128, u128)>, at: u64 },
     /// A limit at or above the greatest norm there is, so that its check or refusal is never answered.
     Unreachable { number: u32, name: &'static str, limit: u128, greatest: u128, at: u64 },
     /// A has one row, or all its rows are multiples of one row.

@@ -37,9 +37,11 @@ impl Finding {
     /// The sentence without its place.
     fn sentence(&self) -> String {
         match self {
-            Finding::AnythingPasses { n, kappa, .. } => format!(
-                "any statement is accepted for certain, without a witness: check 23 can never fail, and n is {n}, at least \
-                 2·kappa + 2 = {}",
+            Finding::AnythingPasses { n, kappa, room, .. } => format!(
+                "any statement is accepted for certain, without a witness: check 23 {}, and n is {n}, at least 2·kappa + 2 = {}",
+                room.map_or("can never fail".to_string(), |(sum, limit)| format!(
+                    "has room for a z of any size, whose sum is {sum} on the average where beta_prime_sq is {limit}"
+                )),
                 2 * kappa + 2
             ),
             Finding::Unreachable { number, name, limit, greatest, .. } => format!(
@@ -47,7 +49,7 @@ impl Finding {
                 test(*number)
             ),
             Finding::NormNotForced { divisor, chance: c, .. } => format!(
-                "norms are not forced by check 21: p can be sent modulo {divisor}, since 6·beta_sq is at least its square, and a witness \
+                "norms are not forced by check 21: p can be sent modulo {divisor}, since beta_sq reaches a sixth of its square, and a witness \
                  beyond beta_sq passes one transcript with at least {}",
                 chance(c)
             ),

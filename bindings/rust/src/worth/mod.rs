@@ -45,11 +45,11 @@ pub struct Worth {
 /// So many transcripts are the most that are looked at.
 const MOST: u32 = 256;
 
-/// Whether any statement passes without a witness: check 23 can never fail, and z with ⟨z,z⟩ = 0 and n/2 free elements meets the
-/// kappa + 1 equations of 24 and 26.
+/// Whether any statement passes without a witness: check 23 can never fail or has room for a z of any size, and z with ⟨z,z⟩ = 0 and
+/// n/2 free elements meets the kappa + 1 equations of 24 and 26.
 pub fn passes_without_witness(one: &SectionOne) -> bool {
     let p = &one.parameters;
-    reach::never_fails(one, 23) && p.n >= 2 * p.kappa + 2
+    p.n >= 2 * p.kappa + 2 && (reach::never_fails(one, 23) || reach::room_for_any_z(one).is_some())
 }
 
 impl Worth {

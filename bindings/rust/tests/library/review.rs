@@ -104,21 +104,44 @@ fn any_statement_passes_without_a_witness() {
 }
 
 #[test]
+fn a_limit_of_23_with_room_for_a_z_of_any_size() {
+    let told = |b: u32, parts: u32, limit: u128, bound_d: u128| {
+        let mut job = made(&Parameters { n: 4, kappa: 1, b, t_1: parts, t_2: parts, ..P }, 3).job;
+        set_bound(&mut job, "beta_prime_sq", limit);
+        set_bound(&mut job, "bound_D", bound_d);
+        review(&job).unwrap()[0].clone()
+    };
+    // 65536²/12 and 65535²/12, of a part and of a digit alike: 4 elements of z, a cell of h
+    let element = 64 * (357913941 + 357903018);
+    let sum = 5 * element;
+    let Finding::AnythingPasses { room, .. } = told(65536, 2, sum, element) else { panic!("anything passes") };
+    assert_eq!(room, Some((sum, sum)));
+    let line = format!(
+        "any statement is accepted for certain, without a witness: check 23 has room for a z of any size, whose sum is {sum} on the \
+         average where beta_prime_sq is {sum}, and n is 4, at least 2·kappa + 2 = 4 (from word 16)"
+    );
+    assert_eq!(told(65536, 2, sum, element).to_string(), line);
+    for less in [told(65536, 2, sum - 1, element), told(65536, 2, sum, element - 1), told(256, 4, sum, element)] {
+        assert_ne!(less.severity(), Severity::Anything, "{less}");
+    }
+}
+
+#[test]
 fn norms_that_21_does_not_force() {
     let told = |beta_sq| {
         let mut job = sound();
         set_bound(&mut job, "beta_sq", beta_sq);
         findings(&job)
     };
-    // 6·beta_sq reaches 255², 65535² and 16711935²
+    // a sixth of 255², 65535² and 16711935², rounded down
     let steps = [
-        (10838, 255, "1 in 1.9 million (2^-20.8)"),
-        (715806038, 65535, "1 in 21,846 (2^-14.4)"),
-        (46548128574038, 16711935, "1 in 86"),
+        (10837, 255, "1 in 1.9 million (2^-20.8)"),
+        (715806037, 65535, "1 in 21,846 (2^-14.4)"),
+        (46548128574037, 16711935, "1 in 86"),
     ];
     for (k, (beta_sq, divisor, chance)) in steps.into_iter().enumerate() {
         let line = format!(
-            "norms are not forced by check 21: p can be sent modulo {divisor}, since 6·beta_sq is at least its square, and a witness beyond \
+            "norms are not forced by check 21: p can be sent modulo {divisor}, since beta_sq reaches a sixth of its square, and a witness beyond \
              beta_sq passes one transcript with at least {chance} (from word 13)"
         );
         assert_eq!(told(beta_sq), [line]);

@@ -6,10 +6,10 @@ use std::process::Command;
 use crate::desk::Desk;
 use crate::run::{ran, BINARY};
 
-/// The indented lines of the part under this heading.
-fn indented(readme: &str, heading: &str) -> Vec<String> {
+/// The part under this heading, as far as it is of the command line.
+fn part_of<'a>(readme: &'a str, heading: &str) -> &'a str {
     let part = readme.split("\n## ").find(|part| part.starts_with(heading)).expect("the part of the README");
-    part.lines().filter_map(|line| line.strip_prefix("    ")).map(str::to_string).collect()
+    part.split("\nFrom Rust").next().expect("text before it")
 }
 
 #[cfg(unix)]
@@ -17,14 +17,13 @@ fn indented(readme: &str, heading: &str) -> Vec<String> {
 fn the_commands_of_the_readme_say_what_it_says() {
     let root = Path::new(env!("CARGO_MANIFEST_DIR")).join("../../..");
     let readme = std::fs::read_to_string(root.join("README.md")).expect("the README");
-    let lines = indented(&readme, "From the command line");
-    let is_typed = |line: &&String| ["labrador ", "printf ", "for "].iter().any(|begin| line.starts_with(begin));
-    let commands: Vec<String> = lines.iter().filter(is_typed).cloned().collect();
-    // said in a line of its own, or between backquotes
-    let part = readme.split("\n## ").find(|part| part.starts_with("From the command line")).unwrap();
-    let quoted = part.split('`').filter(|quoted| quoted.starts_with("labrador: "));
-    let said: Vec<&str> =
-        lines.iter().map(String::as_str).filter(|l| l.starts_with("labrador: ")).chain(quoted).collect();
+    let part = part_of(&readme, "From the command line");
+    let lines: Vec<&str> = part.lines().filter_map(|line| line.strip_prefix("    ")).collect();
+    let is_said = |line: &&str| line.starts_with("labrador: ");
+    // the command line is built and on the path
+    let is_building = |line: &&str| line.starts_with("(cd ") || line.starts_with("PATH=");
+    let commands: Vec<&str> = lines.iter().filter(|l| !is_said(l) && !is_building(l)).copied().collect();
+    let said: Vec<&str> = lines.iter().filter(|l| is_said(l)).copied().collect();
     assert!(commands.len() >= 5 && said.len() >= 2, "{lines:?}");
     let desk = Desk::new("readme");
     let folder = Path::new(BINARY).parent().expect("the binary's folder");

@@ -1,0 +1,14 @@
+pub mod Altered
+pub mod AlteredWords
+pub mod Modulus
+pub mod Gcd
+pub mod Rows
+pub mod RowsOfPsi
+pub mod Third
+pub mod Units
+pub mod Monomials
+pub mod Weights
+pub mod SlotOne
+pub mod Slot
+pub mod SlotVerdict
+pub mod Slot257
