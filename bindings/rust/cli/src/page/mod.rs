@@ -42,6 +42,11 @@ impl Report<'_> {
         matches!(self.verdict.number(), 1..=12)
     }
 
+    /// Whether a statement file was handed in whose job is another.
+    fn is_other(&self) -> bool {
+        self.compared.is_some_and(|compared| !compared.same)
+    }
+
     /// Section one, where its words are within their limits.
     fn section_one(&self) -> Option<SectionOne> {
         SectionOne::read(self.slices[0]).filter(|one| one.parameters.within_limits())

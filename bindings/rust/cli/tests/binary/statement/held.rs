@@ -92,6 +92,9 @@ fn the_page_has_the_totals() {
     let (status, other) = page("--statement b.statement");
     assert_eq!(status, 1);
     assert!(other.contains("the job is not that of b.statement: word 674 is another"), "{other}");
+    // no green headline
+    assert!(plain.contains("<header class=\"accepted\">") && other.contains("<header class=\"refused\">"));
+    assert!(other.contains("; the job is not that of the statement file</h1>"), "{other}");
 }
 
 #[test]
