@@ -47,7 +47,7 @@ pub const LOAD: Command = Command {
 
 pub const DESCRIBE: Command = Command {
     name: "describe",
-    usage: "labrador describe [--job FILE] [--as KIND] FILE…",
+    usage: "labrador describe [--job FILE] [--as KIND] [--statement FILE] FILE…",
     about: "Prints what is wrong with each file, if anything is; a job's parameters by name; each section with its place, count \
             and meaning. The others are described by a job: the one that --job names, or the first among the files.",
     options: &[
@@ -90,7 +90,7 @@ pub const PROVE: Command = Command {
 
 pub const VERIFY: Command = Command {
     name: "verify",
-    usage: "labrador verify --job FILE --randomness FILE --transcript FILE [--report PAGE.html] [--strict]",
+    usage: "labrador verify --job FILE --randomness FILE --transcript FILE [--report PAGE.html] [--statement FILE] [--strict]",
     about: "Judges a transcript. An acceptance is said with the chance that it leaves a false statement, which no single transcript \
             makes small, and with the number of things that the job does not force, which labrador review lists. Exit status 0 \
             accepted, 1 a failed check, 2 refused. The randomness is taken as it is handed in: a verdict forces nothing where the sender \
@@ -111,7 +111,7 @@ pub const VERIFY: Command = Command {
 
 pub const VERIFY_MANY: Command = Command {
     name: "verify-many",
-    usage: "labrador verify-many [--strict] --job FILE RANDOMNESS TRANSCRIPT [RANDOMNESS TRANSCRIPT]…",
+    usage: "labrador verify-many [--statement FILE] [--strict] --job FILE RANDOMNESS TRANSCRIPT [RANDOMNESS TRANSCRIPT]…",
     about: "Judges one to eight transcripts for one job, each with its own randomness, and prints a line for each. Where all are accepted it \
             says what they are worth together if the desk drew the randomness and nothing was tried again; what is handed in twice counts \
             once. The job is read once for all. Exit status 0 all accepted, 1 a failed check, 2 one is refused.",
