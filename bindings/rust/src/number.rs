@@ -7,6 +7,9 @@ use crate::refusal::Refusal;
 /// The modulus; it is composite. Numbers modulo Q are 0 to Q - 1.
 pub const Q: u32 = 4294967295;
 
+/// The greatest centred number; the least is minus this.
+pub const GREATEST: u32 = (Q - 1) / 2;
+
 /// A number modulo Q. A word at or above Q is refused by each call, with 6.
 ///
 /// ```
