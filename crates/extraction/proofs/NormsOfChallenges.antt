@@ -1,9 +1,9 @@
 -- The sizes of a challenge sum to 51, those of a difference of two challenges to at most 102.
-use mathlib.Core.Path.{_≡_, sym, ap, _∙_}
+use mathlib.Core.Path.{_≡_, ap, _∙_}
 use mathlib.Core.List.{List}
-use Prim.Native.Nat.{ℕ, _+_, _*_, _≤_, _<_}
+use Prim.Native.Nat.{ℕ, _+_, _*_, _≤_}
 use native.Mathlib.Omega.{arith}
-use lib.ListN.{length, getD}
+use lib.ListN.{getD}
 use Rattle.lists.specs.Table.{table}
 use Rattle.lists.specs.Sum.{Σ}
 use Rattle.lists.proofs.Table.{length-table, getD-table}
@@ -29,9 +29,10 @@ sizes-of-difference x y =
     let d : ℕ → ℕ = λ k. zsub (coeff (words x) k) (coeff (words y) k) in
     let u : ℕ → ℕ = λ k. size (coeff (words x) k) in
     let v : ℕ → ℕ = λ k. size (coeff (words y) k) in
+    let of-table = ap (λ n. Σ n (λ k. size (getD (table 64 d) k 0))) (length-table 64 d) ∙ Σ-ext 64 (λ k. size (getD (table 64 d) k 0)) (λ k. size (d k)) (λ k l. ap size (getD-table 64 d k 0 l)) in
     omega (
       arith,
-      ap (total size) (words-sub x y) ∙ ap (λ n. Σ n (λ k. size (getD (table 64 d) k 0))) (length-table 64 d) ∙ Σ-ext 64 (λ k. size (getD (table 64 d) k 0)) (λ k. size (d k)) (λ k l. ap size (getD-table 64 d k 0 l)),
+      ap (total size) (words-sub x y) ∙ of-table,
       Σ-le 64 (λ k. size (d k)) (λ k. u k + v k) (λ k l. size-of-difference (coeff (words x) k) (coeff (words y) k) (coeff-canonical x k) (coeff-canonical y k)),
       Σ-add 64 u v,
       ap (λ n. Σ n u) (length-words x),

@@ -1,14 +1,12 @@
 -- The norm of a product: it grows by at most the square of the sum of the factor's sizes.
-use mathlib.Core.Path.{_≡_, refl, sym, ap, ap₂, subst, _∙_}
-use mathlib.Core.List.{List}
+use mathlib.Core.Path.{_≡_, sym, ap, ap₂, subst, _∙_}
 use Prim.Native.Nat.{ℕ, zero, suc, _+_, _-_, _*_, _%_, _≤_, _<_}
-use native.Mathlib.Nat.{le-refl, mul-le-mul, mul-le-mul-left, mod-eq-of-lt, mod-eq-sub-mod}
+use native.Mathlib.Nat.{le-refl, mul-le-mul, mul-le-mul-left}
 use native.Mathlib.Omega.{arith}
-use lib.ListN.{length, getD}
 use Rattle.lists.specs.Table.{table}
 use Rattle.lists.specs.Sum.{Σ}
-use Rattle.lists.proofs.Sum.{Σ-ext, Σ-le, Σ-add, Σ-mul-left, Σ-mul-right, Σ-swap, Σ-split, Σ-const}
-use Rattle.definitions.specs.Zq.{Q, Canonical, zsub, size}
+use Rattle.lists.proofs.Sum.{Σ-ext, Σ-le, Σ-add, Σ-mul-left, Σ-mul-right, Σ-swap, Σ-split}
+use Rattle.definitions.specs.Zq.{Q, zsub, size}
 use Rattle.definitions.specs.Norm.{square, norm}
 use Rattle.definitions.specs.Rq.{Element, coeff, low, high, rmul}
 use Rattle.definitions.specs.Ring.{words, canonical-mod}

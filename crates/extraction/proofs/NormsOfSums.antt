@@ -1,9 +1,7 @@
 -- The norm of a difference of vectors that are given by their entries, and of a difference of differences.
 use mathlib.Core.Path.{_≡_, sym, ap, ap₂, subst, _∙_}
-use mathlib.Core.List.{List}
-use Prim.Native.Nat.{ℕ, _+_, _*_, _≤_, _<_}
+use Prim.Native.Nat.{ℕ, _+_, _*_, _≤_}
 use native.Mathlib.Omega.{arith}
-use lib.ListN.{length, getD}
 use Rattle.lists.specs.Table.{table}
 use Rattle.lists.proofs.Table.{length-table, getD-table, table-ext}
 use Rattle.algebra.specs.Ops.{Ops}
@@ -24,7 +22,8 @@ difference-table n v w =
 
 -- the norm of a difference is at most twice the norms' sum
 pub difference-norm : (n : ℕ) (v w : ℕ → Element) → norm-of (table n (λ m. v m ⊕ neg (w m))) ≤ 2 * (norm-of (table n v) + norm-of (table n w))
-difference-norm n v w = subst (λ l. norm-of l ≤ 2 * (norm-of (table n v) + norm-of (table n w))) (difference-table n v w) (norm-of-difference (table n v) (table n w) (length-table n v ∙ sym (length-table n w)))
+difference-norm n v w =
+    subst (λ l. norm-of l ≤ 2 * (norm-of (table n v) + norm-of (table n w))) (difference-table n v w) (norm-of-difference (table n v) (table n w) (length-table n v ∙ sym (length-table n w)))
 
 -- of two vectors within a limit it is at most four times the limit
 pub difference-within : (n limit : ℕ) (v w : ℕ → Element) → norm-of (table n v) ≤ limit → norm-of (table n w) ≤ limit → norm-of (table n (λ m. v m ⊕ neg (w m))) ≤ 4 * limit
@@ -35,7 +34,8 @@ regroup : (O : Ops) (R : CRing O) (x y z w : O .Carrier) → O .add (O .add x (O
 regroup O R x y z w = simp (ring, R)
 
 -- the norm of x − y − z + w of four vectors is at most four times the norms' sum
-pub four-norm : (n : ℕ) (x y z w : ℕ → Element) → norm-of (table n (λ m. x m ⊕ neg (y m) ⊕ neg (z m) ⊕ w m)) ≤ 4 * (norm-of (table n x) + norm-of (table n y) + norm-of (table n z) + norm-of (table n w))
+pub four-norm : (n : ℕ) (x y z w : ℕ → Element)
+    → norm-of (table n (λ m. x m ⊕ neg (y m) ⊕ neg (z m) ⊕ w m)) ≤ 4 * (norm-of (table n x) + norm-of (table n y) + norm-of (table n z) + norm-of (table n w))
 four-norm n x y z w =
     let same = table-ext n (λ m. (x m ⊕ neg (y m)) ⊕ neg (z m ⊕ neg (w m))) (λ m. x m ⊕ neg (y m) ⊕ neg (z m) ⊕ w m) (λ m l. regroup RqOps rq-ring (x m) (y m) (z m) (w m)) in
     omega (arith, ap norm-of same, difference-norm n (λ m. x m ⊕ neg (y m)) (λ m. z m ⊕ neg (w m)), difference-norm n x y, difference-norm n z w)

@@ -16,7 +16,7 @@ use Rattle.definitions.specs.Rq.{Element, coeff, digitRow, restRow}
 use Rattle.definitions.specs.Ring.{words}
 use Rattle.definitions.proofs.Bridge.{coeff-canonical}
 use Rattle.definitions.proofs.Digits.{digits-sum, digit-of-canonical, rest-of-canonical}
-use Rattle.protocol.specs.Parameters.{Parameters, parameters}
+use Rattle.protocol.specs.Parameters.{parameters}
 use Rattle.protocol.specs.Views.{Public, public, Message, message}
 use Rattle.protocol.specs.Formulas.{norm-of, t-digits, g-digits, h-digits}
 use Rattle.protocol.specs.Conditions.{two-parts-norm}
@@ -63,7 +63,7 @@ module _ (b : ℕ) (p : 0 < b) where
       let zeros : ℕ → ℕ = λ j. digit b (coeff (words e) j) 0 in
       let rests : ℕ → ℕ = λ j. rest b (coeff (words e) j) in
       let each =
-        Σ-le 64 (λ j. square (coeff (words e) j)) (λ j. (1 + b * b) * (square (zeros j) + square (rests j))) (λ j l. square-of-parts (coeff (words e) j) (coeff-canonical e j)) in
+      Σ-le 64 (λ j. square (coeff (words e) j)) (λ j. (1 + b * b) * (square (zeros j) + square (rests j))) (λ j l. square-of-parts (coeff (words e) j) (coeff-canonical e j)) in
       omega (
         arith,
         norm-of-words e,

@@ -81,7 +81,8 @@ within-mul x y s t v w = record {
 
     out : (x y p m p′ m′ : ℕ) → (x + m) % Q ≡ p % Q → (y + m′) % Q ≡ p′ % Q → (x * y + (p * m′ + m * p′)) % Q ≡ (p * p′ + m * m′) % Q
     out x y p m p′ m′ e f =
-        sums (x * y) (p * m′ + m * p′) (x * y) ((x + m) * m′ + m * (y + m′)) refl (sums (p * m′) (m * p′) ((x + m) * m′) (m * (y + m′)) (products p m′ (x + m) m′ (sym e) refl) (products m p′ m (y + m′) refl (sym f)))
+        sums (x * y) (p * m′ + m * p′) (x * y) ((x + m) * m′ + m * (y + m′)) refl
+        (sums (p * m′) (m * p′) ((x + m) * m′) (m * (y + m′)) (products p m′ (x + m) m′ (sym e) refl) (products m p′ m (y + m′) refl (sym f)))
         ∙ ap (λ k. k % Q) (regroup x y m m′)
         ∙ sums ((x + m) * (y + m′)) (m * m′) (p * p′) (m * m′) (products (x + m) (y + m′) p p′ e f) refl
 
