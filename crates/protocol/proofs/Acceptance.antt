@@ -310,14 +310,27 @@ zero-accepts J R X lent e =
     let two = told-fine (up-to-29 Y M) (accepted cells) (no-up-to-29 Y M) (one .1) in
     (cells, ap₂ (λ a b. a then (b then accepted cells)) (one .0) (two .0))
 
--- and its job is refused nothing
+-- and nothing is refused before the work
+accepted-unrefused : (J R X : List ℕ) (lent cells : ℕ) → verify J R X lent ≡ accepted cells → verify-refusal J R X lent ≡ fine
+unfolding verify
+accepted-unrefused J R X lent cells e = after (verify-refusal J R X lent) (checks (public J R) (message (parameters J) X)) cells (refusal-no J R X lent .unaccepted) e .0
+
+-- of the job, the randomness and the transcript
+accepted-slices : (J R X : List ℕ) (lent cells : ℕ) → verify J R X lent ≡ accepted cells → job-refusal J then randomness-refusal (parameters J) 7 R then transcript-refusal (parameters J) X ≡ fine
+unfolding verify-refusal
+accepted-slices J R X lent cells e =
+    let P = parameters J in
+    then-fine-left (job-refusal J then randomness-refusal P 7 R then transcript-refusal P X) (scratch-refusal P lent) (accepted-unrefused J R X lent cells e)
+
 accepted-job : (J R X : List ℕ) (lent cells : ℕ) → verify J R X lent ≡ accepted cells → job-refusal J ≡ fine
-unfolding verify verify-refusal
 accepted-job J R X lent cells e =
     let P = parameters J in
-    let slices = job-refusal J then randomness-refusal P 7 R then transcript-refusal P X in
-    let none = after (verify-refusal J R X lent) (checks (public J R) (message P X)) cells (refusal-no J R X lent .unaccepted) e .0 in
-    then-fine-left (job-refusal J) (randomness-refusal P 7 R) (then-fine-left (job-refusal J then randomness-refusal P 7 R) (transcript-refusal P X) (then-fine-left slices (scratch-refusal P lent) none))
+    then-fine-left (job-refusal J) (randomness-refusal P 7 R) (then-fine-left (job-refusal J then randomness-refusal P 7 R) (transcript-refusal P X) (accepted-slices J R X lent cells e))
+
+pub accepted-transcript : (J R X : List ℕ) (lent cells : ℕ) → verify J R X lent ≡ accepted cells → transcript-refusal (parameters J) X ≡ fine
+accepted-transcript J R X lent cells e =
+    let P = parameters J in
+    then-fine-right (job-refusal J then randomness-refusal P 7 R) (transcript-refusal P X) (accepted-slices J R X lent cells e)
 
 -- a number that is not refused is at least its least value
 at-least : (least greatest place x : ℕ) → limited least greatest place x ≡ fine → least ≤ x
