@@ -29,8 +29,13 @@ module _ (O : Ops) (R : CRing O) where
       regroup : (p q s t : Carrier) → p ⊕ neg q ⊕ (s ⊕ neg t) ≡ p ⊕ s ⊕ neg (q ⊕ t)
       regroup p q s t = simp (ring, R)
 
-  -- two pairs of weighted sums of the same values vanish. Where the second weights are the same and the first differ in one entry, the value there is 0
-  pub first-zero : (n m k : ℕ) (v w e f v′ w′ e′ f′ : ℕ → Carrier) → k < n
+  -- of two weighted sums, where the weights of one differ in one entry and those of the other are the same, the value at that entry is 0
+  pub record Zero-where (n m : ℕ) (v w e v′ w′ e′ : ℕ → Carrier) : Type 0 where
+    pub first-differ : (k : ℕ) → k < n → Differ-at O n k v w → ((i : ℕ) → i < m → v′ i ≡ w′ i) → e k ≡ nil
+    pub second-differ : (k : ℕ) → k < m → ((i : ℕ) → i < n → v i ≡ w i) → Differ-at O m k v′ w′ → e′ k ≡ nil
+
+  -- where the first differ
+  first-zero : (n m k : ℕ) (v w e f v′ w′ e′ f′ : ℕ → Carrier) → k < n
       → Differ-at O n k v w
       → ((i : ℕ) → i < n → e i ≡ f i)
       → ((i : ℕ) → i < m → v′ i ≡ w′ i)
@@ -43,14 +48,15 @@ module _ (O : Ops) (R : CRing O) where
       (add-cancel-right O R (dot O m v′ e′) (dot O n v e) (dot O n w e)
       (p ∙ sym q ∙ sym (ap₂ _⊕_ (dot-ext O n w w e f (λ i l. refl) values) (dot-ext O m v′ w′ e′ f′ weights values′))))
 
-  -- where the first weights are the same and the second differ in one entry
-  pub second-zero : (n m k : ℕ) (v w e f v′ w′ e′ f′ : ℕ → Carrier) → k < m
-      → ((i : ℕ) → i < n → v i ≡ w i)
+  -- the two sums vanish together at both choices of the weights, of the same values
+  pub zero-where : (n m : ℕ) (v w e f v′ w′ e′ f′ : ℕ → Carrier)
       → ((i : ℕ) → i < n → e i ≡ f i)
-      → Differ-at O m k v′ w′
       → ((i : ℕ) → i < m → e′ i ≡ f′ i)
       → dot O n v e ⊕ dot O m v′ e′ ≡ nil
       → dot O n w f ⊕ dot O m w′ f′ ≡ nil
-      → e′ k ≡ nil
-  second-zero n m k v w e f v′ w′ e′ f′ h weights values differ values′ p q =
-      first-zero m n k v′ w′ e′ f′ v w e f h differ values′ weights values (R .add-comm (dot O m v′ e′) (dot O n v e) ∙ p) (R .add-comm (dot O m w′ f′) (dot O n w f) ∙ q)
+      → Zero-where n m v w e v′ w′ e′
+  zero-where n m v w e f v′ w′ e′ f′ values values′ p q = record {
+    first-differ = λ k h differ weights. first-zero n m k v w e f v′ w′ e′ f′ h differ values weights values′ p q;
+    second-differ = λ k h weights differ.
+      first-zero m n k v′ w′ e′ f′ v w e f h differ values′ weights values (R .add-comm (dot O m v′ e′) (dot O n v e) ∙ p) (R .add-comm (dot O m w′ f′) (dot O n w f) ∙ q);
+  }
