@@ -1,13 +1,13 @@
 -- T5: a tree of accepted transcripts gives away a short vector of A, (B | C) or D, or a witness that meets every constraint and whose projection is p.
 use mathlib.Core.Path.{_≡_}
 use mathlib.Core.List.{List}
-use mathlib.Core.Logic.{_⊎_, inl, inr}
+use mathlib.Core.Logic.{_⊎_, inr}
 use Prim.Native.Nat.{ℕ, _<_}
 use Rattle.definitions.specs.Rq.{Element}
 use Rattle.protocol.specs.Parameters.{Parameters, parameters}
 use Rattle.protocol.specs.Formulas as F
-use Rattle.extraction.specs.Fork.{Branch, values, message-of, Fork, Gives-away}
-use Rattle.extraction.specs.Extracted.{extracted, Extracted}
+use Rattle.extraction.specs.Fork.{Branch, values, message-of, Gives-away}
+use Rattle.extraction.specs.Extracted.{extracted}
 use Rattle.extraction.specs.Tree.{Place, root, beta, alpha, psi, psi-beta, omega, omega-beta, Within, trunk, At-beta, Tree, branches, Witness}
 use Rattle.extraction.proofs.Search.{all-below, or-else}
 use Rattle.extraction.proofs.TreeForks.{Meets-sum, fork-meets}
@@ -63,5 +63,5 @@ module _ {J : List ℕ} (T : Tree J) where
     }
 
 -- T5
-pub witness : (extraction : (J : List ℕ) (F : Fork J) → Gives-away J (F .branch) ⊎ Extracted F) → (J : List ℕ) (T : Tree J) → Gives-away J (branches T) ⊎ Witness T
-witness extraction J T = or-else (every-place (parameters J) (λ p. Meets-sum (trunk (T .fork p)) (extracted (T .fork root))) (λ p within. fork-meets T p (extraction J) within)) (λ met. inr (all-met T met))
+pub witness : (J : List ℕ) (T : Tree J) → Gives-away J (branches T) ⊎ Witness T
+witness J T = or-else (every-place (parameters J) (λ p. Meets-sum (trunk (T .fork p)) (extracted (T .fork root))) (λ p within. fork-meets T p within)) (λ met. inr (all-met T met))

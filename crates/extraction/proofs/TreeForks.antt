@@ -19,6 +19,7 @@ use Rattle.extraction.specs.Extracted.{extracted, Extracted}
 use Rattle.extraction.specs.Tree.{Place, root, Within, trunk, Tree, branches}
 use Rattle.extraction.proofs.Search.{all-below, or-else}
 use Rattle.extraction.proofs.Compare.{alike-t-g, single-or-same}
+use Rattle.extraction.proofs.Extraction.{extraction}
 
 -- quotients by units
 module _ (O : Ops) (R : CRing O) where
@@ -96,8 +97,8 @@ module _ {J : List ℕ} (T : Tree J) (p : Place) where
       G = T .fork p
 
   -- the root's vectors meet the aggregated constraint of a fork's first transcript
-  pub fork-meets : ((F : Fork J) → Gives-away J (F .branch) ⊎ Extracted F) → Within (parameters J) p → Gives-away J (branches T) ⊎ Meets-sum (trunk (T .fork p)) (extracted (T .fork root))
-  fork-meets extraction within =
+  pub fork-meets : Within (parameters J) p → Gives-away J (branches T) ⊎ Meets-sum (trunk (T .fork p)) (extracted (T .fork root))
+  fork-meets within =
       or-else (of-fork root) (λ E.
       or-else (of-fork p) (λ E′.
       or-else (alike-t-g (branches T) (root, base) (p, base) (T .same-u1 p within)) (λ same.
