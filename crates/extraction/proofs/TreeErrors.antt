@@ -10,7 +10,7 @@ use Rattle.definitions.specs.Zq.{Q}
 use Rattle.definitions.specs.Answer.{Answer, fine, failed}
 use Rattle.definitions.specs.Rq.{Element, coeff}
 use Rattle.definitions.specs.Ring.{Residue, residue, RqOps, ZqOps, words, constant}
-use Rattle.definitions.proofs.ZqRing.{zq-ring, residue-add, residue-reduced}
+use Rattle.definitions.proofs.ZqRing.{zq-ring}
 use Rattle.definitions.proofs.RqRing.{rq-ring, residue-products}
 use Rattle.protocol.specs.Checks.{require}
 use Rattle.protocol.specs.Parameters.{Parameters}
@@ -22,7 +22,7 @@ use Rattle.protocol.specs.Verifier.{check-22}
 use Rattle.protocol.proofs.Fine.{required, failed-not-fine}
 use Rattle.protocol.proofs.First.{first-each}
 use Rattle.protocol.proofs.Constraints.{left-of-sums, alpha-error-is}
-use Rattle.protocol.proofs.PsiRows.{_+Q_, _*Q_, lefts, rights, projections, constant-b″, residue-row}
+use Rattle.protocol.proofs.PsiRows.{_+Q_, _*Q_, lefts, rights, projections, constant-b″, residue-second, residue-row}
 use Rattle.extraction.specs.Fork.{_⊖_}
 use Rattle.extraction.proofs.TreeSums.{balance}
 
@@ -62,12 +62,6 @@ module _ (X : Public) (M : Message) (s : ℕ → ℕ → Element) where
   abbrev sent-projections : ℕ → Residue
   sent-projections k = Ops.sum ZqOps 256 (λ j. residue (omega k j) *Q residue (M .p j))
 
-  residue-computed : (k : ℕ) → residue (computed k) ≡ rights X s k +Q sent-projections k
-  residue-computed k =
-      residue-reduced (Σ l (λ x. psi k x * b₀ x) + Σ 256 (λ j. omega k j * M .p j))
-      ∙ residue-add (Σ l (λ x. psi k x * b₀ x)) (Σ 256 (λ j. omega k j * M .p j))
-      ∙ ap₂ _+Q_ (residue-products l (psi k) b₀) (residue-products 256 (omega k) (M .p))
-
   -- where row k of b'' is that of s and check 22 passes, psi's sum of the constant-term constraints' errors and omega's of p's vanish together
   pub constant-errors : check-22 X M ≡ fine → (k : ℕ) → k < L → F.b″ X s k ≡ M .b″ k
       → Ops.dot ZqOps l (λ x. residue (psi k x)) (λ x. residue (constant-error X s x)) +Q Ops.dot ZqOps 256 (λ j. residue (omega k j)) projection-error ≡ ZqOps .nil
@@ -77,4 +71,4 @@ module _ (X : Public) (M : Message) (s : ℕ → ℕ → Element) where
       (sym (residue-products l (psi k) (constant-error X s)) ∙ residue-row X s k)
       (dot-sub-right ZqOps zq-ring 256 (λ j. residue (omega k j)) (λ j. residue (F.p X s j)) (λ j. residue (M .p j)))
       ∙ balance ZqOps zq-ring (lefts X s k) (rights X s k) (projections X s k) (sent-projections k)
-      (sym (constant-b″ X s k) ∙ ap constant row ∙ ap residue (row-passes passes k h) ∙ residue-computed k)
+      (sym (constant-b″ X s k) ∙ ap constant row ∙ ap residue (row-passes passes k h) ∙ residue-second X s (M .p) k)

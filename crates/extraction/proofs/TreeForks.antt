@@ -1,10 +1,10 @@
 -- Two forks of a tree with the same t extract the same vectors, or w_i across the two is given away.
-use mathlib.Core.Path.{_≡_, refl, sym, ap, ap₂, _∙_}
+use mathlib.Core.Path.{_≡_, refl, sym, ap, _∙_}
 use mathlib.Core.List.{List, []}
 use mathlib.Core.Logic.{_⊎_, inl, inr}
 use Prim.Native.Nat.{ℕ, _<_}
 use Rattle.algebra.specs.Ops.{Ops}
-use Rattle.algebra.proofs.Ring.{CRing, ring, one-mul}
+use Rattle.algebra.proofs.Ring.{CRing, ring}
 use Rattle.algebra.proofs.Dot.{dot-sub-right, dot-mul-right}
 use Rattle.algebra.proofs.Form.{form-ext}
 use Rattle.definitions.specs.Rq.{Element}
@@ -14,39 +14,28 @@ use Rattle.protocol.specs.Parameters.{Parameters, parameters}
 use Rattle.protocol.specs.Views.{Public, public}
 use Rattle.protocol.specs.Formulas.{_⊗_, dot, left, a-sum, φ-sum, b-sum}
 use Rattle.binding.specs.Openings.{Same-t-g}
-use Rattle.extraction.specs.Fork.{Branch, values, message-of, z-of, _⊖_, Node, base, first, c, x, Fork, Gives-away, unlike-t-g, unlike-h, mixed-z, single-z}
+use Rattle.extraction.specs.Fork.{Branch, values, message-of, z-of, _⊖_, base, first, c, x, Fork, Gives-away, unlike-t-g, unlike-h, mixed-z, single-z}
 use Rattle.extraction.specs.Extracted.{extracted, Extracted}
 use Rattle.extraction.specs.Tree.{Place, root, Within, trunk, Tree, branches}
+use Rattle.extraction.proofs.Places.{divided}
 use Rattle.extraction.proofs.Search.{all-below, or-else}
 use Rattle.extraction.proofs.Compare.{alike-t-g, single-or-same}
 use Rattle.extraction.proofs.Extraction.{extraction}
 
--- quotients by units
-module _ (O : Ops) (R : CRing O) where
-  open Ops O using (Carrier, add as _⊕_, mul as _⊗_, neg, nil, one)
+-- d′·x = d·y gives x/d = y/d′
+same-quotient : (O : Ops) (R : CRing O) (d f d′ f′ x y : O .Carrier) → O .mul d f ≡ O .one → O .mul d′ f′ ≡ O .one → O .mul d′ x ≡ O .mul d y → O .mul f x ≡ O .mul f′ y
+same-quotient O R d f d′ f′ x y u u′ e =
+    ap (O .mul f) (sym (divided O R d′ f′ x u′))
+    ∙ before d′ f′ f x
+    ∙ ap (λ z. O .mul f (O .mul f′ z)) e
+    ∙ after d f f′ y
+    ∙ divided O R d f (O .mul f′ y) u
+  where
+    before : (d′ f′ f x : O .Carrier) → O .mul f (O .mul d′ (O .mul f′ x)) ≡ O .mul f (O .mul f′ (O .mul d′ x))
+    before d′ f′ f x = simp (ring, R)
 
-  infixl 60 _⊕_
-  infixl 70 _⊗_
-  -- x/d = t gives x = d·t
-  multiplied : (d f x t : Carrier) → d ⊗ f ≡ one → f ⊗ x ≡ t → x ≡ d ⊗ t
-  multiplied d f x t u e = sym (one-mul O R x) ∙ ap (λ y. y ⊗ x) (sym u) ∙ R .mul-assoc d f x ∙ ap (λ y. d ⊗ y) e
-
-  -- d′·x = d·y gives x/d = y/d′
-  divided : (d f d′ f′ x y : Carrier) → d ⊗ f ≡ one → d′ ⊗ f′ ≡ one → d′ ⊗ x ≡ d ⊗ y → f ⊗ x ≡ f′ ⊗ y
-  divided d f d′ f′ x y u u′ e =
-      sym (one-mul O R (f ⊗ x))
-      ∙ ap (λ z. z ⊗ (f ⊗ x)) (sym u′)
-      ∙ before d′ f′ f x
-      ∙ ap (λ z. f ⊗ f′ ⊗ z) e
-      ∙ after d f f′ y
-      ∙ ap (λ z. z ⊗ (f′ ⊗ y)) u
-      ∙ one-mul O R (f′ ⊗ y)
-    where
-      before : (d′ f′ f x : Carrier) → d′ ⊗ f′ ⊗ (f ⊗ x) ≡ f ⊗ f′ ⊗ (d′ ⊗ x)
-      before d′ f′ f x = simp (ring, R)
-
-      after : (d f f′ y : Carrier) → f ⊗ f′ ⊗ (d ⊗ y) ≡ d ⊗ f ⊗ (f′ ⊗ y)
-      after d f f′ y = simp (ring, R)
+    after : (d f f′ y : O .Carrier) → O .mul f (O .mul f′ (O .mul d y)) ≡ O .mul d (O .mul f (O .mul f′ y))
+    after d f f′ y = simp (ring, R)
 
 -- what some of a family of transcripts give away the family gives away
 pub some-give : {J : List ℕ} {Index Some : Type 0} (branch : Index → Branch J) (f : Some → Index) → Gives-away J (λ v. branch (f v)) → Gives-away J branch
@@ -64,10 +53,13 @@ module _ {J : List ℕ} (F : Fork J) where
       → dot n (A k) (z-of (F .branch (first i))) ⊖ dot n (A k) (z-of (F .branch base)) ≡ (x (F .branch) i ⊖ c (F .branch) i) ⊗ t
   unfolding extracted
   step-of-t i k t h e =
-      multiplied RqOps rq-ring (x (F .branch) i ⊖ c (F .branch) i) (F .inverse i) (dot n (A k) (z-of (F .branch (first i))) ⊖ dot n (A k) (z-of (F .branch base))) t (F .inverse-x i h)
-      (ap (_⊗_ (F .inverse i)) (sym (dot-sub-right RqOps rq-ring n (A k) (z-of (F .branch (first i))) (z-of (F .branch base))))
+      let step : Element = dot n (A k) (z-of (F .branch (first i))) ⊖ dot n (A k) (z-of (F .branch base)) in
+      let quotient : F .inverse i ⊗ step ≡ t =
+      ap (_⊗_ (F .inverse i)) (sym (dot-sub-right RqOps rq-ring n (A k) (z-of (F .branch (first i))) (z-of (F .branch base))))
       ∙ sym (dot-mul-right RqOps rq-ring n (F .inverse i) (A k) (λ m. z-of (F .branch (first i)) m ⊖ z-of (F .branch base) m))
-      ∙ e)
+      ∙ e
+      in
+      sym (divided RqOps rq-ring (x (F .branch) i ⊖ c (F .branch) i) (F .inverse i) step (F .inverse-x i h)) ∙ ap (_⊗_ (x (F .branch) i ⊖ c (F .branch) i)) quotient
 
 -- s meets the aggregated constraint of a transcript
 abbrev pub Meets-sum : {J : List ℕ} → Branch J → (ℕ → ℕ → Element) → Type 0
@@ -86,7 +78,7 @@ module _ {J : List ℕ} (T : Tree J) (p : Place) where
       (λ k l. step-of-t F i k (message-of (trunk F) .t i k) h (E .of-t i k h l))
       (λ k l. step-of-t G i k (message-of (trunk F) .t i k) h (E′ .of-t i k h l ∙ sym (same .of-t i k h l))))
       (λ crossed. inr (λ m l.
-      divided RqOps rq-ring (x (F .branch) i ⊖ c (F .branch) i) (F .inverse i) (x (G .branch) i ⊖ c (G .branch) i) (G .inverse i)
+      same-quotient RqOps rq-ring (x (F .branch) i ⊖ c (F .branch) i) (F .inverse i) (x (G .branch) i ⊖ c (G .branch) i) (G .inverse i)
       (z-of (F .branch (first i)) m ⊖ z-of (F .branch base) m) (z-of (G .branch (first i)) m ⊖ z-of (G .branch base) m)
       (F .inverse-x i h) (G .inverse-x i h) (crossed m l))))
     where
@@ -103,10 +95,15 @@ module _ {J : List ℕ} (T : Tree J) (p : Place) where
       or-else (of-fork p) (λ E′.
       or-else (alike-t-g (branches T) (root, base) (p, base) (T .same-u1 p within)) (λ same.
       or-else (same-extracted E E′ same) (λ alike.
-      inr (form-ext RqOps r n (a-sum Y) (a-sum Y) (φ-sum Y) (φ-sum Y) (extracted (T .fork root)) (extracted (T .fork p)) (λ i j h l. refl) (λ i m h l. refl) (λ i m h l. alike i h m l) ∙ E′ .aggregated)))))
+      inr (same-left alike ∙ E′ .aggregated)))))
     where
       Y : Public
       Y = values (trunk (T .fork p))
+
+      same-left : ((i : ℕ) → i < r → (m : ℕ) → m < n → extracted (T .fork root) i m ≡ extracted (T .fork p) i m)
+          → left (parameters J) (a-sum Y) (φ-sum Y) (extracted (T .fork root)) ≡ left (parameters J) (a-sum Y) (φ-sum Y) (extracted (T .fork p))
+      same-left alike =
+          form-ext RqOps r n (a-sum Y) (a-sum Y) (φ-sum Y) (φ-sum Y) (extracted (T .fork root)) (extracted (T .fork p)) (λ i j h l. refl) (λ i m h l. refl) (λ i m h l. alike i h m l)
 
       given : (q : Place) → Gives-away J (T .fork q .branch) ⊎ Extracted (T .fork q) → Gives-away J (branches T) ⊎ Extracted (T .fork q)
       given q (inl g) = inl (some-give (branches T) (λ v. (q, v)) g)

@@ -18,5 +18,7 @@ unfolding transcript-refusal
 sent-p {J} X j h =
     let ss = transcript-sections (parameters J) in
     let fine = accepted-transcript J (X .accepted .randomness) (X .transcript) (X .accepted .scratch) 0 (X .accepted .verdict) in
-    let words = laid 9 10 (X .transcript) 0 ss (omega arith) (then-fine-left (layout 9 (X .transcript) 0 ss) (ranged 10 (X .transcript) 0 ss) fine) (then-fine-right (layout 9 (X .transcript) 0 ss) (ranged 10 (X .transcript) 0 ss) fine) in
+    let sizes = layout 9 (X .transcript) 0 ss in
+    let range = ranged 10 (X .transcript) 0 ss in
+    let words = laid 9 10 (X .transcript) 0 ss (omega arith) (then-fine-left sizes range fine) (then-fine-right sizes range fine) in
     subst (λ k. Canonical (getD (X .transcript) (k + j) 0)) (zero-add (start ss 1)) (words .ranges 1 j (omega arith) h)

@@ -1,5 +1,5 @@
 -- Transcripts of one job with the same randomness in part: the formulas that read no more are the same.
-use mathlib.Core.Path.{_≡_, refl, ap, ap₂}
+use mathlib.Core.Path.{_≡_, refl, ap}
 use mathlib.Core.List.{List}
 use Prim.Native.Nat.{ℕ, _*_, _%_, _<_}
 use Rattle.lists.proofs.Sum.{Σ-ext}
@@ -11,7 +11,7 @@ use Rattle.definitions.specs.Ring.{RqOps, scale}
 use Rattle.protocol.specs.Parameters.{Parameters, parameters}
 use Rattle.protocol.specs.Views.{Public}
 use Rattle.protocol.specs.Formulas as F
-use Rattle.protocol.specs.Formulas.{_⊕_, coefficient}
+use Rattle.protocol.specs.Formulas.{coefficient}
 use Rattle.protocol.specs.Conditions.{constant-error, ring-error}
 use Rattle.extraction.specs.Fork.{Branch, values, Same-Π, Same-psi, Same-omega}
 use Rattle.extraction.proofs.SameWeights.{same-φ″}

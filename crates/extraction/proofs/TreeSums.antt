@@ -58,5 +58,5 @@ module _ (O : Ops) (R : CRing O) where
   zero-where n m v w e f v′ w′ e′ f′ values values′ p q = record {
     first-differ = λ k h differ weights. first-zero n m k v w e f v′ w′ e′ f′ h differ values weights values′ p q;
     second-differ = λ k h weights differ.
-      first-zero m n k v′ w′ e′ f′ v w e f h differ values′ weights values (R .add-comm (dot O m v′ e′) (dot O n v e) ∙ p) (R .add-comm (dot O m w′ f′) (dot O n w f) ∙ q);
+        first-zero m n k v′ w′ e′ f′ v w e f h differ values′ weights values (R .add-comm (dot O m v′ e′) (dot O n v e) ∙ p) (R .add-comm (dot O m w′ f′) (dot O n w f) ∙ q);
   }

@@ -1,21 +1,18 @@
 -- Vectors s that meet the aggregated constraints of two transcripts, at weights that differ in one entry by a unit.
 use mathlib.Core.Path.{_≡_, sym, ap, ap₂, _∙_}
 use mathlib.Core.List.{List}
-use Prim.Native.Nat.{ℕ, _*_, _%_, _<_}
+use Prim.Native.Nat.{ℕ, _<_}
 use native.Mathlib.Nat.{mod-eq-of-lt}
-use Rattle.lists.specs.Sum.{Σ}
 use Rattle.algebra.proofs.Ring.{eq-of-sub-nil}
-use Rattle.definitions.specs.Zq.{Q, Canonical}
-use Rattle.definitions.specs.Rq.{Element, coeff, rzero}
+use Rattle.definitions.specs.Zq.{Canonical}
+use Rattle.definitions.specs.Rq.{Element, rzero}
 use Rattle.definitions.specs.Ring.{Residue, residue, canonical-mod, RqOps, ZqOps, words}
 use Rattle.definitions.proofs.ZqRing.{zq-ring}
 use Rattle.definitions.proofs.RqRing.{rq-ring}
 use Rattle.definitions.proofs.Bridge.{words-nil}
 use Rattle.protocol.specs.Parameters.{Parameters, parameters}
-use Rattle.protocol.specs.Views.{Public}
 use Rattle.protocol.specs.Formulas as F
 use Rattle.protocol.specs.Conditions.{constant-error, ring-error}
-use Rattle.protocol.specs.Verifier.{check-22}
 use Rattle.protocol.proofs.PsiRows.{_+Q_}
 use Rattle.binding.proofs.Binding.{found}
 use Rattle.extraction.specs.Fork.{Branch, values, message-of, _⊖_}
