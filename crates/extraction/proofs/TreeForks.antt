@@ -38,7 +38,7 @@ same-quotient O R d f d′ f′ x y u u′ e =
     after d f f′ y = simp (ring, R)
 
 -- what some of a family of transcripts give away the family gives away
-pub some-give : {J : List ℕ} {Index Some : Type 0} (branch : Index → Branch J) (f : Some → Index) → Gives-away J (λ v. branch (f v)) → Gives-away J branch
+some-give : {J : List ℕ} {Index Some : Type 0} (branch : Index → Branch J) (f : Some → Index) → Gives-away J (λ v. branch (f v)) → Gives-away J branch
 some-give branch f (unlike-t-g v w short) = unlike-t-g (f v) (f w) short
 some-give branch f (unlike-h v w short) = unlike-h (f v) (f w) short
 some-give branch f (mixed-z v w u o short) = mixed-z (f v) (f w) (f u) (f o) short

@@ -14,7 +14,7 @@ module _ (O : Ops) (R : CRing O) where
   infixl 60 _⊕_
   infixl 70 _⊗_
   -- two weighted sums of the same values are equal: the value at the entry in which the weights differ is 0
-  pub zero-at : (n k : ℕ) (v w e : ℕ → Carrier) → k < n → Differ-at O n k v w → dot O n v e ≡ dot O n w e → e k ≡ nil
+  zero-at : (n k : ℕ) (v w e : ℕ → Carrier) → k < n → Differ-at O n k v w → dot O n v e ≡ dot O n w e → e k ≡ nil
   unfolding dot
   zero-at n k v w e h differ same = unit-cancel O R (v k ⊕ neg (w k)) (e k) (differ .unit) (
       sym (sum-single O R n k (λ i. (v i ⊕ neg (w i)) ⊗ e i) h (λ i l d. ap (λ x. (x ⊕ neg (w i)) ⊗ e i) (differ .others i l d) ∙ ap (λ x. x ⊗ e i) (R .add-neg (w i)) ∙ nil-mul O R (e i)))

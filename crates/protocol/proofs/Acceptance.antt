@@ -310,12 +310,12 @@ zero-accepts J R X lent e =
     let two = told-fine (up-to-29 Y M) (accepted cells) (no-up-to-29 Y M) (one .1) in
     (cells, ap₂ (λ a b. a then (b then accepted cells)) (one .0) (two .0))
 
--- and nothing is refused before the work
+-- where it is accepted, nothing is refused before the work
 accepted-unrefused : (J R X : List ℕ) (lent cells : ℕ) → verify J R X lent ≡ accepted cells → verify-refusal J R X lent ≡ fine
 unfolding verify
 accepted-unrefused J R X lent cells e = after (verify-refusal J R X lent) (checks (public J R) (message (parameters J) X)) cells (refusal-no J R X lent .unaccepted) e .0
 
--- of the job, the randomness and the transcript
+-- nor of the job, the randomness and the transcript
 accepted-slices : (J R X : List ℕ) (lent cells : ℕ) → verify J R X lent ≡ accepted cells → job-refusal J then randomness-refusal (parameters J) 7 R then transcript-refusal (parameters J) X ≡ fine
 unfolding verify-refusal
 accepted-slices J R X lent cells e =
