@@ -57,7 +57,7 @@ impl Statement {
     }
 
     /// Sets the limits: bound_A is the longest vector's norm, beta_sq twice the witness's, the others twice what one honest transcript has.
-    fn limit(&mut self, words: &mut Words) {
+    pub fn limit(&mut self, words: &mut Words) {
         let randomness = sessions::drawn(&self.parameters, words);
         let transcript = prove(&self.job, &randomness, &self.witness_slice()).expect("no bound is in the way");
         let one = SectionOne::read(&self.job).expect("a fit job");

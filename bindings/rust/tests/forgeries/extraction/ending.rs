@@ -56,13 +56,18 @@ fn of_one(fork: &Fork, i: usize) -> Vec<Element> {
     sub_each(&times(Y, X), &times(X, Y))
 }
 
-/// The first w_ij or w_i that is not zero. A sends each to zero, and it is within its bound: z's squared norm is at most
-/// (1 + b²)·beta_prime_sq, and a product with a difference of challenges is at most 102 times as long.
+/// (1 + b²)·beta_prime_sq, which z's squared norm is at most.
+pub fn z_limit(statement: &Statement) -> u128 {
+    (1 + u128::from(statement.parameters.b).pow(2)) * statement.bound("beta_prime_sq")
+}
+
+/// The first w_ij or w_i that is not zero. A sends each to zero, and it is within its bound: a product with a difference of challenges
+/// is at most 102 times as long.
 fn short_vector(statement: &Statement, fork: &Fork) -> Option<Vec<Element>> {
     let r = fork.values.len();
     let twos = (0..r).flat_map(|j| (0..j).map(move |i| (of_two(fork, i, j), 16)));
     let ones = (0..r).map(|i| (of_one(fork, i), 408 * 408));
-    let limit = (1 + u128::from(statement.parameters.b).pow(2)) * statement.bound("beta_prime_sq");
+    let limit = z_limit(statement);
     let norm = |vector: &[Element]| norm_of(&to_words(vector)).expect("canonical words");
     assert!(fork.each_z().all(|z| norm(&z) <= limit));
     let mut found = None;

@@ -28,7 +28,7 @@ fn hold(p: &Parameters) {
 /// A has as many columns as rows.
 #[test]
 fn three_vectors() {
-    hold(&Parameters { n: 2, r: 3, kappa: 2, kappa_1: 2, kappa_2: 2, K: 1, l: 2, ..SMALLEST });
+    hold(&Parameters { n: 2, r: 3, kappa: 2, kappa_1: 2, kappa_2: 2, K: 1, l: 2, b: 256, t_1: 4, t_2: 4, ..SMALLEST });
 }
 
 /// A has more columns than rows; ring constraints alone.
@@ -37,7 +37,7 @@ fn two_vectors_of_four_elements() {
     hold(&Parameters { n: 4, K: 2, l: 0, ..SMALLEST });
 }
 
-/// Totals alone, digits to the base 256.
+/// Totals alone.
 #[test]
 fn one_vector() {
     hold(&Parameters { n: 3, r: 1, l: 3, b: 256, t_1: 4, t_2: 4, L: 5, ..SMALLEST });

@@ -118,9 +118,6 @@ impl Tree {
     }
 }
 
-/// Entries of p that a tree has forks of.
-const ENTRIES: [usize; 3] = [0, 100, 255];
-
 fn hold(p: &Parameters) {
     let (tree, root) = Tree::new(p, &mut Words::seeded(38));
     assert!(tree.found == tree.statement.witness);
@@ -133,7 +130,7 @@ fn hold(p: &Parameters) {
     for (x, total) in totals.iter().enumerate() {
         tree.hold_constant(&root, &rows[0], ("psi", x), total);
     }
-    for j in ENTRIES {
+    for j in (0..256).step_by(51) {
         tree.hold_constant(&root, &rows[0], ("omega", j), &projection[j]);
     }
     assert!(constants.iter().all(|equation| equation.error(&tree.found).coeffs[0] == 0));
