@@ -1,0 +1,26 @@
+-- Transcripts that the prover made of one witness: forks and trees of them.
+use mathlib.Core.Path.{_≡_}
+use mathlib.Core.List.{List}
+use Prim.Native.Nat.{ℕ}
+use lib.ListN.{length}
+use Rattle.definitions.specs.Answer.{fine}
+use Rattle.protocol.specs.Parameters.{parameters}
+use Rattle.protocol.specs.Prover.{whole, prove}
+use Rattle.soundness.specs.Altered.{made-transcript}
+use Rattle.extraction.specs.Fork.{Branch, Node, Used, Fork}
+use Rattle.extraction.specs.Tree.{Place, Within, Tree}
+
+-- the prover's whole call on a witness, with the randomness that the transcript is accepted with, made it
+pub record Made {J : List ℕ} (W : List ℕ) (X : Branch J) : Type 0 where
+  pub scratch : List ℕ
+  pub output : List ℕ
+  pub proved : prove whole J (X .accepted .randomness) W (length scratch) (length output) ≡ fine
+  pub is-output : X .transcript ≡ made-transcript J (X .accepted .randomness) W scratch output
+
+-- a fork whose transcripts the prover made of one witness
+abbrev pub Honest-fork : {J : List ℕ} → List ℕ → Fork J → Type 0
+Honest-fork {J} W F = (v : Node) → Used (parameters J .r) v → Made W (F .branch v)
+
+-- a tree of such forks
+abbrev pub Honest-tree : {J : List ℕ} → List ℕ → Tree J → Type 0
+Honest-tree {J} W T = (p : Place) → Within (parameters J) p → Honest-fork W (T .fork p)
