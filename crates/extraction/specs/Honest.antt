@@ -1,13 +1,18 @@
 -- Transcripts that the prover made of one witness: forks and trees of them.
 use mathlib.Core.Path.{_≡_}
+use mathlib.Core.Bool.{cond}
 use mathlib.Core.List.{List}
 use Prim.Native.Nat.{ℕ}
-use lib.ListN.{length}
+use lib.Dec.{eqb}
+use lib.ListN.{length, getD, set}
 use Rattle.definitions.specs.Answer.{fine}
+use Rattle.definitions.specs.Rq.{Element}
+use Rattle.definitions.specs.Ring.{RqOps}
 use Rattle.protocol.specs.Parameters.{parameters}
 use Rattle.protocol.specs.Prover.{whole, prove}
 use Rattle.soundness.specs.Altered.{made-transcript}
-use Rattle.extraction.specs.Fork.{Branch, Node, Used, Fork}
+use Rattle.soundness.specs.Weights.{IsUnit}
+use Rattle.extraction.specs.Fork.{Branch, Node, Used, _⊖_, Fork}
 use Rattle.extraction.specs.Tree.{Place, Within, Tree}
 
 -- the prover's whole call on a witness, with the randomness that the transcript is accepted with, made it
@@ -24,3 +29,17 @@ Honest-fork {J} W F = (v : Node) → Used (parameters J .r) v → Made W (F .bra
 -- a tree of such forks
 abbrev pub Honest-tree : {J : List ℕ} → List ℕ → Tree J → Type 0
 Honest-tree {J} W T = (p : Place) → Within (parameters J) p → Honest-fork W (T .fork p)
+
+-- a sign word of the other sign
+abbrev pub other-sign : ℕ → ℕ
+other-sign w = cond (eqb w 1) 0 1
+
+-- words with the sign word at a place changed to the other sign
+unfoldable pub flipped : ℕ → List ℕ → List ℕ
+flipped place words = set words place (other-sign (getD words place 0))
+
+-- "x_i − c_i, y_i − c_i, x_i − y_i are units"
+pub record Unit-differences (c x y : Element) : Type 0 where
+  pub unit-x : IsUnit RqOps (x ⊖ c)
+  pub unit-y : IsUnit RqOps (y ⊖ c)
+  pub unit-x-y : IsUnit RqOps (x ⊖ y)
