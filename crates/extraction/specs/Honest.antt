@@ -2,17 +2,18 @@
 use mathlib.Core.Path.{_≡_}
 use mathlib.Core.Bool.{cond}
 use mathlib.Core.List.{List}
-use Prim.Native.Nat.{ℕ}
+use Prim.Native.Nat.{ℕ, _+_, _*_}
 use lib.Dec.{eqb}
 use lib.ListN.{length, getD, set}
 use Rattle.definitions.specs.Answer.{fine}
 use Rattle.definitions.specs.Rq.{Element}
 use Rattle.definitions.specs.Ring.{RqOps}
-use Rattle.protocol.specs.Parameters.{parameters}
+use Rattle.protocol.specs.Parameters.{Parameters, parameters}
+use Rattle.protocol.specs.Layout.{start, randomness-sections}
 use Rattle.protocol.specs.Prover.{whole, prove}
 use Rattle.soundness.specs.Altered.{made-transcript}
 use Rattle.soundness.specs.Weights.{IsUnit}
-use Rattle.extraction.specs.Fork.{Branch, Node, Used, _⊖_, Fork}
+use Rattle.extraction.specs.Fork.{Branch, Node, base, first, second, mixed, Used, _⊖_, Fork}
 use Rattle.extraction.specs.Tree.{Place, Within, Tree}
 
 -- the prover's whole call on a witness, with the randomness that the transcript is accepted with, made it
@@ -43,3 +44,14 @@ pub record Unit-differences (c x y : Element) : Type 0 where
   pub unit-x : IsUnit RqOps (x ⊖ c)
   pub unit-y : IsUnit RqOps (y ⊖ c)
   pub unit-x-y : IsUnit RqOps (x ⊖ y)
+
+-- where sign word j of challenge i stands in the randomness
+abbrev pub sign-place : Parameters → ℕ → ℕ → ℕ
+sign-place P i j = start (randomness-sections P) 5 + 41 * i + j
+
+-- randomness for the transcripts of a fork: sign word 0 of challenge i flipped gives x_i, sign word 1 gives y_i
+unfoldable pub flipped-at : Parameters → List ℕ → Node → List ℕ
+flipped-at P R base = R
+flipped-at P R (first i) = flipped (sign-place P i 0) R
+flipped-at P R (second i) = flipped (sign-place P i 1) R
+flipped-at P R (mixed i j) = flipped (sign-place P j 0) (flipped (sign-place P i 0) R)
