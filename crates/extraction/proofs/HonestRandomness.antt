@@ -27,16 +27,16 @@ pub length-flipped : (p : ℕ) (R : List ℕ) → length (flipped p R) ≡ lengt
 unfolding flipped
 length-flipped p R = length-set R p (other-sign (getD R p 0))
 
-flipped-other : (p : ℕ) (R : List ℕ) (i : ℕ) → i ≢ p → getD (flipped p R) i 0 ≡ getD R i 0
+pub flipped-other : (p : ℕ) (R : List ℕ) (i : ℕ) → i ≢ p → getD (flipped p R) i 0 ≡ getD R i 0
 unfolding flipped
 flipped-other p R i d = getD-set-other R p i (other-sign (getD R p 0)) 0 d
 
-flipped-there : (p : ℕ) (R : List ℕ) → p < length R → getD (flipped p R) p 0 ≡ other-sign (getD R p 0)
+pub flipped-there : (p : ℕ) (R : List ℕ) → p < length R → getD (flipped p R) p 0 ≡ other-sign (getD R p 0)
 unfolding flipped
 flipped-there p R h = getD-set-same R p (other-sign (getD R p 0)) 0 h
 
 -- a part that has not the place
-part-elsewhere : (p : ℕ) (R : List ℕ) (from n : ℕ) → ((i : ℕ) → from ≤ i → i < from + n → i ≢ p) → part (flipped p R) from n ≡ part R from n
+pub part-elsewhere : (p : ℕ) (R : List ℕ) (from n : ℕ) → ((i : ℕ) → from ≤ i → i < from + n → i ≢ p) → part (flipped p R) from n ≡ part R from n
 part-elsewhere p R from n apart = part-ext 0 (flipped p R) R from n (length-flipped p R) (λ i h l. flipped-other p R i (apart i h l))
 
 -- a part that has it
