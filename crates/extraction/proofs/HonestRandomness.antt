@@ -1,5 +1,5 @@
 -- Randomness with a sign word flipped: what is before the sign words stays, and one challenge changes.
-use mathlib.Core.Path.{_≡_, refl, sym, ap, ap₂, _∙_}
+use mathlib.Core.Path.{_≡_, refl, sym, ap, ap₂, subst₂, _∙_}
 use mathlib.Core.List.{List}
 use mathlib.Core.Logic.{_≢_}
 use Prim.Native.Nat.{ℕ, _+_, _*_, _≤_, _<_}
@@ -93,8 +93,8 @@ module _ (J : List ℕ) where
   pub node-alike : (R : List ℕ) (v : Node) → take (upto (parameters J) 5) R ≡ take (upto (parameters J) 5) (flipped-at (parameters J) R v)
   unfolding flipped-at
   node-alike R base = refl
-  node-alike R (first i) = sym (flipped-alike R i 0)
-  node-alike R (second i) = sym (flipped-alike R i 1)
+  node-alike R (first i) = sym (flipped-alike R i _)
+  node-alike R (second i) = sym (flipped-alike R i _)
   node-alike R (mixed i j) = sym (flipped-alike (flipped (sign-place (parameters J) i 0) R) j 0 ∙ flipped-alike R i 0)
 
   -- the sign words and the shuffle words of challenge k
@@ -140,5 +140,5 @@ module _ (J : List ℕ) where
       → Unit-differences (public J R .c i) (public J (flipped-at (parameters J) R (first i)) .c i) (public J (flipped-at (parameters J) R (second i)) .c i)
   unfolding flipped-at start span
   units-at R i h size =
-      rw (challenge-flipped R i 0 (omega arith) h size, challenge-flipped R i 1 (omega arith) h size)
+      subst₂ (Unit-differences (public J R .c i)) (sym (challenge-flipped R i 0 (omega arith) h size)) (sym (challenge-flipped R i 1 (omega arith) h size))
       (flipped-sign-units (signs-of R i) (shuffles-of R i) 0 1 (omega arith) (omega arith) (omega arith) (length-part R (start (randomness-sections (parameters J)) 5 + 41 * i) 41 (omega arith)))
