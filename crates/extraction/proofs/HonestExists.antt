@@ -30,7 +30,7 @@ use Rattle.extraction.specs.Extracted.{extracted, Extracted}
 use Rattle.extraction.specs.Honest.{Honest-fork, flipped, sign-place, flipped-at}
 use Rattle.extraction.proofs.HonestRandomness.{alike-weights, node-alike}
 use Rattle.extraction.proofs.HonestFlipped.{flipped-fine}
-use Rattle.extraction.proofs.HonestFork.{flipped-fork, flipped-fork-honest}
+use Rattle.extraction.proofs.HonestFork.{flipped-fork, flipped-fork-honest, flipped-fork-randomness}
 
 -- 7 and 8 of the randomness of each transcript that is used
 node-fine : (J R : List ℕ) (v : Node) → Used (parameters J .r) v → randomness-refusal (parameters J) 7 R ≡ fine → randomness-refusal (parameters J) 7 (flipped-at (parameters J) R v) ≡ fine
@@ -60,7 +60,7 @@ module _ (J R R′ : List ℕ) (alike : take (upto (parameters J) 5) R ≡ take 
 
   module _ (s : ℕ → ℕ → Element) where
     weights : Same-weights (public J R) (public J R′)
-    weights = alike-weights J R R′ alike
+    weights = alike-weights J R R′ (upto (parameters J) 5) alike (le-refl (upto (parameters J) 5))
 
     five-hold-one : upto (parameters J) 1 ≤ upto (parameters J) 5
     unfolding span
@@ -118,3 +118,8 @@ module _ (J R W scratch output : List ℕ)
   -- there is a fork of the prover's transcripts
   pub honest-fork-exists : (F : Fork J) × Honest-fork W F
   honest-fork-exists = (flipped-fork J R W scratch output proved-at held-at, flipped-fork-honest J R W scratch output proved-at held-at)
+
+  -- its first transcript is that of R
+  pub honest-fork-randomness : honest-fork-exists .0 .branch base .accepted .randomness ≡ R
+  unfolding honest-fork-exists
+  honest-fork-randomness = flipped-fork-randomness J R W scratch output proved-at held-at

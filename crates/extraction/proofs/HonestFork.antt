@@ -175,7 +175,7 @@ module _ (J R W scratch output : List ℕ)
   pub flipped-fork : Fork J
   flipped-fork = record {
     branch = branches;
-    same-weights = λ v used. alike-weights J (branches base .accepted .randomness) (branches v .accepted .randomness) (alike v);
+    same-weights = λ v used. alike-weights J (branches base .accepted .randomness) (branches v .accepted .randomness) (upto (parameters J) 5) (alike v) (le-refl (upto (parameters J) 5));
     same-u1 = λ v used. same-u1 v;
     same-u2 = λ v used. same-u2 v;
     same-challenges = same-challenges;
@@ -189,3 +189,8 @@ module _ (J R W scratch output : List ℕ)
   pub flipped-fork-honest : Honest-fork W flipped-fork
   unfolding flipped-fork
   flipped-fork-honest v used = made v
+
+  -- and the first has the randomness R
+  pub flipped-fork-randomness : flipped-fork .branch base .accepted .randomness ≡ R
+  unfolding flipped-fork used? used-or-base flipped-at
+  flipped-fork-randomness = refl

@@ -18,7 +18,7 @@ use Rattle.protocol.specs.Parameters.{Parameters, parameters}
 use Rattle.protocol.specs.Layout.{part, span, start, randomness-sections}
 use Rattle.protocol.specs.Views.{public}
 use Rattle.protocol.proofs.Alike.{upto}
-use Rattle.extraction.specs.Fork.{Same-weights, Node, base, first, second, mixed, Used}
+use Rattle.extraction.specs.Fork.{Same-Π, Same-psi, Same-omega, Same-alpha, Same-weights, Node, base, first, second, mixed, Used}
 use Rattle.extraction.specs.Honest.{other-sign, flipped, sign-place, flipped-at, Unit-differences}
 use Rattle.extraction.proofs.HonestUnits.{flipped-sign-units}
 
@@ -35,9 +35,13 @@ pub flipped-there : (p : ℕ) (R : List ℕ) → p < length R → getD (flipped 
 unfolding flipped
 flipped-there p R h = getD-set-same R p (other-sign (getD R p 0)) 0 h
 
--- a part that has not the place
+-- a part that has not the place where a word is stored
+pub stored-elsewhere : (p v : ℕ) (R : List ℕ) (from n : ℕ) → ((i : ℕ) → from ≤ i → i < from + n → i ≢ p) → part (set R p v) from n ≡ part R from n
+stored-elsewhere p v R from n apart = part-ext 0 (set R p v) R from n (length-set R p v) (λ i h l. getD-set-other R p i v 0 (apart i h l))
+
 pub part-elsewhere : (p : ℕ) (R : List ℕ) (from n : ℕ) → ((i : ℕ) → from ≤ i → i < from + n → i ≢ p) → part (flipped p R) from n ≡ part R from n
-part-elsewhere p R from n apart = part-ext 0 (flipped p R) R from n (length-flipped p R) (λ i h l. flipped-other p R i (apart i h l))
+unfolding flipped
+part-elsewhere p R from n apart = stored-elsewhere p (other-sign (getD R p 0)) R from n apart
 
 -- a part that has it
 part-flipped : (R : List ℕ) (from n j : ℕ) → j < n → from + n ≤ length R → part (flipped (from + j) R) from n ≡ flipped j (part R from n)
@@ -62,25 +66,49 @@ part-flipped R from n j h l =
         ∙ sym (flipped-other j (part R from n) i d ∙ getD-part 0 R from n i m)
 
 -- an index of a table of a rows of b each
-index-below : (a b i j : ℕ) → i < a → j < b → i * b + j < a * b
+pub index-below : (a b i j : ℕ) → i < a → j < b → i * b + j < a * b
 index-below a b i j hi hj = omega (arith, mul-le-mul-right b hi)
 
--- randomness that begins alike for five sections has the same weights
-module _ (J R R′ : List ℕ) (alike : take (upto (parameters J) 5) R ≡ take (upto (parameters J) 5) R′) where
+-- randomness that begins alike
+module _ (J R R′ : List ℕ) (N : ℕ) (alike : take N R ≡ take N R′) where
   open Parameters (parameters J) using (n, r, K, l, L)
 
-  pub alike-weights : Same-weights (public J R) (public J R′)
+  abbrev of : ℕ → ℕ
+  of = start (randomness-sections (parameters J))
+
+  word : (i : ℕ) → i < N → getD R i 0 ≡ getD R′ i 0
+  word i = getD-alike N R R′ alike i 0
+
+  -- for a section
+  pub alike-Π : upto (parameters J) 1 ≤ N → Same-Π (public J R) (public J R′)
   unfolding span start
-  alike-weights =
-      let of = start (randomness-sections (parameters J)) in
-      let word : (i : ℕ) → i < upto (parameters J) 5 → getD R i 0 ≡ getD R′ i 0 = λ i. getD-alike (upto (parameters J) 5) R R′ alike i 0 in
-      record {
-        same-Π = λ i j m hi hj hm. ap entry (word (of 0 + ((i * 256 + j) * (64 * n) + m)) (omega (arith, index-below (r * 256) (64 * n) (i * 256 + j) m (index-below r 256 i j hi hj) hm)));
-        same-psi = λ k hk x hx. word (of 1 + (k * l + x)) (omega (arith, index-below L l k x hk hx));
-        same-omega = λ k hk j hj. word (of 2 + (k * 256 + j)) (omega (arith, index-below L 256 k j hk hj));
-        same-alpha = λ k hk. ap element (part-alike (upto (parameters J) 5) R R′ alike (of 3 + 64 * k) 64 (omega arith));
-        same-beta = λ k hk. ap element (part-alike (upto (parameters J) 5) R R′ alike (of 4 + 64 * k) 64 (omega arith));
-      }
+  alike-Π within i j m hi hj hm = ap entry (word (of 0 + ((i * 256 + j) * (64 * n) + m)) (omega (arith, index-below (r * 256) (64 * n) (i * 256 + j) m (index-below r 256 i j hi hj) hm)))
+
+  -- for two
+  pub alike-psi : upto (parameters J) 2 ≤ N → (k : ℕ) → k < L → Same-psi (public J R) (public J R′) k
+  unfolding span start
+  alike-psi within k hk x hx = word (of 1 + (k * l + x)) (omega (arith, index-below L l k x hk hx))
+
+  -- for three
+  pub alike-omega : upto (parameters J) 3 ≤ N → (k : ℕ) → k < L → Same-omega (public J R) (public J R′) k
+  unfolding span start
+  alike-omega within k hk j hj = word (of 2 + (k * 256 + j)) (omega (arith, index-below L 256 k j hk hj))
+
+  -- for four
+  pub alike-alpha : upto (parameters J) 4 ≤ N → Same-alpha (public J R) (public J R′)
+  unfolding span start
+  alike-alpha within k hk = ap element (part-alike N R R′ alike (of 3 + 64 * k) 64 (omega arith))
+
+  -- for five
+  pub alike-weights : upto (parameters J) 5 ≤ N → Same-weights (public J R) (public J R′)
+  unfolding span start
+  alike-weights within = record {
+    same-Π = alike-Π (omega arith);
+    same-psi = alike-psi (omega arith);
+    same-omega = alike-omega (omega arith);
+    same-alpha = alike-alpha (omega arith);
+    same-beta = λ k hk. ap element (part-alike N R R′ alike (of 4 + 64 * k) 64 (omega arith));
+  }
 
 module _ (J : List ℕ) where
   open Parameters (parameters J) using (r)

@@ -2,9 +2,10 @@
 use mathlib.Core.Path.{_≡_}
 use mathlib.Core.Bool.{cond}
 use mathlib.Core.List.{List}
-use Prim.Native.Nat.{ℕ, _+_, _*_}
+use Prim.Native.Nat.{ℕ, _+_, _*_, _%_}
 use lib.Dec.{eqb}
 use lib.ListN.{length, getD, set}
+use Rattle.definitions.specs.Zq.{Q}
 use Rattle.definitions.specs.Answer.{fine}
 use Rattle.definitions.specs.Rq.{Element}
 use Rattle.definitions.specs.Ring.{RqOps}
@@ -14,7 +15,7 @@ use Rattle.protocol.specs.Prover.{whole, prove}
 use Rattle.soundness.specs.Altered.{made-transcript}
 use Rattle.soundness.specs.Weights.{IsUnit}
 use Rattle.extraction.specs.Fork.{Branch, Node, base, first, second, mixed, Used, _⊖_, Fork}
-use Rattle.extraction.specs.Tree.{Place, Within, Tree}
+use Rattle.extraction.specs.Tree.{Place, root, beta, alpha, psi, psi-beta, omega, omega-beta, Within, Tree}
 
 -- the prover's whole call on a witness, with the randomness that the transcript is accepted with, made it
 pub record Made {J : List ℕ} (W : List ℕ) (X : Branch J) : Type 0 where
@@ -55,3 +56,31 @@ flipped-at P R base = R
 flipped-at P R (first i) = flipped (sign-place P i 0) R
 flipped-at P R (second i) = flipped (sign-place P i 1) R
 flipped-at P R (mixed i j) = flipped (sign-place P j 0) (flipped (sign-place P i 0) R)
+
+-- words with 1 added to the word at a place, modulo Q
+unfoldable pub raised : ℕ → List ℕ → List ℕ
+raised place words = set words place ((getD words place 0 + 1) % Q)
+
+module _ (P : Parameters) where
+  -- where the constant coefficients of alpha_k and of beta_k, and the entries of row k of psi and of omega, stand in the randomness
+  abbrev pub alpha-place : ℕ → ℕ
+  alpha-place k = start (randomness-sections P) 3 + 64 * k
+
+  abbrev pub beta-place : ℕ → ℕ
+  beta-place k = start (randomness-sections P) 4 + 64 * k
+
+  abbrev pub psi-place : ℕ → ℕ → ℕ
+  psi-place k x = start (randomness-sections P) 1 + (k * P .l + x)
+
+  abbrev pub omega-place : ℕ → ℕ → ℕ
+  omega-place k j = start (randomness-sections P) 2 + (k * 256 + j)
+
+  -- randomness for the forks of a tree: 1 added to what is changed
+  unfoldable pub raised-at : ℕ → List ℕ → Place → List ℕ
+  raised-at row R root = R
+  raised-at row R beta = raised (beta-place row) R
+  raised-at row R (alpha k) = raised (alpha-place k) R
+  raised-at row R (psi x) = raised (psi-place row x) R
+  raised-at row R (psi-beta x) = raised (beta-place row) (raised (psi-place row x) R)
+  raised-at row R (omega j) = raised (omega-place row j) R
+  raised-at row R (omega-beta j) = raised (beta-place row) (raised (omega-place row j) R)
