@@ -12,8 +12,9 @@ use Rattle.protocol.specs.Conditions.{digit-sum, conditions}
 use Rattle.extraction.specs.Fork.{Node, base, Used, Fork}
 use Rattle.extraction.specs.Tree.{Place, root, beta, alpha, psi, psi-beta, omega, omega-beta, Within, trunk, Tree}
 use Rattle.extraction.specs.Honest.{Made, Honest-fork, Honest-tree, flipped-at, raised, alpha-place, beta-place, psi-place, omega-place, raised-at}
+use Rattle.extraction.proofs.Honest.{made-u1}
 use Rattle.extraction.proofs.HonestExists.{honest-fork-exists, honest-fork-randomness}
-use Rattle.extraction.proofs.HonestWeights.{made-u1, made-alpha, made-beta, made-psi, made-omega}
+use Rattle.extraction.proofs.HonestWeights.{made-alpha, made-beta, made-psi, made-omega}
 
 -- whether a fork is used
 within? : (P : Parameters) (p : Place) → Dec (Within P p)
@@ -45,7 +46,7 @@ module _ (J R W scratch output : List ℕ) (row : ℕ) (row-below : row < parame
     (proved : (p : Place) → Within (parameters J) p → prove whole J (raised-at (parameters J) row R p) W (length scratch) (length output) ≡ fine)
     (held : (p : Place) → Within (parameters J) p → conditions (public J (raised-at (parameters J) row R p)) (witness (parameters J) W) ≡ accepted 0)
     (room : (p : Place) → Within (parameters J) p → (v : Node) → Used (parameters J .r) v
-        → digit-sum (public J (flipped-at (parameters J) (raised-at (parameters J) row R p) v)) (witness (parameters J) W) ≤ parameters J .beta-prime-sq) where
+    → digit-sum (public J (flipped-at (parameters J) (raised-at (parameters J) row R p) v)) (witness (parameters J) W) ≤ parameters J .beta-prime-sq) where
   -- the fork of one that is used
   fork-at : (p : Place) → Within (parameters J) p → (F : Fork J) × Honest-fork W F
   fork-at p within = honest-fork-exists J (raised-at (parameters J) row R p) W scratch output (proved p within) (held p within) (room p within)
