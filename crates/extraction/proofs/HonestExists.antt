@@ -67,7 +67,8 @@ module _ (J R R′ : List ℕ) (alike : take (upto (parameters J) 5) R ≡ take 
 
     p-norm-alike : p-norm (public J R) s ≡ p-norm (public J R′) s
     unfolding p-norm
-    p-norm-alike = Σ-ext 256 (λ j. square (Formulas.p (public J R) s j)) (λ j. square (Formulas.p (public J R′) s j)) (λ j h. ap square (p-alike J R R′ (upto (parameters J) 5) alike s five-hold-one j h))
+    p-norm-alike = Σ-ext 256 (λ j. square (Formulas.p (public J R) s j)) (λ j. square (Formulas.p (public J R′) s j))
+        (λ j h. ap square (p-alike J R R′ (upto (parameters J) 5) alike s five-hold-one j h))
 
     psi-error-alike : (k : ℕ) → k < L → psi-error (public J R) s k ≡ psi-error (public J R′) s k
     unfolding psi-error constant-error
@@ -76,7 +77,8 @@ module _ (J R R′ : List ℕ) (alike : take (upto (parameters J) 5) R ≡ take 
 
     alpha-error-alike : alpha-error (public J R) s ≡ alpha-error (public J R′) s
     unfolding alpha-error ring-error
-    alpha-error-alike = sum-ext RqOps K (λ k. public J R .alpha k ⊗ ring-error (public J R) s k) (λ k. public J R′ .alpha k ⊗ ring-error (public J R′) s k) (λ k h. ap (λ a. a ⊗ ring-error (public J R) s k) (weights .same-alpha k h))
+    alpha-error-alike = sum-ext RqOps K (λ k. public J R .alpha k ⊗ ring-error (public J R) s k) (λ k. public J R′ .alpha k ⊗ ring-error (public J R′) s k)
+        (λ k h. ap (λ a. a ⊗ ring-error (public J R) s k) (weights .same-alpha k h))
 
     cells-left-alike : cells-left (public J R) s ≡ cells-left (public J R′) s
     unfolding cells-left Formulas.t Formulas.g

@@ -140,7 +140,9 @@ module _ (J R W scratch output : List ℕ)
   unfolding Formulas.u₂ Formulas.u₂-of
   same-u2 v k h =
       made-agrees J W (branches base) (made base) .u₂ k h
-      ∙ ap (λ l. times (public J R .D) (digits-of b t₁ l) k) (triangle-ext r (Formulas.h (public J (branches base .accepted .randomness)) (witness (parameters J) W)) (Formulas.h (public J (branches v .accepted .randomness)) (witness (parameters J) W)) (λ i j hi hj.
+      ∙ ap (λ l. times (public J R .D) (digits-of b t₁ l) k) (triangle-ext r
+      (Formulas.h (public J (branches base .accepted .randomness)) (witness (parameters J) W)) (Formulas.h (public J (branches v .accepted .randomness)) (witness (parameters J) W))
+      (λ i j hi hj.
       h-alike J (branches base .accepted .randomness) (branches v .accepted .randomness) (upto (parameters J) 5) (alike v) (witness (parameters J) W) (le-refl (upto (parameters J) 5)) i j hi hj))
       ∙ sym (made-agrees J W (branches v) (made v) .u₂ k h)
 

@@ -85,12 +85,18 @@ module _ (J R W scratch output : List ℕ) (row : ℕ) (row-below : row < parame
       row = row;
       row-below = row-below;
       same-u1 = λ p within. made-u1 J W (trunk (forks root)) (trunk (forks p)) (made root) (made p);
-      at-alpha = λ k h. made-alpha J W (trunk (forks root)) (trunk (forks (alpha k))) (made root) (made (alpha k)) k h (raised-from root (alpha k) (alpha-place (parameters J) k) (record {}) h refl);
-      at-beta = made-beta J W (trunk (forks root)) (trunk (forks beta)) (made root) (made beta) row row-below (raised-from root beta (beta-place (parameters J) row) (record {}) (record {}) refl);
-      at-psi = λ x h. made-psi J W (trunk (forks root)) (trunk (forks (psi x))) (made root) (made (psi x)) row x row-below h (raised-from root (psi x) (psi-place (parameters J) row x) (record {}) h refl);
-      at-psi-beta = λ x h. made-beta J W (trunk (forks (psi x))) (trunk (forks (psi-beta x))) (made (psi x)) (made (psi-beta x)) row row-below (raised-from (psi x) (psi-beta x) (beta-place (parameters J) row) h h refl);
-      at-omega = λ j h. made-omega J W (trunk (forks root)) (trunk (forks (omega j))) (made root) (made (omega j)) row j row-below h (raised-from root (omega j) (omega-place (parameters J) row j) (record {}) h refl);
-      at-omega-beta = λ j h. made-beta J W (trunk (forks (omega j))) (trunk (forks (omega-beta j))) (made (omega j)) (made (omega-beta j)) row row-below (raised-from (omega j) (omega-beta j) (beta-place (parameters J) row) h h refl);
+      at-alpha = λ k h. made-alpha J W (trunk (forks root)) (trunk (forks (alpha k))) (made root) (made (alpha k)) k h
+          (raised-from root (alpha k) (alpha-place (parameters J) k) (record {}) h refl);
+      at-beta = made-beta J W (trunk (forks root)) (trunk (forks beta)) (made root) (made beta) row row-below
+          (raised-from root beta (beta-place (parameters J) row) (record {}) (record {}) refl);
+      at-psi = λ x h. made-psi J W (trunk (forks root)) (trunk (forks (psi x))) (made root) (made (psi x)) row x row-below h
+          (raised-from root (psi x) (psi-place (parameters J) row x) (record {}) h refl);
+      at-psi-beta = λ x h. made-beta J W (trunk (forks (psi x))) (trunk (forks (psi-beta x))) (made (psi x)) (made (psi-beta x)) row row-below
+          (raised-from (psi x) (psi-beta x) (beta-place (parameters J) row) h h refl);
+      at-omega = λ j h. made-omega J W (trunk (forks root)) (trunk (forks (omega j))) (made root) (made (omega j)) row j row-below h
+          (raised-from root (omega j) (omega-place (parameters J) row j) (record {}) h refl);
+      at-omega-beta = λ j h. made-beta J W (trunk (forks (omega j))) (trunk (forks (omega-beta j))) (made (omega j)) (made (omega-beta j)) row row-below
+          (raised-from (omega j) (omega-beta j) (beta-place (parameters J) row) h h refl);
     },
     λ p within. honest p,
   )
