@@ -2,6 +2,9 @@
 use mathlib.Core.Path.{_≡_, refl, sym, ap, ap₂, subst, _∙_}
 use mathlib.Core.List.{List}
 use Prim.Native.Nat.{ℕ, _<_}
+use native.Mathlib.Nat.{zero-add}
+use native.Mathlib.Omega.{arith}
+use lib.ListN.{length, take}
 use Rattle.algebra.specs.Ops as Ops
 use Rattle.algebra.specs.Ops.{Ops}
 use Rattle.algebra.proofs.Ring.{CRing, ring, mul-left-comm}
@@ -13,24 +16,27 @@ use Rattle.definitions.specs.Ring.{RqOps}
 use Rattle.definitions.proofs.RqRing.{rq-ring}
 use Rattle.definitions.proofs.Scalar.{rq-double-cancel}
 use Rattle.protocol.specs.Parameters.{Parameters, parameters}
+use Rattle.protocol.specs.Layout.{span, layout, ranged, randomness-sections, randomness-refusal}
 use Rattle.protocol.specs.Views.{Public, Message, message, witness}
 use Rattle.protocol.specs.Formulas as Formulas
-use Rattle.protocol.specs.Formulas.{_⊕_, _⊗_, sum, dot, left, a-sum, φ-sum, b-sum}
+use Rattle.protocol.specs.Formulas.{_⊕_, _⊗_, dot, left, a-sum, φ-sum, b-sum}
 use Rattle.protocol.specs.Prover.{whole}
+use Rattle.protocol.proofs.Fine.{then-fine-left}
 use Rattle.protocol.proofs.Agrees.{Agrees}
 use Rattle.protocol.proofs.ReadBack.{read-back}
-use Rattle.protocol.proofs.Accepted.{output-made, made-whole}
+use Rattle.protocol.proofs.Accepted.{admitted, before-work, output-made, made-whole}
+use Rattle.protocol.proofs.Alike.{u₁-same}
 use Rattle.protocol.proofs.Relations.{aggregated-left}
-use Rattle.binding.specs.Openings.{nil}
+use Rattle.layout.proofs.Laid.{layout-whole}
+use Rattle.binding.specs.Openings.{nil, Equal-u1}
 use Rattle.extraction.specs.Fork.{Branch, values, message-of, z-of, challenge-of, _⊖_, base, first, Fork}
 use Rattle.extraction.specs.Extracted.{extracted, Opens, Extracted}
-use Rattle.extraction.specs.Tree.{Place, root, Within, trunk, Tree, Witness}
+use Rattle.extraction.specs.Tree.{root, trunk, Tree, Witness}
 use Rattle.extraction.specs.Honest.{Made, Honest-fork, Honest-tree}
 use Rattle.extraction.proofs.Steps.{step, one-at, dot-step, dot-one-at}
 use Rattle.extraction.proofs.Places.{divided}
 use Rattle.extraction.proofs.Passes.{aggregated-holds}
 use Rattle.extraction.proofs.Nodes.{C, dx, moved-first}
-use Rattle.extraction.proofs.TreeForks.{Meets-sum}
 use Rattle.extraction.proofs.Tree.{all-met}
 
 -- (t + d·a) − t = d·a
@@ -65,6 +71,23 @@ module _ (J W : List ℕ) where
       subst (λ T. Agrees (values X) s (message (parameters J) T))
       (sym (made .is-output ∙ output-made whole J (X .accepted .randomness) W (made .scratch) (made .output) (made .proved) ∙ made-whole (values X) s))
       (read-back (values X) s)
+
+  -- the length of the randomness of a transcript that was made
+  pub made-size : (X : Branch J) → Made W X → length (X .accepted .randomness) ≡ span (randomness-sections (parameters J))
+  unfolding randomness-refusal
+  made-size X made =
+      let R = X .accepted .randomness in
+      let ss = take 7 (randomness-sections (parameters J)) in
+      let call = admitted whole J R W (length (made .scratch)) (length (made .output)) (before-work whole J R W (made .scratch) (made .output) (made .proved)) in
+      layout-whole 7 R 0 ss (omega arith) (then-fine-left (layout 7 R 0 ss) (ranged 8 R 0 ss) (call .randomness))
+      ∙ zero-add (span ss)
+
+  -- two of them have equal u1
+  pub made-u1 : (X Y : Branch J) → Made W X → Made W Y → Equal-u1 J (X .transcript) (Y .transcript)
+  made-u1 X Y made made′ k h =
+      made-agrees X made .u₁ k h
+      ∙ ap (λ f. f k) (u₁-same J (X .accepted .randomness) (Y .accepted .randomness) 0 refl s)
+      ∙ sym (made-agrees Y made′ .u₁ k h)
 
   -- the witness opens the commitments of a transcript that the prover made of it
   pub witness-opens : (X : Branch J) → Made W X → Opens (values X) (message-of X) s

@@ -1,5 +1,5 @@
 -- Of one accepted transcript that the prover made there is a fork, where check 23 has room for z at the flipped challenges: the premises of T4 can be met, and the witness is what it gives.
-use mathlib.Core.Path.{_≡_, refl, sym, ap, ap₂, subst, _∙_}
+use mathlib.Core.Path.{_≡_, refl, sym, ap, subst, _∙_}
 use mathlib.Core.List.{List}
 use Prim.Native.Nat.{ℕ, _+_, _*_, _%_, _≤_, _<_}
 use native.Mathlib.Nat.{le-refl}
@@ -11,7 +11,7 @@ use Rattle.algebra.proofs.Sum.{sum-ext}
 use Rattle.definitions.specs.Zq.{Q}
 use Rattle.definitions.specs.Answer.{fine, accepted}
 use Rattle.definitions.specs.Norm.{square}
-use Rattle.definitions.specs.Rq.{Element, rzero}
+use Rattle.definitions.specs.Rq.{Element}
 use Rattle.definitions.specs.Ring.{RqOps, words}
 use Rattle.protocol.specs.Parameters.{Parameters, parameters}
 use Rattle.protocol.specs.Layout.{span, job-refusal, randomness-refusal, witness-refusal, scratch-refusal, output-refusal}
@@ -19,14 +19,13 @@ use Rattle.protocol.specs.Views.{public, witness}
 use Rattle.protocol.specs.Formulas as Formulas
 use Rattle.protocol.specs.Formulas.{_⊗_}
 use Rattle.protocol.specs.Prover.{whole, made-sections, prove-refusal, work-refusal, prove}
-use Rattle.protocol.specs.Conditions.{p-norm, constant-error, psi-error, digit-sum, one-if-left, cells-left, ring-error, alpha-error, conditions, Held}
+use Rattle.protocol.specs.Conditions.{p-norm, constant-error, psi-error, digit-sum, one-if-left, cells-left, ring-error, alpha-error, conditions}
 use Rattle.protocol.proofs.Fine.{then-both-fine, then-fine-each}
 use Rattle.protocol.proofs.Accepted.{admitted, before-work, in-work}
 use Rattle.protocol.proofs.Alike.{upto, p-alike, h-alike}
 use Rattle.protocol.proofs.Handed.{four, work-alike}
 use Rattle.protocol.proofs.Stated.{stated}
 use Rattle.extraction.specs.Fork.{Node, base, first, second, mixed, Used, Same-weights, Fork}
-use Rattle.extraction.specs.Extracted.{extracted, Extracted}
 use Rattle.extraction.specs.Honest.{Honest-fork, flipped, sign-place, flipped-at}
 use Rattle.extraction.proofs.HonestRandomness.{alike-weights, node-alike}
 use Rattle.extraction.proofs.HonestFlipped.{flipped-fine}
@@ -68,7 +67,8 @@ module _ (J R R′ : List ℕ) (alike : take (upto (parameters J) 5) R ≡ take 
 
     p-norm-alike : p-norm (public J R) s ≡ p-norm (public J R′) s
     unfolding p-norm
-    p-norm-alike = Σ-ext 256 (λ j. square (Formulas.p (public J R) s j)) (λ j. square (Formulas.p (public J R′) s j)) (λ j h. ap square (p-alike J R R′ (upto (parameters J) 5) alike s five-hold-one j h))
+    p-norm-alike = Σ-ext 256 (λ j. square (Formulas.p (public J R) s j)) (λ j. square (Formulas.p (public J R′) s j))
+        (λ j h. ap square (p-alike J R R′ (upto (parameters J) 5) alike s five-hold-one j h))
 
     psi-error-alike : (k : ℕ) → k < L → psi-error (public J R) s k ≡ psi-error (public J R′) s k
     unfolding psi-error constant-error
@@ -77,7 +77,8 @@ module _ (J R R′ : List ℕ) (alike : take (upto (parameters J) 5) R ≡ take 
 
     alpha-error-alike : alpha-error (public J R) s ≡ alpha-error (public J R′) s
     unfolding alpha-error ring-error
-    alpha-error-alike = sum-ext RqOps K (λ k. public J R .alpha k ⊗ ring-error (public J R) s k) (λ k. public J R′ .alpha k ⊗ ring-error (public J R′) s k) (λ k h. ap (λ a. a ⊗ ring-error (public J R) s k) (weights .same-alpha k h))
+    alpha-error-alike = sum-ext RqOps K (λ k. public J R .alpha k ⊗ ring-error (public J R) s k) (λ k. public J R′ .alpha k ⊗ ring-error (public J R′) s k)
+        (λ k h. ap (λ a. a ⊗ ring-error (public J R) s k) (weights .same-alpha k h))
 
     cells-left-alike : cells-left (public J R) s ≡ cells-left (public J R′) s
     unfolding cells-left Formulas.t Formulas.g

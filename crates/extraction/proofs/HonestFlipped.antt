@@ -3,8 +3,7 @@ use mathlib.Core.Path.{_≡_, refl, sym, ap, subst, _∙_}
 use mathlib.Core.Bool.{Bool, true, false, cond}
 use mathlib.Core.List.{List, [], _∷_}
 use mathlib.Core.Logic.{_≢_}
-use Prim.Native.Nat.{ℕ, zero, suc, _+_, _-_, _*_, _≤_, _<_}
-use native.Mathlib.Nat.{zero-add}
+use Prim.Native.Nat.{ℕ, zero, suc, _+_, _-_, _≤_, _<_}
 use native.Mathlib.Decide.{decLe, ℕ-discrete}
 use native.Mathlib.Omega.{arith}
 use lib.Dec.{ltb, eqb}
@@ -14,7 +13,7 @@ use Rattle.definitions.specs.Answer.{fine, refused, _then_}
 use Rattle.definitions.proofs.Leaf.{below-fine}
 use Rattle.protocol.specs.Checks.{require}
 use Rattle.protocol.specs.Parameters.{Parameters, parameters}
-use Rattle.protocol.specs.Layout.{Range, free, under, Section, part, span, start, counted, layout, in-range, ranged, randomness-sections, randomness-refusal}
+use Rattle.protocol.specs.Layout.{under, Section, part, span, start, counted, layout, in-range, ranged, randomness-sections, randomness-refusal}
 use Rattle.protocol.proofs.Fine.{then-both-fine, then-fine-left, then-fine-right}
 use Rattle.layout.specs.Laid.{nth}
 use Rattle.layout.proofs.Laid.{laid}

@@ -4,7 +4,7 @@ use mathlib.Core.Bool.{cond}
 use mathlib.Core.List.{List}
 use mathlib.Core.Logic.{_≢_}
 use Prim.Native.Nat.{ℕ, _<_}
-use native.Mathlib.Nat.{le-refl, zero-add}
+use native.Mathlib.Nat.{le-refl}
 use native.Mathlib.Decide.{decLt, ℕ-discrete}
 use native.Mathlib.Omega.{arith}
 use lib.Dec.{eqb}
@@ -14,23 +14,20 @@ use Rattle.definitions.specs.Answer.{fine, accepted}
 use Rattle.definitions.specs.Rq.{Element}
 use Rattle.definitions.specs.Ring.{RqOps}
 use Rattle.protocol.specs.Parameters.{Parameters, parameters}
-use Rattle.protocol.specs.Layout.{span, layout, ranged, randomness-sections, randomness-refusal, scratch-need}
+use Rattle.protocol.specs.Layout.{span, randomness-sections, scratch-need}
 use Rattle.protocol.specs.Views.{public, witness}
 use Rattle.protocol.specs.Formulas as Formulas
 use Rattle.protocol.specs.Formulas.{_⊗_, digits-of, times}
 use Rattle.protocol.specs.Prover.{whole, prove}
 use Rattle.protocol.specs.Conditions.{conditions}
-use Rattle.protocol.proofs.Fine.{then-fine-left}
-use Rattle.protocol.proofs.Accepted.{admitted, before-work}
-use Rattle.protocol.proofs.Alike.{upto, u₁-same, h-alike}
+use Rattle.protocol.proofs.Alike.{upto, h-alike}
 use Rattle.protocol.proofs.ChecksAreConditions.{triangle-ext}
 use Rattle.protocol.proofs.Demand3.{demand-3}
-use Rattle.layout.proofs.Laid.{layout-whole}
-use Rattle.binding.specs.Openings.{nil, Equal-u1, Equal-u2}
+use Rattle.binding.specs.Openings.{nil, Equal-u2}
 use Rattle.soundness.specs.Altered.{made-transcript}
 use Rattle.extraction.specs.Fork.{Branch, challenge-of, _⊖_, Node, base, first, second, mixed, Used, changed, c, x, y, challenges-at, Fork}
 use Rattle.extraction.specs.Honest.{Made, Honest-fork, flipped, sign-place, flipped-at, Unit-differences}
-use Rattle.extraction.proofs.Honest.{made-agrees}
+use Rattle.extraction.proofs.Honest.{made-agrees, made-size, made-u1}
 use Rattle.extraction.proofs.HonestRandomness.{alike-weights, node-alike, challenge-stays, challenge-again, units-at}
 
 -- whether a transcript is used
@@ -96,12 +93,8 @@ module _ (J R W scratch output : List ℕ)
 
   -- the length of the randomness
   size : length R ≡ span (randomness-sections (parameters J))
-  unfolding randomness-refusal flipped-at
-  size =
-      let ss = take 7 (randomness-sections (parameters J)) in
-      let call = admitted whole J R W (length scratch) (length output) (before-work whole J R W scratch output (proved base (record {}))) in
-      layout-whole 7 R 0 ss (omega arith) (then-fine-left (layout 7 R 0 ss) (ranged 8 R 0 ss) (call .randomness))
-      ∙ zero-add (span ss)
+  unfolding used? used-or-base flipped-at
+  size = made-size J W (branches base) (made base)
 
   -- challenge k of a transcript
   abbrev at : Node → ℕ → Element
@@ -139,21 +132,17 @@ module _ (J R W scratch output : List ℕ)
       stays : k ≢ j → challenge-of (branches (mixed i j)) k ≡ public J (flipped (sign-place (parameters J) i 0) R) .c k
       stays d = at-used (mixed i j) used k ∙ challenge-stays J (flipped (sign-place (parameters J) i 0) R) j 0 k (omega arith) (used .1) d
 
-  -- u1 and u2 read no challenge
+  -- u2 reads no challenge
   alike : (v : Node) → take (upto (parameters J) 5) (branches base .accepted .randomness) ≡ take (upto (parameters J) 5) (branches v .accepted .randomness)
   alike v = sym (node-alike J R (node base)) ∙ node-alike J R (node v)
-
-  same-u1 : (v : Node) → Equal-u1 J (branches base .transcript) (branches v .transcript)
-  same-u1 v k h =
-      made-agrees J W (branches base) (made base) .u₁ k h
-      ∙ ap (λ f. f k) (u₁-same J (branches base .accepted .randomness) (branches v .accepted .randomness) 0 refl (witness (parameters J) W))
-      ∙ sym (made-agrees J W (branches v) (made v) .u₁ k h)
 
   same-u2 : (v : Node) → Equal-u2 J (branches base .transcript) (branches v .transcript)
   unfolding Formulas.u₂ Formulas.u₂-of
   same-u2 v k h =
       made-agrees J W (branches base) (made base) .u₂ k h
-      ∙ ap (λ l. times (public J R .D) (digits-of b t₁ l) k) (triangle-ext r (Formulas.h (public J (branches base .accepted .randomness)) (witness (parameters J) W)) (Formulas.h (public J (branches v .accepted .randomness)) (witness (parameters J) W)) (λ i j hi hj.
+      ∙ ap (λ l. times (public J R .D) (digits-of b t₁ l) k) (triangle-ext r
+      (Formulas.h (public J (branches base .accepted .randomness)) (witness (parameters J) W)) (Formulas.h (public J (branches v .accepted .randomness)) (witness (parameters J) W))
+      (λ i j hi hj.
       h-alike J (branches base .accepted .randomness) (branches v .accepted .randomness) (upto (parameters J) 5) (alike v) (witness (parameters J) W) (le-refl (upto (parameters J) 5)) i j hi hj))
       ∙ sym (made-agrees J W (branches v) (made v) .u₂ k h)
 
@@ -176,7 +165,7 @@ module _ (J R W scratch output : List ℕ)
   flipped-fork = record {
     branch = branches;
     same-weights = λ v used. alike-weights J (branches base .accepted .randomness) (branches v .accepted .randomness) (upto (parameters J) 5) (alike v) (le-refl (upto (parameters J) 5));
-    same-u1 = λ v used. same-u1 v;
+    same-u1 = λ v used. made-u1 J W (branches base) (branches v) (made base) (made v);
     same-u2 = λ v used. same-u2 v;
     same-challenges = same-challenges;
     inverse = λ i. inverse-of i (decLt i r);

@@ -1,17 +1,16 @@
 -- Words with 1 added to one: entries and elements that differ in one by a unit.
 use mathlib.Core.Path.{_≡_, sym, ap, ap₂, subst, _∙_}
 use mathlib.Core.List.{List}
-use Prim.Native.Nat.{ℕ, zero, suc, _+_, _*_, _%_, _≤_, _<_}
+use Prim.Native.Nat.{ℕ, zero, suc, _+_, _*_, _%_, _<_}
 use native.Mathlib.Nat.{add-zero}
 use native.Mathlib.Omega.{arith}
-use lib.ListN.{length, getD, set}
+use lib.ListN.{length, getD}
 use lib.Seq.{getD-set-same, getD-set-other}
 use Rattle.lists.proofs.Splice.{getD-part}
 use Rattle.algebra.specs.Ops.{Ops}
 use Rattle.algebra.proofs.Ring.{CRing, add-neg-cancel, neg-dist}
 use Rattle.algebra.proofs.Antiperiodic.{constF}
 use Rattle.definitions.specs.Zq.{Q}
-use Rattle.definitions.specs.Rq.{Element}
 use Rattle.definitions.specs.Ring.{residue, ZqOps, RqOps, words, element}
 use Rattle.definitions.proofs.ZqRing.{zq-ring, residue-reduced, residue-add}
 use Rattle.definitions.proofs.RqRing.{rq-ring, element-path, coefficient-element, coefficient-radd, coefficient-scalar}

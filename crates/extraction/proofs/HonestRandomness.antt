@@ -10,7 +10,6 @@ use lib.ListN.{length, getD, set, take, length-set}
 use lib.Seq.{getD-set-same, getD-set-other, take-set-le, ext-getD}
 use Rattle.lists.proofs.Prefix.{getD-alike, part-alike}
 use Rattle.lists.proofs.Splice.{length-part, getD-part, part-ext}
-use Rattle.definitions.specs.Rq.{Element}
 use Rattle.definitions.specs.Ring.{element}
 use Rattle.definitions.specs.Projection.{entry}
 use Rattle.definitions.specs.Challenge.{challenge}
@@ -18,7 +17,7 @@ use Rattle.protocol.specs.Parameters.{Parameters, parameters}
 use Rattle.protocol.specs.Layout.{part, span, start, randomness-sections}
 use Rattle.protocol.specs.Views.{public}
 use Rattle.protocol.proofs.Alike.{upto}
-use Rattle.extraction.specs.Fork.{Same-Π, Same-psi, Same-omega, Same-alpha, Same-weights, Node, base, first, second, mixed, Used}
+use Rattle.extraction.specs.Fork.{Same-Π, Same-psi, Same-omega, Same-alpha, Same-weights, Node, base, first, second, mixed}
 use Rattle.extraction.specs.Honest.{other-sign, flipped, sign-place, flipped-at, Unit-differences}
 use Rattle.extraction.proofs.HonestUnits.{flipped-sign-units}
 

@@ -12,8 +12,9 @@ use Rattle.protocol.specs.Conditions.{digit-sum, conditions}
 use Rattle.extraction.specs.Fork.{Node, base, Used, Fork}
 use Rattle.extraction.specs.Tree.{Place, root, beta, alpha, psi, psi-beta, omega, omega-beta, Within, trunk, Tree}
 use Rattle.extraction.specs.Honest.{Made, Honest-fork, Honest-tree, flipped-at, raised, alpha-place, beta-place, psi-place, omega-place, raised-at}
+use Rattle.extraction.proofs.Honest.{made-u1}
 use Rattle.extraction.proofs.HonestExists.{honest-fork-exists, honest-fork-randomness}
-use Rattle.extraction.proofs.HonestWeights.{made-u1, made-alpha, made-beta, made-psi, made-omega}
+use Rattle.extraction.proofs.HonestWeights.{made-alpha, made-beta, made-psi, made-omega}
 
 -- whether a fork is used
 within? : (P : Parameters) (p : Place) → Dec (Within P p)
@@ -45,7 +46,7 @@ module _ (J R W scratch output : List ℕ) (row : ℕ) (row-below : row < parame
     (proved : (p : Place) → Within (parameters J) p → prove whole J (raised-at (parameters J) row R p) W (length scratch) (length output) ≡ fine)
     (held : (p : Place) → Within (parameters J) p → conditions (public J (raised-at (parameters J) row R p)) (witness (parameters J) W) ≡ accepted 0)
     (room : (p : Place) → Within (parameters J) p → (v : Node) → Used (parameters J .r) v
-        → digit-sum (public J (flipped-at (parameters J) (raised-at (parameters J) row R p) v)) (witness (parameters J) W) ≤ parameters J .beta-prime-sq) where
+    → digit-sum (public J (flipped-at (parameters J) (raised-at (parameters J) row R p) v)) (witness (parameters J) W) ≤ parameters J .beta-prime-sq) where
   -- the fork of one that is used
   fork-at : (p : Place) → Within (parameters J) p → (F : Fork J) × Honest-fork W F
   fork-at p within = honest-fork-exists J (raised-at (parameters J) row R p) W scratch output (proved p within) (held p within) (room p within)
@@ -84,12 +85,18 @@ module _ (J R W scratch output : List ℕ) (row : ℕ) (row-below : row < parame
       row = row;
       row-below = row-below;
       same-u1 = λ p within. made-u1 J W (trunk (forks root)) (trunk (forks p)) (made root) (made p);
-      at-alpha = λ k h. made-alpha J W (trunk (forks root)) (trunk (forks (alpha k))) (made root) (made (alpha k)) k h (raised-from root (alpha k) (alpha-place (parameters J) k) (record {}) h refl);
-      at-beta = made-beta J W (trunk (forks root)) (trunk (forks beta)) (made root) (made beta) row row-below (raised-from root beta (beta-place (parameters J) row) (record {}) (record {}) refl);
-      at-psi = λ x h. made-psi J W (trunk (forks root)) (trunk (forks (psi x))) (made root) (made (psi x)) row x row-below h (raised-from root (psi x) (psi-place (parameters J) row x) (record {}) h refl);
-      at-psi-beta = λ x h. made-beta J W (trunk (forks (psi x))) (trunk (forks (psi-beta x))) (made (psi x)) (made (psi-beta x)) row row-below (raised-from (psi x) (psi-beta x) (beta-place (parameters J) row) h h refl);
-      at-omega = λ j h. made-omega J W (trunk (forks root)) (trunk (forks (omega j))) (made root) (made (omega j)) row j row-below h (raised-from root (omega j) (omega-place (parameters J) row j) (record {}) h refl);
-      at-omega-beta = λ j h. made-beta J W (trunk (forks (omega j))) (trunk (forks (omega-beta j))) (made (omega j)) (made (omega-beta j)) row row-below (raised-from (omega j) (omega-beta j) (beta-place (parameters J) row) h h refl);
+      at-alpha = λ k h. made-alpha J W (trunk (forks root)) (trunk (forks (alpha k))) (made root) (made (alpha k)) k h
+          (raised-from root (alpha k) (alpha-place (parameters J) k) (record {}) h refl);
+      at-beta = made-beta J W (trunk (forks root)) (trunk (forks beta)) (made root) (made beta) row row-below
+          (raised-from root beta (beta-place (parameters J) row) (record {}) (record {}) refl);
+      at-psi = λ x h. made-psi J W (trunk (forks root)) (trunk (forks (psi x))) (made root) (made (psi x)) row x row-below h
+          (raised-from root (psi x) (psi-place (parameters J) row x) (record {}) h refl);
+      at-psi-beta = λ x h. made-beta J W (trunk (forks (psi x))) (trunk (forks (psi-beta x))) (made (psi x)) (made (psi-beta x)) row row-below
+          (raised-from (psi x) (psi-beta x) (beta-place (parameters J) row) h h refl);
+      at-omega = λ j h. made-omega J W (trunk (forks root)) (trunk (forks (omega j))) (made root) (made (omega j)) row j row-below h
+          (raised-from root (omega j) (omega-place (parameters J) row j) (record {}) h refl);
+      at-omega-beta = λ j h. made-beta J W (trunk (forks (omega j))) (trunk (forks (omega-beta j))) (made (omega j)) (made (omega-beta j)) row row-below
+          (raised-from (omega j) (omega-beta j) (beta-place (parameters J) row) h h refl);
     },
     λ p within. honest p,
   )

@@ -7,13 +7,13 @@ use Prim.Native.Nat.{ℕ, suc, _+_, _-_, _%_, _<_}
 use native.Mathlib.Nat.{mod-eq-of-lt}
 use native.Mathlib.Decide.{ℕ-discrete}
 use native.Mathlib.Omega.{arith}
-use lib.Dec.{eqb, ltb}
-use lib.ListN.{length, getD, set}
+use lib.Dec.{eqb}
+use lib.ListN.{length, getD}
 use lib.Seq.{getD-set-same, getD-set-other}
 use borrow.Author.Tests.{eq-eqb, ne-eqb, lt-ltb}
 use Rattle.lists.specs.Table.{table}
 use Rattle.algebra.specs.Ops.{Ops}
-use Rattle.algebra.proofs.Ring.{CRing, ring, add-neg-cancel, neg-add-cancel, neg-neg, neg-nil, two-mul, sub-common}
+use Rattle.algebra.proofs.Ring.{CRing, ring, neg-add-cancel, neg-neg, neg-nil, two-mul, sub-common}
 use Rattle.definitions.specs.Zq.{zneg}
 use Rattle.definitions.specs.Rq.{Element}
 use Rattle.definitions.specs.Ring.{Residue, residue, ZqOps, RqOps, words, element}
@@ -24,7 +24,7 @@ use Rattle.definitions.proofs.Challenge.{length-start, getD-start}
 use Rattle.definitions.proofs.Cases.{ltb-cases}
 use Rattle.protocol.specs.Formulas.{_⊕_, _⊗_}
 use Rattle.binding.specs.Openings.{neg}
-use Rattle.soundness.specs.Weights.{monomial, shifts, shift, IsUnit}
+use Rattle.soundness.specs.Weights.{monomial, shift, IsUnit}
 use Rattle.soundness.proofs.Units.{unit-mul}
 use Rattle.soundness.proofs.Monomials.{two-unit, shift-unit, difference-unit}
 use Rattle.extraction.specs.Fork.{_⊖_}

@@ -1,26 +1,21 @@
 -- Two transcripts that the prover made of one witness, the second with 1 added to a weight of the first's randomness: they fork at that weight.
-use mathlib.Core.Path.{_≡_, refl, sym, ap, subst, _∙_}
+use mathlib.Core.Path.{_≡_, sym, ap, subst, _∙_}
 use mathlib.Core.List.{List}
 use Prim.Native.Nat.{ℕ, _+_, _*_, _%_, _≤_, _<_}
-use native.Mathlib.Nat.{le-refl, zero-add}
+use native.Mathlib.Nat.{le-refl}
 use native.Mathlib.Omega.{arith}
-use lib.ListN.{length, getD, take}
+use lib.ListN.{getD, take}
 use lib.Seq.{getD-set-other, take-set-le}
 use Rattle.definitions.specs.Zq.{Q}
 use Rattle.definitions.specs.Ring.{residue, ZqOps, RqOps, element}
 use Rattle.protocol.specs.Parameters.{Parameters, parameters}
-use Rattle.protocol.specs.Layout.{span, start, layout, ranged, randomness-sections, randomness-refusal}
+use Rattle.protocol.specs.Layout.{span, start, randomness-sections}
 use Rattle.protocol.specs.Views.{public, witness}
-use Rattle.protocol.specs.Prover.{whole}
-use Rattle.protocol.proofs.Fine.{then-fine-left}
-use Rattle.protocol.proofs.Accepted.{admitted, before-work}
-use Rattle.protocol.proofs.Alike.{upto, u₁-same, p-alike, b″-alike}
-use Rattle.layout.proofs.Laid.{layout-whole}
-use Rattle.binding.specs.Openings.{Equal-u1}
+use Rattle.protocol.proofs.Alike.{upto, p-alike, b″-alike}
 use Rattle.extraction.specs.Fork.{Branch}
 use Rattle.extraction.specs.Tree.{Differ-at, Same-rows, At-alpha, At-beta, Same-projection, At-psi, At-omega}
 use Rattle.extraction.specs.Honest.{Made, raised, alpha-place, beta-place, psi-place, omega-place}
-use Rattle.extraction.proofs.Honest.{made-agrees}
+use Rattle.extraction.proofs.Honest.{made-agrees, made-size}
 use Rattle.extraction.proofs.HonestRandomness.{stored-elsewhere, index-below, alike-Π, alike-psi, alike-omega, alike-alpha}
 use Rattle.extraction.proofs.HonestRaised.{raised-words, raised-elements}
 
@@ -29,16 +24,6 @@ module _ (J W : List ℕ) where
 
   abbrev of : ℕ → ℕ
   of = start (randomness-sections (parameters J))
-
-  -- the length of the randomness of a transcript that was made
-  made-size : (X : Branch J) → Made W X → length (X .accepted .randomness) ≡ span (randomness-sections (parameters J))
-  unfolding randomness-refusal
-  made-size X made =
-      let R = X .accepted .randomness in
-      let ss = take 7 (randomness-sections (parameters J)) in
-      let call = admitted whole J R W (length (made .scratch)) (length (made .output)) (before-work whole J R W (made .scratch) (made .output) (made .proved)) in
-      layout-whole 7 R 0 ss (omega arith) (then-fine-left (layout 7 R 0 ss) (ranged 8 R 0 ss) (call .randomness))
-      ∙ zero-add (span ss)
 
   -- two transcripts that the prover made
   module _ (X Y : Branch J) (made : Made W X) (made′ : Made W Y) where
@@ -80,7 +65,7 @@ module _ (J W : List ℕ) where
         let p = alpha-place (parameters J) k in
         record {
           rows = rows-alike (starts p (upto (parameters J) 3) e (omega arith));
-          alphas = subst (λ S. Differ-at RqOps K k (public J A .alpha) (public J S .alpha)) (sym e) (raised-elements A (of 3) K k (omega (arith, made-size X made)));
+          alphas = subst (λ S. Differ-at RqOps K k (public J A .alpha) (public J S .alpha)) (sym e) (raised-elements A (of 3) K k (omega (arith, made-size J W X made)));
           betas = λ i j. sym (ap (λ S. public J S .beta i) e ∙ ap element (stored-elsewhere p ((getD A p 0 + 1) % Q) A (of 4 + 64 * i) 64 (λ m a b f. omega arith)));
         }
 
@@ -91,7 +76,7 @@ module _ (J W : List ℕ) where
         record {
           rows = rows-alike (starts p (upto (parameters J) 3) e (omega arith));
           alphas = alike-alpha J A B (upto (parameters J) 4) (starts p (upto (parameters J) 4) e (omega arith)) (le-refl (upto (parameters J) 4));
-          betas = subst (λ S. Differ-at RqOps L k (public J A .beta) (public J S .beta)) (sym e) (raised-elements A (of 4) L k (omega (arith, made-size X made)));
+          betas = subst (λ S. Differ-at RqOps L k (public J A .beta) (public J S .beta)) (sym e) (raised-elements A (of 4) L k (omega (arith, made-size J W X made)));
         }
 
     pub made-psi : (k x : ℕ) → k < L → x < l → B ≡ raised (psi-place (parameters J) k x) A → At-psi X Y k x
@@ -102,7 +87,7 @@ module _ (J W : List ℕ) where
         record {
           projection = projection-alike (starts p (upto (parameters J) 1) e (omega arith));
           psis = subst (λ S. Differ-at ZqOps l x (λ i. residue (public J A .psi k i)) (λ i. residue (public J S .psi k i))) (sym e)
-              (raised-words A (λ i. of 1 + (k * l + i)) l x (λ i f. omega arith) (omega (arith, made-size X made, below)));
+              (raised-words A (λ i. of 1 + (k * l + i)) l x (λ i f. omega arith) (omega (arith, made-size J W X made, below)));
           omegas = λ j m. sym (ap (λ S. public J S .omega k j) e ∙ getD-set-other A p (of 2 + (k * 256 + j)) ((getD A p 0 + 1) % Q) 0 (λ f. omega (arith, f, below)));
         }
 
@@ -115,11 +100,5 @@ module _ (J W : List ℕ) where
           projection = projection-alike (starts p (upto (parameters J) 1) e (omega arith));
           psis = alike-psi J A B (upto (parameters J) 2) (starts p (upto (parameters J) 2) e (omega arith)) (le-refl (upto (parameters J) 2)) k h;
           omegas = subst (λ S. Differ-at ZqOps 256 j (λ i. residue (public J A .omega k i)) (λ i. residue (public J S .omega k i))) (sym e)
-              (raised-words A (λ i. of 2 + (k * 256 + i)) 256 j (λ i f. omega arith) (omega (arith, made-size X made, below)));
+              (raised-words A (λ i. of 2 + (k * 256 + i)) 256 j (λ i f. omega arith) (omega (arith, made-size J W X made, below)));
         }
-
-    pub made-u1 : Equal-u1 J (X .transcript) (Y .transcript)
-    made-u1 k h =
-        made-agrees J W X made .u₁ k h
-        ∙ ap (λ f. f k) (u₁-same J A B 0 refl (witness (parameters J) W))
-        ∙ sym (made-agrees J W Y made′ .u₁ k h)
