@@ -1,4 +1,4 @@
--- What a fork of accepted transcripts gives away or extracts (T4), over verdicts that the call's contract ensures: each transcript is one of those of a call.
+-- What a fork (T4) and a tree (T5) of accepted transcripts give away or extract, over verdicts that the call's contract ensures: each transcript is one of those of a call.
 use mathlib.Core.Path.{_≡_}
 use mathlib.Core.List.{List}
 use mathlib.Core.Logic.{_⊎_}
@@ -7,7 +7,9 @@ use lib.ListN.{length}
 use Rattle.call_answers.specs.declared.verdicts.LabradorVerdict.{LabradorVerdict}
 use Rattle.extraction.specs.Fork.{Branch, Node, Fork, Gives-away}
 use Rattle.extraction.specs.Extracted.{Extracted}
+use Rattle.extraction.specs.Tree.{Place, Tree, branches, Witness}
 use Rattle.extraction.proofs.Calls.{parts, extraction-of}
+use Rattle.extraction.proofs.TreeCalls.{witness-of}
 use Rattle.verify_many.specs.declared.answers.LabradorVerdicts.{LabradorVerdicts}
 use Rattle.verify_many.specs.Answers.{manyVerdicts}
 use Rattle.verify_many.proofs.Openings.{verdict-at, none-left-of}
@@ -33,3 +35,14 @@ module _ (J : List ℕ) (count : Node → ℕ) (R T scratch : Node → List ℕ)
   pub extraction-over-many : (F : Fork J) → F .branch ≡ judged J count R T scratch x is whole m below zero none
       → Gives-away J (judged J count R T scratch x is whole m below zero none) ⊎ Extracted F
   extraction-over-many = extraction-of (judged J count R T scratch x is whole m below zero none)
+
+module _ (J : List ℕ) (count : Place × Node → ℕ) (R X scratch : Place × Node → List ℕ) (x : Place × Node → LabradorVerdicts)
+    (is : (v : Place × Node) → x v ≡ manyVerdicts J (count v) (R v) (X v) (length (scratch v)))
+    (whole : (v : Place × Node) → x v .number ≡ 0)
+    (m : Place × Node → ℕ)
+    (below : (v : Place × Node) → m v < 8)
+    (zero : (v : Place × Node) → verdict-at (x v) (m v) .number ≡ 0)
+    (none : (v : Place × Node) → verdict-at (x v) (m v) .«cells_left» ≡ 0) where
+  pub witness-over-many : (T : Tree J) → branches T ≡ judged J count R X scratch x is whole m below zero none
+      → Gives-away J (judged J count R X scratch x is whole m below zero none) ⊎ Witness T
+  witness-over-many = witness-of (judged J count R X scratch x is whole m below zero none)
