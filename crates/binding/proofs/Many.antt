@@ -17,12 +17,12 @@ module _ (J : List ℕ) (count : ℕ) (R T : List ℕ) where
   part m = transcript-part (parameters J) count T m
 
   -- of which the verdict is an acceptance
-  accepted-part : (m cells : ℕ) → part-verdict J count R T m ≡ accepted cells → Accepted J (part m) cells
+  pub accepted-part : (m cells : ℕ) → part-verdict J count R T m ≡ accepted cells → Accepted J (part m) cells
   unfolding part-verdict
   accepted-part m cells e = record { randomness = randomness-part (parameters J) count R m; scratch = scratch-need (parameters J); verdict = e }
 
   -- a verdict with the number 0 is one
-  zero-part : (m : ℕ) → number (part-verdict J count R T m) ≡ 0 → (cells : ℕ) × (part-verdict J count R T m ≡ accepted cells)
+  pub zero-part : (m : ℕ) → number (part-verdict J count R T m) ≡ 0 → (cells : ℕ) × (part-verdict J count R T m ≡ accepted cells)
   unfolding part-verdict
   zero-part m e = zero-accepts J (randomness-part (parameters J) count R m) (part m) (scratch-need (parameters J)) e
 
