@@ -14,7 +14,7 @@ pub record Congruence (O : Ops) (S : Type 0) (φ : O .Carrier → S) : Type 0 wh
 abbrev pub ZeroOrInverse : (O : Ops) (S : Type 0) → (O .Carrier → S) → O .Carrier → Type 0
 ZeroOrInverse O S φ a = (φ a ≡ φ (O .nil)) ⊎ ((b : O .Carrier) × (φ (O .mul a b) ≡ φ (O .one)))
 
--- each element is
+-- each element is 0 or has an inverse
 abbrev pub IsField : (O : Ops) (S : Type 0) → (O .Carrier → S) → Type 0
 IsField O S φ = (a : O .Carrier) → ZeroOrInverse O S φ a
 

@@ -1,4 +1,4 @@
--- R[X]/(X^64 + 1) modulo X^32 − i is a field, where R is one, i² = −1 and i is no square in R: five quadratic extensions one above the other.
+-- R[X]/(X^64 + 1) modulo X^32 − i is a field, where R is a field, i² = −1 and i is no square in R: five quadratic extensions one above the other.
 use mathlib.Core.Path.{_≡_, refl, sym, ap, ap₂, fun-ext, _∙_}
 use mathlib.Core.Logic.{_⊎_, inl, inr}
 use Prim.Native.Nat.{ℕ, zero, suc, _+_, _<_}

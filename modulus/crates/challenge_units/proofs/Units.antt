@@ -22,6 +22,9 @@ use Rattle.definitions.proofs.ZqRing.{zq-ring, residue-value, zq-double-cancel}
 use Rattle.definitions.proofs.RqRing.{coefficient-table, AntiOps, carry, carry-path, carry-inj, carry-mul, carry-scalar, rq-ring}
 use Rattle.definitions.proofs.Bridge.{words-element, words-sub, coeff-canonical}
 use Rattle.definitions.proofs.Challenge.{all-shuffle, length-start, getD-start, size-start, length-challenge, challenge-canonical}
+use Rattle.protocol.specs.Parameters.{parameters}
+use Rattle.protocol.specs.Layout.{part, start as start-at, randomness-sections}
+use Rattle.protocol.specs.Views.{public}
 use Rattle.binding.proofs.Size.{size-of-difference}
 use Rattle.challenge_units.specs.Units.{IsUnit, SizesUpTo, challenge-of, difference}
 use Rattle.challenge_units.proofs.Field.{ZeroOrInverse, inverse-of-two}
@@ -112,3 +115,14 @@ challenge-difference-unit signs shuffles signs′ shuffles′ unlike =
 
     c′ : Element
     c′ = challenge-of signs′ shuffles′
+
+-- the same of the challenges of two jobs and two randomnesses, or of one
+pub drawn-challenges-unit : (J J′ R R′ : List ℕ) (i j : ℕ) → (public J R .c i ≡ public J′ R′ .c j → ⊥) → IsUnit (difference (public J R .c i) (public J′ R′ .c j))
+drawn-challenges-unit J J′ R R′ i j unlike =
+    challenge-difference-unit (signs J R i) (shuffles J R i) (signs J′ R′ j) (shuffles J′ R′ j) unlike
+  where
+    signs : List ℕ → List ℕ → ℕ → List ℕ
+    signs J R i = part R (start-at (randomness-sections (parameters J)) 5 + 41 * i) 41
+
+    shuffles : List ℕ → List ℕ → ℕ → List ℕ
+    shuffles J R i = part R (start-at (randomness-sections (parameters J)) 6 + 63 * i) 63
