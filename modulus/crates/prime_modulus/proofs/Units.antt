@@ -26,11 +26,12 @@ use Rattle.protocol.specs.Parameters.{parameters}
 use Rattle.protocol.specs.Layout.{part, start as start-at, randomness-sections}
 use Rattle.protocol.specs.Views.{public}
 use Rattle.binding.proofs.Size.{size-of-difference}
-use Rattle.challenge_units.specs.Units.{IsUnit, SizesUpTo, challenge-of, difference}
-use Rattle.challenge_units.proofs.Field.{ZeroOrInverse, inverse-of-two}
-use Rattle.challenge_units.proofs.Factor.{class, class-congruence}
-use Rattle.challenge_units.proofs.Iota.{ι, minus-ι, ι-square, minus-ι-square, field-ι, field-minus-ι}
-use Rattle.challenge_units.proofs.Small.{small-zero}
+use Rattle.soundness.specs.Weights.{IsUnit}
+use Rattle.prime_modulus.specs.Units.{SizesUpTo, challenge-of, difference}
+use Rattle.prime_modulus.proofs.Field.{ZeroOrInverse, inverse-of-two}
+use Rattle.prime_modulus.proofs.Factor.{class, class-congruence}
+use Rattle.prime_modulus.proofs.Iota.{ι, minus-ι, ι-square, minus-ι-square, field-ι, field-minus-ι}
+use Rattle.prime_modulus.proofs.Small.{small-zero}
 
 -- x + i·y = 0 and x − i·y = 0 give 2·x = 0
 doubled : (O : Ops) (R : CRing O) (i x y : O .Carrier) → O .add x (O .mul i y) ≡ O .add (O .nil) (O .mul i (O .nil))
@@ -59,7 +60,7 @@ either-inverse =
     (class-congruence ZqOps zq-ring ι 32 (lit< tt)) (class-congruence ZqOps zq-ring minus-ι 32 (lit< tt)) both-factors
 
 -- an element whose carried form has an inverse is a unit
-unit-of-carried : (e : Element) (g : Anti ZqOps 64) → AntiOps .mul (carry e) g ≡ AntiOps .one → IsUnit e
+unit-of-carried : (e : Element) (g : Anti ZqOps 64) → AntiOps .mul (carry e) g ≡ AntiOps .one → IsUnit RqOps e
 unit-of-carried e g h = (f, carry-inj (RqOps .mul e f) (RqOps .one) (carry-mul e f ∙ ap (AntiOps .mul (carry e)) same ∙ h ∙ sym (carry-scalar 1)))
   where
     f : Element
@@ -69,10 +70,10 @@ unit-of-carried e g h = (f, carry-inj (RqOps .mul e f) (RqOps .one) (carry-mul e
     same = carry-path f g (λ k l. coefficient-table (λ m. g .0 m .0) k l ∙ residue-value (g .0 k))
 
 -- every nonzero element whose coefficients have sizes up to a bound is a unit, where twice the bound's square is less than Q
-pub small-unit : (bound : ℕ) → 2 * (bound * bound) < Q → (e : Element) → SizesUpTo bound e → (e ≡ RqOps .nil → ⊥) → IsUnit e
+pub small-unit : (bound : ℕ) → 2 * (bound * bound) < Q → (e : Element) → SizesUpTo bound e → (e ≡ RqOps .nil → ⊥) → IsUnit RqOps e
 small-unit bound small e sizes nonzero = go (field-ι (carry e)) (field-minus-ι (carry e))
   where
-    go : ZeroOrInverse AntiOps (ℕ → Residue) (class ZqOps ι 32) (carry e) → ZeroOrInverse AntiOps (ℕ → Residue) (class ZqOps minus-ι 32) (carry e) → IsUnit e
+    go : ZeroOrInverse AntiOps (ℕ → Residue) (class ZqOps ι 32) (carry e) → ZeroOrInverse AntiOps (ℕ → Residue) (class ZqOps minus-ι 32) (carry e) → IsUnit RqOps e
     go (inl z) r = absurd (nonzero (small-zero bound small ι ι-square e sizes z))
     go (inr u) (inl z) = absurd (nonzero (small-zero bound small minus-ι minus-ι-square e sizes z))
     go (inr (g, u)) (inr (g′, u′)) =
@@ -105,7 +106,7 @@ difference-sizes b c x y p q k h =
 -- every difference of two unlike challenges is a unit
 pub challenge-difference-unit : (signs shuffles signs′ shuffles′ : List ℕ)
     → (challenge-of signs shuffles ≡ challenge-of signs′ shuffles′ → ⊥)
-    → IsUnit (difference (challenge-of signs shuffles) (challenge-of signs′ shuffles′))
+    → IsUnit RqOps (difference (challenge-of signs shuffles) (challenge-of signs′ shuffles′))
 challenge-difference-unit signs shuffles signs′ shuffles′ unlike =
     small-unit 4 (lit< tt) (difference c c′) (difference-sizes 2 2 c c′ (challenge-sizes signs shuffles) (challenge-sizes signs′ shuffles′))
     (λ e. unlike (eq-of-sub-nil RqOps rq-ring c c′ e))
@@ -117,7 +118,7 @@ challenge-difference-unit signs shuffles signs′ shuffles′ unlike =
     c′ = challenge-of signs′ shuffles′
 
 -- the same of the challenges of two jobs and two randomnesses, or of one
-pub drawn-challenges-unit : (J J′ R R′ : List ℕ) (i j : ℕ) → (public J R .c i ≡ public J′ R′ .c j → ⊥) → IsUnit (difference (public J R .c i) (public J′ R′ .c j))
+pub drawn-challenges-unit : (J J′ R R′ : List ℕ) (i j : ℕ) → (public J R .c i ≡ public J′ R′ .c j → ⊥) → IsUnit RqOps (difference (public J R .c i) (public J′ R′ .c j))
 drawn-challenges-unit J J′ R R′ i j unlike =
     challenge-difference-unit (signs J R i) (shuffles J R i) (signs J′ R′ j) (shuffles J′ R′ j) unlike
   where

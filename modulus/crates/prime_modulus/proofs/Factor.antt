@@ -8,8 +8,8 @@ use Rattle.algebra.specs.Ops.{Ops, sum}
 use Rattle.algebra.proofs.Ring.{CRing, ring, mul-neg}
 use Rattle.algebra.proofs.Sum.{sum-ext, sum-mul-left}
 use Rattle.algebra.proofs.Antiperiodic.{Anti, mulF, mulF-add, anti-ops}
-use Rattle.challenge_units.proofs.Field.{Congruence}
-use Rattle.challenge_units.proofs.Halves.{even-moved, odd-moved, evens, odds}
+use Rattle.prime_modulus.proofs.Field.{Congruence}
+use Rattle.prime_modulus.proofs.Halves.{even-moved, odd-moved, evens, odds}
 
 -- coefficient k modulo X^h = i
 abbrev pub modulo : (O : Ops) → O .Carrier → ℕ → (ℕ → O .Carrier) → ℕ → O .Carrier

@@ -9,11 +9,11 @@ use Rattle.definitions.specs.Zq.{Q}
 use Rattle.definitions.specs.Ring.{Residue, residue, ZqOps}
 use Rattle.definitions.proofs.ZqRing.{zq-ring, residue-path}
 use Rattle.definitions.proofs.RqRing.{AntiOps}
-use Rattle.challenge_units.proofs.Prime.{inverse}
-use Rattle.challenge_units.proofs.Two.{two-no-square}
-use Rattle.challenge_units.proofs.Field.{IsField}
-use Rattle.challenge_units.proofs.Factor.{class}
-use Rattle.challenge_units.proofs.Tower.{highest}
+use Rattle.prime_modulus.proofs.Prime.{inverse}
+use Rattle.prime_modulus.proofs.Two.{two-no-square}
+use Rattle.prime_modulus.proofs.Field.{IsField}
+use Rattle.prime_modulus.proofs.Factor.{class}
+use Rattle.prime_modulus.proofs.Tower.{highest}
 
 module _ (O : Ops) (R : CRing O) where
   open Ops O using (Carrier, add as _⊕_, mul as _⊗_, neg, nil, one)

@@ -10,7 +10,7 @@ use Rattle.algebra.specs.Ops.{Ops, sum}
 use Rattle.algebra.proofs.Ring.{CRing, ring, neg-neg, neg-dist, neg-nil, one-mul, add-nil}
 use Rattle.algebra.proofs.Sum.{sum-ext}
 use Rattle.algebra.proofs.Antiperiodic.{Antiperiodic, Anti, extend, extend-below, extend-anti, constF, mulF, mulF-shift, const-mulF, anti-ext, anti-ops, anti-path}
-use Rattle.challenge_units.proofs.Field.{Extension}
+use Rattle.prime_modulus.proofs.Field.{Extension}
 
 -- values at m = 2k from a, at 2k + 1 from b
 unfoldable pub joinF : (O : Ops) → (ℕ → O .Carrier) → (ℕ → O .Carrier) → ℕ → O .Carrier

@@ -14,8 +14,8 @@ use Rattle.definitions.proofs.Cases.{ltb-cases}
 use Rattle.definitions.proofs.ZqRing.{zq-ring, residue-add, residue-mul}
 use Rattle.definitions.proofs.RqRing.{coefficient, element-path, coefficient-rzero, AntiOps, carry, carry-below}
 use Rattle.definitions.proofs.Bridge.{coeff-canonical}
-use Rattle.challenge_units.specs.Units.{SizesUpTo}
-use Rattle.challenge_units.proofs.Factor.{class}
+use Rattle.prime_modulus.specs.Units.{SizesUpTo}
+use Rattle.prime_modulus.proofs.Factor.{class}
 
 -- i² = −1 and x + i·y = 0 give x² + y² = 0
 squares-nil : (O : Ops) (R : CRing O) (i x y : O .Carrier) → O .mul i i ≡ O .neg (O .one) → O .add x (O .mul i y) ≡ O .nil

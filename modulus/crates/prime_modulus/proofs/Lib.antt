@@ -7,3 +7,4 @@ pub mod Tower
 pub mod Iota
 pub mod Small
 pub mod Units
+pub mod Rows

@@ -8,9 +8,9 @@ use lib.Dec.{lit<}
 use Rattle.algebra.specs.Ops.{Ops}
 use Rattle.algebra.proofs.Ring.{CRing, ring, mul-nil, neg-nil, add-nil}
 use Rattle.algebra.proofs.Antiperiodic.{Anti, extend, extend-below, extend-anti, sign, constF, const-mulF, anti-ops, anti-path, anti-ring}
-use Rattle.challenge_units.proofs.Field.{ZeroOrInverse, IsField, NoSquare, mul-both, extension}
-use Rattle.challenge_units.proofs.Halves.{root, evens, odds, halves}
-use Rattle.challenge_units.proofs.Factor.{class, class-congruence, class-whole, class-parts}
+use Rattle.prime_modulus.proofs.Field.{ZeroOrInverse, IsField, NoSquare, mul-both, extension}
+use Rattle.prime_modulus.proofs.Halves.{root, evens, odds, halves}
+use Rattle.prime_modulus.proofs.Factor.{class, class-congruence, class-whole, class-parts}
 
 module _ (O : Ops) (R : CRing O) (i : O .Carrier) (minus : O .mul i i ≡ O .neg (O .one)) where
   open Ops O using (Carrier, add as _⊕_, mul as _⊗_, neg, nil, one)

@@ -1,4 +1,4 @@
--- Units of Rq, elements with small coefficients, and differences of challenges.
+-- Elements with small coefficients, and differences of challenges.
 use mathlib.Core.Path.{_≡_}
 use mathlib.Core.List.{List}
 use Prim.Native.Nat.{ℕ, _≤_, _<_}
@@ -6,10 +6,6 @@ use Rattle.definitions.specs.Zq.{size}
 use Rattle.definitions.specs.Rq.{coeff, Element}
 use Rattle.definitions.specs.Ring.{words, element, RqOps}
 use Rattle.definitions.specs.Challenge.{challenge}
-
--- an element with an inverse: e ⊗ f = 1
-abbrev pub IsUnit : Element → Type 0
-IsUnit e = (f : Element) × (RqOps .mul e f ≡ RqOps .one)
 
 -- each of the 64 coefficients has a centre of size at most a bound
 abbrev pub SizesUpTo : ℕ → Element → Type 0
