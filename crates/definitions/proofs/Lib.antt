@@ -1,5 +1,6 @@
 pub mod Fits
 pub mod Cases
+pub mod Lack
 pub mod IsZero
 pub mod Modulo
 pub mod Centre

@@ -38,7 +38,7 @@ entry-number u =
     v = u / 1073741824 * 1073741824
 
 -- a term by the entry's number
-number-mod : (u d w : ℕ) → d ≡ u / 1073741824 → w ≤ Q → term (d * 1073741824) w % Q ≡ (entry u * w) % Q
+number-mod : (u d w : ℕ) → d ≡ u / 1073741824 → w ≤ 4294967295 → term (d * 1073741824) w % Q ≡ (entry u * w) % Q
 number-mod u d w e h = ap (λ d. term (d * 1073741824) w % Q) e ∙ term-mod (u / 1073741824 * 1073741824) w h ∙ ap (λ e. (e * w) % Q) (entry-number u)
 
 -- four more terms of a sum
@@ -60,7 +60,7 @@ groups-mod a b f F (suc m) s h =
     four : ℕ
     four = f (4 * (a + m)) + f (4 * (a + m) + 1) + (f (4 * (a + m) + 1 + 1) + f (4 * (a + m) + 1 + 1 + 1))
 
-module _ (R : List ℕ) (h : (i : ℕ) → getD R i 0 ≤ Q) where
+module _ (R : List ℕ) (h : (i : ℕ) → getD R i 0 ≤ 4294967295) where
   -- the sum of two rows' terms modulo Q
   pair-mod : (at a step x : ℕ) → x ≡ pair-number R a step → pair-sum R at x % Q ≡ (entry (getD R a 0) * getD R at 0 + entry (getD R (a + step) 0) * getD R (at + 1) 0) % Q
   pair-mod at a step x e =

@@ -1,12 +1,12 @@
 -- The omega part of φ'' over the words of slices.
 use mathlib.Core.Bool.{cond}
 use mathlib.Core.List.{List}
-use Prim.Native.Nat.{ℕ, zero, suc, _+_, _-_, _*_, _^_}
+use Prim.Native.Nat.{ℕ, zero, suc, _+_, _*_, _^_}
 use lib.Dec.{ltb}
 use lib.ListN.{getD}
 use Rattle.lists.specs.Table.{table}
 use Rattle.algebra.specs.Ops.{sum}
-use Rattle.definitions.specs.Zq.{Q}
+use Rattle.definitions.specs.Zq.{passed}
 use Rattle.definitions.specs.Projection.{entry}
 use Rattle.definitions.specs.Rq.{Element}
 use Rattle.definitions.specs.Ring.{RqOps, element, scale, conj}
@@ -22,7 +22,7 @@ omega-element R pi om n m = sum RqOps 256 (λ j. scale (conj (row-element R (pi 
 
 -- the sum of two words, less Q where it passes 32 bits
 abbrev pub carried : ℕ → ℕ → ℕ
-carried a b = cond (ltb (a + b) (2 ^ 32)) (a + b) (a + b - Q)
+carried a b = cond (ltb (a + b) (2 ^ 32)) (a + b) (passed (a + b))
 
 -- the `width` sums from a place on with a row's entries times a value added
 abbrev pub row-sums : List ℕ → (row value : ℕ) → List ℕ → (at width : ℕ) → List ℕ

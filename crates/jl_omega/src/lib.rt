@@ -2,6 +2,7 @@
 // omega is added to or taken from each column's sum; each finished element is conjugated once.
 use jl::projection;
 use rq::rq::Rq;
+use zq::zq::passed;
 ghost use mathlib.Core.Path.{_≡_};
 ghost use Prim.Native.Nat.{_+_, _*_, _≤_};
 ghost use lib.ListN.{length};
@@ -17,7 +18,7 @@ pub fn carry_add(a: u32, b: u32) -> u32
     ensures { λ r. ⌜ r ≡ carried a b ⌝ }
 {
     let sum = std::num::wrapping_add_u32(a, b);
-    if sum < b { sum + 1 } else { sum }
+    if sum < b { passed(sum) } else { sum }
 }
 
 // A row's entries times `value` added to `width` sums.

@@ -7,7 +7,8 @@ use native.Mathlib.Numerals.{add-one}
 use native.Mathlib.Omega.{arith}
 use borrow.Author.Tests.{lt-ltb, le-ltb}
 use Rattle.lists.specs.Sum.{Σ}
-use Rattle.definitions.specs.Zq.{Q}
+use Rattle.definitions.specs.Zq.{Q, lackQ, passed}
+use Rattle.definitions.proofs.Lack.{passed-word}
 use Rattle.definitions.proofs.Cases.{ltb-cases}
 use Rattle.jl.proofs.Places.{add-mod}
 use Rattle.jl_omega.specs.Omega.{carried}
@@ -32,7 +33,7 @@ terms-ext f g x (suc n) h = ap₂ biased-sum (terms-ext f g x n (λ t l. h t (om
 
 -- a carried sum of words is a word
 carried-word : (a b : ℕ) → a < 4294967296 → b < 4294967296 → carried a b < 4294967296
-carried-word a b ha hb = ltb-cases (λ t. cond t (a + b) (a + b - Q) < 4294967296) (a + b) 4294967296 (λ l. l) (λ l. omega arith)
+carried-word a b ha hb = ltb-cases (λ t. cond t (a + b) (passed (a + b)) < 4294967296) (a + b) 4294967296 (λ l. l) (λ l. passed-word (a + b) l (omega arith))
 
 -- 2^31 added twice
 biased-twice : (x : ℕ) → x < 4294967296 → biased (biased x) ≡ x
@@ -42,10 +43,6 @@ biased-twice x h = omega arith
 biased-plus : (x term : ℕ) → x < 4294967296 → term < 4294967296 → biased ((x + term) % 4294967296) ≡ (biased x + term) % 4294967296
 biased-plus x term h l = omega arith
 
--- one more, the same way
-biased-one : (x : ℕ) → x < 4294967296 → (biased x + 1) % 4294967296 ≡ biased (x + 1)
-biased-one x h = omega arith
-
 -- sums less than before have passed 32 bits, and no others
 passes : (a term : ℕ) → a < 4294967296 → term < 4294967296 → (a + term) % 4294967296 < a → 4294967296 ≤ a + term
 passes a term h l less = omega arith
@@ -53,8 +50,15 @@ passes a term h l less = omega arith
 stays : (a term : ℕ) → a < 4294967296 → term < 4294967296 → a ≤ (a + term) % 4294967296 → a + term < 4294967296
 stays a term h l more = omega arith
 
-less-one : (y : ℕ) → 4294967296 ≤ y → y < 8589934592 → y % 4294967296 + 1 ≡ y - 4294967295
-less-one y h l = omega arith
+-- where Q lacks 1 of 2^32, Q less is one more
+pub one-more : (next : ℕ) → next < 4294967296 → lackQ ≡ 1 → biased next < 4294967295 → (next + 1) % 4294967296 ≡ biased (passed (biased next + 4294967296))
+one-more next h e l =
+    ltb-cases (λ t. (next + 1) % 4294967296 ≡ biased (cond t (biased next + 4294967296 - Q) (biased next + 4294967296 - Q - Q))) (biased next + 4294967296 - Q) 4294967296
+    (λ m. omega arith)
+    (λ m. omega arith)
+
+over-again : (y : ℕ) → 4294967296 ≤ y → y < 8589934592 → y % 4294967296 + 4294967296 ≡ y
+over-again y h l = omega arith
 
 mod-small : (y : ℕ) → y < 4294967296 → y % 4294967296 ≡ y
 mod-small y h = omega arith
@@ -67,20 +71,19 @@ module _ (x term next : ℕ) (small : x < 4294967296) (word : term < 4294967296)
   again : next ≡ biased ((biased x + term) % 4294967296)
   again = sym (biased-twice next (omega arith)) ∙ ap biased kept
 
-  pub sum-passed : biased next < biased x → (next + 1) % 4294967296 ≡ biased-sum x term
+  pub sum-passed : biased next < biased x → biased (passed (biased next + 4294967296)) ≡ biased-sum x term
   sum-passed less =
       let past : 4294967296 ≤ biased x + term = passes (biased x) term (omega arith) word (rw kept at less) in
-      ap (λ n. (n + 1) % 4294967296) again
-      ∙ biased-one ((biased x + term) % 4294967296) (omega arith)
-      ∙ ap biased (less-one (biased x + term) past (omega arith))
-      ∙ sym (ap (λ t. biased (cond t (biased x + term) (biased x + term - Q))) (le-ltb (biased x + term) 4294967296 past))
+      ap (λ n. biased (passed (n + 4294967296))) kept
+      ∙ ap (λ y. biased (passed y)) (over-again (biased x + term) past (omega arith))
+      ∙ sym (ap (λ t. biased (cond t (biased x + term) (passed (biased x + term)))) (le-ltb (biased x + term) 4294967296 past))
 
   pub sum-stayed : biased x ≤ biased next → next ≡ biased-sum x term
   sum-stayed more =
       let within : biased x + term < 4294967296 = stays (biased x) term (omega arith) word (rw kept at more) in
       again
       ∙ ap biased (mod-small (biased x + term) within)
-      ∙ sym (ap (λ t. biased (cond t (biased x + term) (biased x + term - Q))) (lt-ltb (biased x + term) 4294967296 within))
+      ∙ sym (ap (λ t. biased (cond t (biased x + term) (passed (biased x + term)))) (lt-ltb (biased x + term) 4294967296 within))
 
 -- modulo Q the terms are added
 pub terms-mod : (f : ℕ → ℕ) (x n : ℕ) → ((t : ℕ) → f t < 2 ^ 32) → biased (terms-added f x n) % Q ≡ (biased x + Σ n f) % Q

@@ -1,11 +1,14 @@
 // The terms of 16 rows added to the sums of the columns for four k. The places of the rows' entries in the tables are worked out for 64 columns at a time; at a
 // place stand the four sums, one for each k, that are added side by side.
+use definitions::modulus;
 use zq::wide::wide_usize;
+use zq::zq::passed;
 ghost use mathlib.Core.Path.{_≡_};
 ghost use Prim.Native.Nat.{_+_, _*_, _/_, _≤_, _<_};
 ghost use lib.ListN.{length};
 ghost use Rattle.lists.specs.Table.{table};
 ghost use Rattle.lists.specs.Part.{splice};
+ghost use Rattle.definitions.specs.Zq.{passed};
 ghost use Rattle.jl_pairs.specs.Pairs.{pair-number, four-place, biased, Added};
 ghost use Rattle.jl_tables.specs.Tables.{biased-sum, terms-added, place-entry, Places, table-term, column-added, block-added};
 
@@ -16,13 +19,24 @@ pub fn biased(x: u32) -> u32
     std::num::wrapping_add_u32(x, 2147483648)
 }
 
+// A sum that is kept so and has passed 32 bits, less Q.
+fn biased_passed(next: u32) -> u32
+    requires { ⌜ biased next < 4294967295 ⌝ }
+    ensures { λ r. ⌜ r ≡ biased (passed (biased next + 4294967296)) ⌝ }
+{
+    if modulus::LACK == 1 {
+        return std::num::wrapping_add_u32(next, 1);
+    }
+    biased(passed(biased(next)))
+}
+
 // A sum that is kept so, with a term added. Without the 2^31 it has passed 32 bits where it is less than before.
 fn biased_add(sum: u32, term: u32) -> u32
     ensures { λ r. ⌜ r ≡ biased-sum sum term ⌝ }
 {
     let next = std::num::wrapping_add_u32(sum, term);
     if biased(next) < biased(sum) {
-        std::num::wrapping_add_u32(next, 1)
+        biased_passed(next)
     } else {
         next
     }

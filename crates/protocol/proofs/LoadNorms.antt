@@ -10,7 +10,7 @@ use Rattle.lists.specs.Table.{table}
 use Rattle.lists.specs.Sum.{Σ}
 use Rattle.lists.proofs.Sum.{Σ-bound}
 use Rattle.lists.proofs.Table.{length-table}
-use Rattle.definitions.specs.Zq.{Canonical}
+use Rattle.definitions.specs.Zq.{halfQ, Canonical}
 use Rattle.definitions.specs.Norm.{square, norm}
 use Rattle.definitions.specs.Answer.{fine, accepted, refused, failed, _then_}
 use Rattle.definitions.specs.Rq.{Element, AllCanonical, rzero, digitRow}
@@ -29,13 +29,13 @@ use Rattle.protocol.proofs.Norms.{words-digit, words-rest, digits-of-ro
 use Rattle.protocol.proofs.Corollary.{conditions-of-met}
 
 -- the square of a centre
-pub square-le : (a : ℕ) → Canonical a → square a ≤ 4611686014132420609
+pub square-le : (a : ℕ) → Canonical a → square a ≤ (halfQ * halfQ)
 square-le a h = mul-le-mul (size-le a h) (size-le a h)
 
 -- the norm of canonical words
-pub norm-le : (ws : List ℕ) → AllCanonical ws → norm ws ≤ length ws * 4611686014132420609
+pub norm-le : (ws : List ℕ) → AllCanonical ws → norm ws ≤ length ws * (halfQ * halfQ)
 unfolding norm
-norm-le ws h = Σ-bound (length ws) 4611686014132420609 _ (λ i l. square-le _ (h i l))
+norm-le ws h = Σ-bound (length ws) (halfQ * halfQ) _ (λ i l. square-le _ (h i l))
 
 -- the norm of an element's words: 64 squares
 element-norm-le : (e : Element) → norm (words e) ≤ 295147904904474918976
@@ -112,7 +112,7 @@ module _ (X : Public) (s : ℕ → ℕ → Element) (ample : Ample (X .P)) where
 
   p-norm-le : p-norm X s ≤ 128 * beta-sq
   unfolding p-norm
-  p-norm-le = omega (arith, Σ-bound 256 4611686014132420609 (λ j. square (F.p X s j)) (λ j h. square-le (F.p X s j) (reduced j)))
+  p-norm-le = omega (arith, Σ-bound 256 (halfQ * halfQ) (λ j. square (F.p X s j)) (λ j h. square-le (F.p X s j) (reduced j)))
     where
       reduced : (j : ℕ) → Canonical (F.p X s j)
       reduced j = unfold F.p in canonical-mod (Σ r (λ i. F.projection X s i j))

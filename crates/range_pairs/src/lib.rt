@@ -1,4 +1,5 @@
 // The pairs of lows and highs: 36 and 37.
+use definitions::modulus;
 use range_norms::number;
 ghost use mathlib.Core.Path.{_≡_};
 ghost use mathlib.Core.Bool.{_||_};
@@ -13,9 +14,9 @@ fn is_beyond(x: i64) -> bool
     ensures { λ r. ⌜ r ≡ is-beyond x ⌝ }
 {
     if x < 0 {
-        x < -2147483647
+        x < modulus::MINUS_HALF
     } else {
-        2147483647 < x
+        modulus::HALF_I64 < x
     }
 }
 

@@ -1,13 +1,15 @@
 // A ring element as 64 words, coefficient of X^0 first. No operation asks for canonical words, and each gives some, except that the conjugate keeps
 // coefficient 0 as it is.
 use definitions::answers::U128;
+use definitions::modulus;
 use rq_product::product;
 use zq::norm;
 use zq::zq::Zq;
 ghost use mathlib.Core.Path.{_≡_};
 ghost use Rattle.definitions.specs.Answer.{value128};
 ghost use Rattle.definitions.specs.Norm.{norm};
-ghost use Rattle.definitions.specs.Rq.{rzero, radd, rsub, rmul, rscale, rconj};
+ghost use Rattle.definitions.specs.Ring.{element};
+ghost use Rattle.definitions.specs.Rq.{AtMostQ, rzero, radd, rsub, rmul, rscale, rconj};
 
 #[repr(C)]
 pub struct Rq {
@@ -35,6 +37,16 @@ impl Rq {
             sum[k] = Zq(a[k]).add(Zq(b[k])).0;
         }
         Rq { coeffs: sum }
+    }
+
+    // The same element with words up to Q: each word is one where Q lacks 1 of 2^32.
+    pub fn settled(self) -> Rq
+        ensures { λ r. ⌜ (element (r .coeffs) ≡ element (self .coeffs)) × AtMostQ (r .coeffs) ⌝ }
+    {
+        if modulus::LACK == 1 {
+            return self;
+        }
+        self.add(Rq::zero())
     }
 
     pub fn sub(self, rhs: Rq) -> Rq

@@ -9,7 +9,7 @@ returns : tie.Need-returns
 returns c =
     let tested = c .before .before in
     let s = tested .before .before .before .args in
-    c .wrapping-add-u322 .ensures
+    c .biased-passed .ensures
     ∙ sum-passed (s .sum) (s .term) (tested .before .before .wrapping-add-u32 .result) (search needs) (search needs) (tested .before .before .wrapping-add-u32 .ensures)
     (rw (tested .before .biased .ensures, tested .biased2 .ensures) at (c .before .if1 .taken))
 

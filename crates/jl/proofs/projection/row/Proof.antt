@@ -7,6 +7,7 @@ use borrow.Author.Needs.{needs}
 use lib.ListN.{getD}
 use Rattle.lists.specs.Sum.{Σ}
 use Rattle.lists.proofs.Sum.{Σ-suc}
+use Rattle.definitions.specs.Zq.{Q}
 use Rattle.jl.specs.Rows.{term, row-sum}
 use Rattle.jl.proofs.Terms.{terms-mod}
 use Rattle.jl.proofs.projection.row.Statement.{statement}
@@ -48,7 +49,7 @@ returns c =
     let s = c .before .before .before .before .args in
     let l = c .before .loop in
     let n : l .m ≡ s .count = omega arith in (
-      ap (λ t. t % 4294967295) (l .inv .1 ∙ ap (λ k. Σ k (each (s .randomness .now) (s .at) (s .witness .now) (s .wt))) n)
+      ap (λ t. t % Q) (l .inv .1 ∙ ap (λ k. Σ k (each (s .randomness .now) (s .at) (s .witness .now) (s .wt))) n)
           ∙ terms-mod (s .count) (λ i. getD (s .randomness .now) (s .at + i) 0) (λ i. getD (s .witness .now) (s .wt + i) 0) (λ i h. omega (arith, c .before .before .shared-slice-known2 .given (s .wt + i))),
       omega arith,
     )

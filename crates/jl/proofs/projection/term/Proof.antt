@@ -1,29 +1,19 @@
 -- `term` meets its contract.
-use mathlib.Core.Path.{_≡_, _∙_, ap}
-use mathlib.Core.Logic.{⊎-elim}
-use Prim.Native.Nat.{ℕ, _-_, _<_, _^_}
+use mathlib.Core.Path.{_∙_}
 use native.Mathlib.Omega.{arith}
+use borrow.Author.Needs.{needs}
 use borrow.Author.Tests.{lt-ltb, le-ltb}
-use lib.Bits.{bitXor, xor-zero-r, xor-add-and, and-mask}
 use Rattle.jl.proofs.projection.term.Statement.{statement}
 use Rattle.jl.proofs.projection.term.Tie as tie
 
--- each bit of a word changed
-flipped : (x : ℕ) → x < 2 ^ 32 → bitXor x 4294967295 ≡ 4294967295 - x
-flipped x h = omega (arith, xor-add-and x 4294967295, and-mask x 32)
-
-returns : tie.Need-returns
-returns c =
-    let s = c .before .before .before .args in
-    ⊎-elim
-    (λ w. simp (lt-ltb (s .code) 1073741824 (w .0 .taken)) (ap (bitXor (s .word)) (w .1) ∙ flipped (s .word) (omega arith)))
-    (λ w. simp (le-ltb (s .code) 1073741824 (w .0 .left), lt-ltb (s .code) 2147483648 (c .before .if2 .taken)) (ap (bitXor (s .word)) (w .1) ∙ xor-zero-r (s .word)))
-    (c .before .before .if1 .came)
-
 returns-2 : tie.Need-returns-2
-returns-2 c =
-    let s = c .before .before .args in
-    simp (le-ltb (s .code) 1073741824 (omega arith), le-ltb (s .code) 2147483648 (c .if2 .left))
+returns-2 c = c .lack .ensures ∙ simp (lt-ltb (c .before .before .before .args .code) 1073741824 (omega arith))
+
+returns-3 : tie.Need-returns-3
+returns-3 c = simp (le-ltb (c .before .before .before .args .code) 1073741824 (omega arith), lt-ltb (c .before .before .before .args .code) 2147483648 (omega arith))
+
+returns-4 : tie.Need-returns-4
+returns-4 c = simp (le-ltb (c .before .before .before .args .code) 1073741824 (omega arith), le-ltb (c .before .before .before .args .code) 2147483648 (omega arith))
 
 pub term-spec : {M : Type 1} → statement M
-term-spec = tie.close (tie.spec returns returns-2)
+term-spec = tie.close (tie.spec (λ c κs. omega arith) (λ c. search needs) (λ c κs. search needs) returns-2 returns-3 returns-4)
