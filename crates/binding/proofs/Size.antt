@@ -8,7 +8,7 @@ use Rattle.definitions.specs.Zq.{Q, halfQ, Canonical, zsub, size}
 use Rattle.definitions.specs.Norm.{square}
 use Rattle.definitions.proofs.Cases.{ltb-cases}
 
--- what holds of a size's value holds of the size: x up to 2147483647, or Q − x above
+-- what holds of a size's value holds of the size: x up to half of Q, or Q − x above
 size-by : (P : ℕ → Type 0) (x : ℕ) → (halfQ < x → P (Q - x)) → (x ≤ halfQ → P x) → P (size x)
 size-by P x f g = ltb-cases (λ t. P (cond t (Q - x) x)) halfQ x f g
 

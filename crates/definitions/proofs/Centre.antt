@@ -10,7 +10,7 @@ use Rattle.definitions.specs.Digits.{signed}
 use Rattle.definitions.specs.Norm.{square}
 use Rattle.definitions.proofs.Cases.{ltb-cases}
 
--- a size is at most 2147483647
+-- a size is at most the greatest centre
 pub size-le : (a : ℕ) → Canonical a → size a ≤ halfQ
 size-le a h = ltb-cases (λ t. cond t (Q - a) a ≤ halfQ) halfQ a (λ l. omega arith) (λ l. omega arith)
 

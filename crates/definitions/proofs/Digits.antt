@@ -165,7 +165,7 @@ leftover-zero b n a p =
     let le : (sizeAfter b n (size a) ≤ 0) ↔ (size a ≤ 0 * b ^ n + Σ n (λ k. b / 2 * b ^ k)) = sizeAfter-le b n (size a) 0 p in
     (λ e. omega (arith, le .0 (omega arith)), λ l. omega (arith, le .1 (omega arith)))
 
--- as many parts as reach 2147483647 leave nothing of any value
+-- as many parts as reach the greatest size leave nothing of any value
 pub enough-parts : (b n a : ℕ) → 0 < b → halfQ ≤ Σ n (λ k. b / 2 * b ^ k) → Canonical a → leftover b n a ≡ 0
 enough-parts b n a p l h = leftover-zero b n a p .1 (omega (arith, size-le a h))
 

@@ -89,7 +89,7 @@ recompose-iff b n a p h = (λ e. none (leftover b n a) refl e, λ e. recompose-d
         let alone = sym (recompose-digits b n a) ∙ e in
         absurd (never-vanishes t (leftover b n a) (b ^ n) (w .0) (w .1) (omega arith))
 
--- parts are enough just where they reach 2147483647, the greatest size
+-- parts are enough just where they reach the greatest size
 pub enough-iff : (b n : ℕ) → 0 < b → Enough b n ↔ (halfQ ≤ reach b n)
 unfolding reach
 enough-iff b n p = (λ f. leftover-zero b n halfQ p .0 (f halfQ (omega arith)), λ l a h. enough-parts b n a p l h)

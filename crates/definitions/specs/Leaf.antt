@@ -1,7 +1,7 @@
 -- What a leaf call finds of its operands (document 01, "Leaves").
 use mathlib.Core.Bool.{cond}
 use mathlib.Core.List.{List}
-use Prim.Native.Nat.{ℕ, _-_}
+use Prim.Native.Nat.{ℕ}
 use lib.Dec.{ltb}
 use Rattle.definitions.specs.Zq.{Q, topQ}
 use Rattle.definitions.specs.Answer.{Answer, fine, refused, below, _then_}

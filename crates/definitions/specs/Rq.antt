@@ -2,13 +2,13 @@
 use mathlib.Core.Path.{_≡_}
 use mathlib.Core.Bool.{Bool, cond, decide}
 use mathlib.Core.List.{List, List-discrete}
-use Prim.Native.Nat.{ℕ, _+_, _-_, _*_, _≤_, _<_}
+use Prim.Native.Nat.{ℕ, _+_, _-_, _*_, _<_}
 use native.Mathlib.Decide.{ℕ-discrete}
 use lib.Dec.{eqb}
 use lib.ListN.{length, getD}
 use Rattle.lists.specs.Table.{table, padded}
 use Rattle.lists.specs.Sum.{Σ}
-use Rattle.definitions.specs.Zq.{Q, Canonical, zadd, zsub, zneg, zmul}
+use Rattle.definitions.specs.Zq.{Canonical, zadd, zsub, zneg, zmul}
 use Rattle.definitions.specs.Digits.{digit, leftover, rest}
 
 -- the coefficient of X^k
@@ -18,10 +18,6 @@ coeff a k = getD a k 0
 -- each word of a list is canonical
 abbrev pub AllCanonical : List ℕ → Type 0
 AllCanonical a = (k : ℕ) → k < length a → Canonical (getD a k 0)
-
--- each of 64 words is at most Q
-abbrev pub AtMostQ : List ℕ → Type 0
-AtMostQ a = (k : ℕ) → k < 64 → getD a k 0 ≤ Q
 
 -- "A ring element is 64 words, coefficient of X^0 first", each canonical
 abbrev pub Element : Type 0

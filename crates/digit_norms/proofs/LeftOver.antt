@@ -6,7 +6,8 @@ use Prim.Native.Nat.{ℕ, _%_, _≤_}
 use Rattle.lists.proofs.Table.{table-ext}
 use Rattle.definitions.specs.Zq.{Q}
 use Rattle.definitions.specs.Digits.{leftover}
-use Rattle.definitions.specs.Rq.{coeff, AtMostQ, isZero, leftRow}
+use Rattle.definitions.specs.Rq.{coeff, isZero, leftRow}
+use Rattle.rq.specs.Words.{AtMostQ}
 use Rattle.definitions.specs.Ring.{words, element}
 use Rattle.protocol.specs.Formulas.{nothing-left}
 use Rattle.protocol.specs.Conditions.{one-if-left}

@@ -9,7 +9,8 @@ use Rattle.lists.proofs.Sum.{Σ-ext}
 use Rattle.definitions.specs.Zq.{Q, Canonical, size}
 use Rattle.definitions.specs.Norm.{square, norm}
 use Rattle.definitions.specs.Digits.{sizeAfter, rest}
-use Rattle.definitions.specs.Rq.{coeff, AtMostQ, digitRow, restRow}
+use Rattle.definitions.specs.Rq.{coeff, digitRow, restRow}
+use Rattle.rq.specs.Words.{AtMostQ}
 use Rattle.definitions.specs.Ring.{words, element}
 use Rattle.definitions.proofs.Centre.{size-le, size-signed}
 use Rattle.definitions.proofs.Digits.{sizeAfter-self}

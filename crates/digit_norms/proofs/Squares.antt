@@ -13,7 +13,8 @@ use Rattle.lists.proofs.Splice.{getD-part}
 use Rattle.lists.proofs.Additive.{additive-table}
 use Rattle.definitions.specs.Zq.{Q}
 use Rattle.definitions.specs.Norm.{square, norm}
-use Rattle.definitions.specs.Rq.{Element, coeff, AtMostQ, digitRow}
+use Rattle.definitions.specs.Rq.{Element, coeff, digitRow}
+use Rattle.rq.specs.Words.{AtMostQ}
 use Rattle.definitions.specs.Ring.{words, element}
 use Rattle.inner_product.specs.Run.{run}
 use Rattle.norms.proofs.Part.{norm-part}

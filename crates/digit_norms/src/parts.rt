@@ -7,7 +7,7 @@ ghost use Prim.Native.Nat.{_+_, _*_, _≤_, _<_, _^_};
 ghost use lib.ListN.{length};
 ghost use Rattle.lists.specs.Table.{table};
 ghost use Rattle.definitions.specs.Answer.{value128};
-ghost use Rattle.definitions.specs.Rq.{AtMostQ};
+ghost use Rattle.rq.specs.Words.{AtMostQ};
 ghost use Rattle.definitions.specs.Ring.{element};
 ghost use Rattle.inner_product.specs.Run.{run};
 ghost use Rattle.protocol.specs.Formulas.{norm-of, two-parts};

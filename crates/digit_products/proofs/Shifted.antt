@@ -15,9 +15,10 @@ use Rattle.lists.proofs.Table.{length-table, getD-table, table-suc, table-ext, 
 use Rattle.lists.proofs.Part.{length-flatMap, part-flatMap}
 use Rattle.lists.proofs.Additive.{flatMap-append}
 use Rattle.lists.proofs.Splice.{splice-append, getD-part, part-splice-within, length-splice}
-use Rattle.definitions.specs.Zq.{Q, halfQ, lack, size}
+use Rattle.definitions.specs.Zq.{Q, halfQ, size}
+use Rattle.zq.specs.Words.{lack}
 use Rattle.definitions.specs.Rq.{coeff}
-use Rattle.definitions.proofs.Lack.{lack-canonical}
+use Rattle.zq.proofs.Words.{lack-canonical}
 use Rattle.rq_product.specs.Product.{extendedCoeff}
 use Rattle.digit_products.specs.Forms.{shiftedCoeff, shifted, Formed, SmallDigits}
 use Rattle.digit_products.specs.Small.{SmallFrom}

@@ -11,7 +11,8 @@ use Rattle.lists.specs.Sum.{Σ}
 use Rattle.lists.proofs.Table.{getD-table}
 use Rattle.lists.proofs.Splice.{getD-part}
 use Rattle.lists.proofs.Sum.{Σ-add, Σ-mul-left, Σ-mod-ext, Σ-bound}
-use Rattle.definitions.specs.Zq.{Q, timesQ, liftQ, zsub}
+use Rattle.definitions.specs.Zq.{Q, zsub}
+use Rattle.digit_products.specs.Small.{timesQ, liftQ}
 use Rattle.definitions.specs.Rq.{coeff, low, high, rmul}
 use Rattle.definitions.specs.Ring.{RqOps, words, element}
 use Rattle.definitions.proofs.RqRing.{rq-ring}

@@ -10,7 +10,8 @@ ghost use Prim.Native.Nat.{_+_, _*_, _%_, _≤_};
 ghost use lib.ListN.{length, getD};
 ghost use Rattle.lists.specs.Table.{table};
 ghost use Rattle.lists.specs.Part.{part, splice};
-ghost use Rattle.definitions.specs.Zq.{Q, lack};
+ghost use Rattle.definitions.specs.Zq.{Q};
+ghost use Rattle.zq.specs.Words.{lack};
 ghost use Rattle.digit_products.specs.Forms.{shifted};
 
 // A coefficient with half the base added modulo Q, without a choice, so that it runs on several at a time.

@@ -11,12 +11,13 @@ use Rattle.lists.proofs.Table.{table-ext}
 use Rattle.lists.proofs.Sum.{Σ-suc, Σ-ext}
 use Rattle.algebra.specs.Ops.{sum, dot}
 use Rattle.algebra.proofs.Sum.{sum-ext}
-use Rattle.definitions.specs.Zq.{Q}
+use Rattle.definitions.specs.Zq.{Q, lackQ}
 use Rattle.definitions.specs.Rq.{coeff, rmul, rscale}
 use Rattle.definitions.specs.Ring.{RqOps, IsElement, words, element, scale}
 use Rattle.definitions.proofs.Bridge.{words-sum, words-element, element-rmul, element-rscale, rmul-element, rscale-element}
-use Rattle.rq_product.specs.Sums.{Room, Added}
+use Rattle.definitions.proofs.Suited.{suited, sums-fit}
 use Rattle.rq_product.specs.Product.{growth}
+use Rattle.rq_product.specs.Sums.{Room, Added}
 use Rattle.inner_product.specs.Run.{run}
 
 -- totals of the first m of the elements f 0, f 1, …, each of which adds so much at most
@@ -43,9 +44,9 @@ totals-next growth totals next m f t a = record {
     step : (x y z : ℕ) → x % Q ≡ y % Q → (x + z) % Q ≡ (y + z) % Q
     step x y z e = omega arith
 
--- there is room while they are few
+-- there is room while they are few, since Q lacks little of 2^32
 pub totals-room : (totals : List ℕ) (m : ℕ) (f : ℕ → List ℕ) → Totals growth totals m f → m ≤ 2 ^ 18 → Room totals
-totals-room totals m f t few k h = omega (arith, t .bound k h)
+totals-room totals m f t few k h = omega (arith, t .bound k h, sums-fit lackQ m suited few)
 
 -- reduced, they are the words of the elements' sum
 pub totals-words : (growth : ℕ) (totals : List ℕ) (n : ℕ) (f : ℕ → List ℕ) → Totals growth totals n f → ((m : ℕ) → IsElement (f m))

@@ -7,9 +7,10 @@ use native.Mathlib.Omega.{arith}
 use lib.Dec.{ltb}
 use Rattle.lists.specs.Sum.{Σ}
 use Rattle.lists.proofs.Sum.{Σ-ext, Σ-mod}
-use Rattle.definitions.specs.Zq.{Q, topQ, lack, zneg}
+use Rattle.definitions.specs.Zq.{Q, topQ, zneg}
+use Rattle.zq.specs.Words.{lack}
 use Rattle.definitions.specs.Projection.{entry}
-use Rattle.definitions.proofs.Lack.{over, lack-le, lack-whole}
+use Rattle.zq.proofs.Words.{over, lack-le, lack-whole}
 use Rattle.definitions.proofs.Cases.{ltb-cases}
 use Rattle.jl.specs.Rows.{term}
 

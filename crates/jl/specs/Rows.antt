@@ -5,7 +5,7 @@ use Prim.Native.Nat.{ℕ, _+_, _*_}
 use lib.Dec.{ltb}
 use lib.ListN.{getD}
 use Rattle.lists.specs.Sum.{Σ}
-use Rattle.definitions.specs.Zq.{lack}
+use Rattle.zq.specs.Words.{lack}
 use Rattle.definitions.specs.Projection.{entry}
 
 -- the product of a projection word's entry and a word, without a product: −x, x or 0 modulo Q

@@ -15,11 +15,12 @@ use Rattle.lists.proofs.Splice.{splice-again, length-part, getD-part, getD-spli
 use Rattle.lists.proofs.Fill.{getD-splice-table}
 use Rattle.algebra.specs.Ops.{sum}
 use Rattle.algebra.proofs.Sum.{sum-ext}
-use Rattle.definitions.specs.Zq.{Q, passed}
+use Rattle.definitions.specs.Zq.{Q}
+use Rattle.zq.specs.Words.{passed}
 use Rattle.definitions.specs.Projection.{entry}
 use Rattle.definitions.specs.Rq.{Element, coeff, rzero, radd, rconj}
 use Rattle.definitions.specs.Ring.{ZqOps, residue, RqOps, words, element, scale, conj}
-use Rattle.definitions.proofs.Lack.{passed-mod}
+use Rattle.zq.proofs.Words.{passed-mod}
 use Rattle.definitions.proofs.Cases.{ltb-cases}
 use Rattle.definitions.proofs.ZqRing.{residue-mod}
 use Rattle.definitions.proofs.RqRing.{coefficient, element-path, coefficient-table, coefficient-rscale, residue-products}

@@ -6,7 +6,7 @@ use lib.Dec.{ltb}
 use lib.ListN.{getD}
 use Rattle.lists.specs.Table.{table}
 use Rattle.algebra.specs.Ops.{sum}
-use Rattle.definitions.specs.Zq.{passed}
+use Rattle.zq.specs.Words.{passed}
 use Rattle.definitions.specs.Projection.{entry}
 use Rattle.definitions.specs.Rq.{Element}
 use Rattle.definitions.specs.Ring.{RqOps, element, scale, conj}

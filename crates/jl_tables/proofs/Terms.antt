@@ -7,8 +7,9 @@ use native.Mathlib.Numerals.{add-one}
 use native.Mathlib.Omega.{arith}
 use borrow.Author.Tests.{lt-ltb, le-ltb}
 use Rattle.lists.specs.Sum.{Σ}
-use Rattle.definitions.specs.Zq.{Q, lackQ, passed}
-use Rattle.definitions.proofs.Lack.{passed-word}
+use Rattle.definitions.specs.Zq.{Q, lackQ}
+use Rattle.zq.specs.Words.{passed}
+use Rattle.zq.proofs.Words.{passed-word}
 use Rattle.definitions.proofs.Cases.{ltb-cases}
 use Rattle.jl.proofs.Places.{add-mod}
 use Rattle.jl_omega.specs.Omega.{carried}

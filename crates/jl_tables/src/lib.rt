@@ -8,7 +8,7 @@ ghost use Prim.Native.Nat.{_+_, _*_, _/_, _≤_, _<_};
 ghost use lib.ListN.{length};
 ghost use Rattle.lists.specs.Table.{table};
 ghost use Rattle.lists.specs.Part.{splice};
-ghost use Rattle.definitions.specs.Zq.{passed};
+ghost use Rattle.zq.specs.Words.{passed};
 ghost use Rattle.jl_pairs.specs.Pairs.{pair-number, four-place, biased, Added};
 ghost use Rattle.jl_tables.specs.Tables.{biased-sum, terms-added, place-entry, Places, table-term, column-added, block-added};
 

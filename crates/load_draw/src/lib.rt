@@ -61,7 +61,7 @@ fn sign(state: u32) -> u32
 fn ternary(state: u32) -> u32
     ensures { λ r. ⌜ r ≡ S.ternary state ⌝ }
 {
-    (((state % 3) as u64 + modulus::TOP_U64) % modulus::Q_U64) as u32
+    (((state % 3) as u64 + (modulus::Q_U64 - 1)) % modulus::Q_U64) as u32
 }
 
 // The word that a state gives.

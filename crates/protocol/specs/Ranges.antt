@@ -93,7 +93,7 @@ ranges-count P = 64 * (P .r * P .n)
 abbrev pub length-refusal : (need handed : ℕ) → Answer
 length-refusal need handed = require (ℕ-discrete handed need) (refused 11 (min handed need))
 
--- "37 a number beyond ±2147483647"
+-- "37 a number beyond ±2147483647", which is the greatest centre
 abbrev pub size-refusal : (place : ℕ) → ℤ → Answer
 size-refusal place x = require (decLe (natAbs x) halfQ) (refused 37 place)
 

@@ -10,7 +10,7 @@ use Rattle.lists.specs.Table.{table}
 use Rattle.definitions.specs.Zq.{halfQ}
 use Rattle.protocol.specs.Ranges.{number-at}
 
--- a number from −2147483647 to 2147483647
+-- a number that is some value's centre
 abbrev pub Centred : ℤ → Type 0
 Centred x = natAbs x ≤ halfQ
 

@@ -6,7 +6,7 @@ use lib.IntN.{ℤ, natAbs}
 use Rattle.definitions.specs.Zq.{halfQ}
 use Rattle.definitions.specs.Answer.{Answer, fine, refused}
 
--- whether a number lies beyond ±2147483647
+-- whether a number is beyond the greatest centre
 abbrev pub is-beyond : ℤ → Bool
 is-beyond x = ltb halfQ (natAbs x)
 

@@ -9,7 +9,7 @@ ghost use lib.ListN.{length};
 ghost use Rattle.protocol.specs.Ranges.{beyond-refusal, crossed-refusal};
 ghost use Rattle.range_pairs.specs.Pairs.{is-beyond, found};
 
-// Whether a number lies beyond ±2147483647.
+// Whether a number is no value's centre.
 fn is_beyond(x: i64) -> bool
     ensures { λ r. ⌜ r ≡ is-beyond x ⌝ }
 {
@@ -37,7 +37,7 @@ fn in_order(low: i64, high: i64) -> bool
     low <= high
 }
 
-// 37: the first pair with a number beyond ±2147483647, or the count where there is none.
+// 37: the first pair with a number that is no centre, or the count where there is none.
 pub fn first_beyond(lows: &[i64], highs: &[i64], count: usize) -> usize
     requires { ⌜ (count ≤ length (now lows)) × (count ≤ length (now highs)) ⌝ }
     ensures { λ r. ⌜ found 37 r count ≡ beyond-refusal count (now (lows .entry)) (now (highs .entry)) ⌝ }

@@ -9,7 +9,8 @@ ghost use mathlib.Core.Path.{_≡_};
 ghost use Rattle.definitions.specs.Answer.{value128};
 ghost use Rattle.definitions.specs.Norm.{norm};
 ghost use Rattle.definitions.specs.Ring.{element};
-ghost use Rattle.definitions.specs.Rq.{AtMostQ, rzero, radd, rsub, rmul, rscale, rconj};
+ghost use Rattle.definitions.specs.Rq.{rzero, radd, rsub, rmul, rscale, rconj};
+ghost use Rattle.rq.specs.Words.{AtMostQ};
 
 #[repr(C)]
 pub struct Rq {

@@ -10,9 +10,10 @@ use lib.ListN.{length, getD}
 use Rattle.lists.specs.Sum.{Σ}
 use Rattle.lists.proofs.Sum.{Σ-ext, Σ-add, Σ-split, Σ-mul-left}
 use Rattle.lists.proofs.Table.{length-table, getD-table}
-use Rattle.definitions.specs.Zq.{Q, lack, zsub}
+use Rattle.definitions.specs.Zq.{Q, zsub}
+use Rattle.zq.specs.Words.{lack}
 use Rattle.definitions.specs.Rq.{coeff, low, high, rmul}
-use Rattle.definitions.proofs.Lack.{over, lack-le, lack-whole}
+use Rattle.zq.proofs.Words.{over, lack-le, lack-whole}
 use Rattle.rq_product.specs.Product.{AllWords, extended, extendedCoeff, reversed, Forms, folded}
 use Rattle.rq_product.proofs.Halves.{folded-mod}
 

@@ -7,7 +7,8 @@ use lib.Dec.{ltb}
 use lib.ListN.{length, getD}
 use Rattle.lists.specs.Table.{table, padded}
 use Rattle.lists.specs.Sum.{Σ}
-use Rattle.definitions.specs.Zq.{Q, lack, lackQ}
+use Rattle.definitions.specs.Zq.{Q, lackQ}
+use Rattle.zq.specs.Words.{lack}
 use Rattle.definitions.specs.Rq.{coeff, rmul}
 
 -- "those done are shown to be the product's and the later ones still zero" (document 02, Item 3): the first k coefficients of `out` are those of a·b

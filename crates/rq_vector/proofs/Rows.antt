@@ -8,7 +8,8 @@ use native.Mathlib.Omega.{arith}
 use Rattle.lists.proofs.Table.{table-ext, getD-table}
 use Rattle.definitions.specs.Zq.{Q, Canonical, size}
 use Rattle.definitions.specs.Digits.{sizeAfter, digit}
-use Rattle.definitions.specs.Rq.{coeff, AtMostQ, digitRow}
+use Rattle.definitions.specs.Rq.{coeff, digitRow}
+use Rattle.rq.specs.Words.{AtMostQ}
 use Rattle.definitions.specs.Ring.{words, element}
 use Rattle.definitions.proofs.Digits.{stays-zero, digit-zero}
 use Rattle.protocol.specs.Formulas.{digit-element}

@@ -5,7 +5,8 @@ ghost use mathlib.Core.Path.{_≡_};
 ghost use mathlib.Core.Bool.{cond};
 ghost use Prim.Native.Nat.{_+_, _-_, _*_, _%_, _<_};
 ghost use lib.Dec.{eqb};
-ghost use Rattle.definitions.specs.Zq.{Q, Canonical, lack, passed, zadd, zsub, zneg, zmul, isLargerThanHalf, centre, size};
+ghost use Rattle.definitions.specs.Zq.{Q, Canonical, zadd, zsub, zneg, zmul, isLargerThanHalf, centre, size};
+ghost use Rattle.zq.specs.Words.{lack, passed};
 
 // A word; canonical below Q. No operation asks for a canonical word, and each gives one.
 pub struct Zq(pub u32);

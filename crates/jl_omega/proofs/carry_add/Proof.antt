@@ -4,7 +4,7 @@ use Prim.Native.Nat.{_+_}
 use native.Mathlib.Omega.{arith}
 use borrow.Author.Needs.{needs}
 use borrow.Author.Tests.{lt-ltb, le-ltb}
-use Rattle.definitions.specs.Zq.{passed}
+use Rattle.zq.specs.Words.{passed}
 use Rattle.jl_omega.proofs.carry_add.Statement.{statement}
 use Rattle.jl_omega.proofs.carry_add.Tie as tie
 

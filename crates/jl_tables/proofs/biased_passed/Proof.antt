@@ -3,7 +3,7 @@ use mathlib.Core.Path.{_∙_, ap}
 use Prim.Native.Nat.{_+_}
 use native.Mathlib.Omega.{arith}
 use borrow.Author.Needs.{needs}
-use Rattle.definitions.specs.Zq.{passed}
+use Rattle.zq.specs.Words.{passed}
 use Rattle.jl_pairs.specs.Pairs.{biased}
 use Rattle.jl_tables.proofs.Terms.{one-more}
 use Rattle.jl_tables.proofs.biased_passed.Statement.{statement}

@@ -6,7 +6,7 @@ use borrow.Author.Needs.{needs}
 use lib.ListN.{getD}
 use Rattle.lists.specs.Table.{padded}
 use Rattle.lists.proofs.Padded.{padded-none, padded-next, padded-done}
-use Rattle.definitions.specs.Zq.{lack}
+use Rattle.zq.specs.Words.{lack}
 use Rattle.digit_products.proofs.forms.complements.Statement.{statement}
 use Rattle.digit_products.proofs.forms.complements.Tie as tie
 

@@ -6,7 +6,7 @@ use native.Mathlib.Omega.{arith}
 use lib.ListN.{length, getD}
 use Rattle.lists.specs.Sum.{Σ}
 use Rattle.lists.proofs.Sum.{Σ-suc}
-use Rattle.definitions.specs.Zq.{liftQ}
+use Rattle.digit_products.specs.Small.{liftQ}
 use Rattle.digit_products.proofs.small.complement.Statement.{statement}
 use Rattle.digit_products.proofs.small.complement.Tie as tie
 

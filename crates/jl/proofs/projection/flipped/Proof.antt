@@ -4,7 +4,8 @@ use mathlib.Core.Logic.{⊎-elim}
 use Prim.Native.Nat.{ℕ, _-_, _<_, _^_}
 use native.Mathlib.Omega.{arith}
 use mathlib.Core.Bool.{cond}
-use Rattle.definitions.specs.Zq.{Q, lackQ, lack}
+use Rattle.definitions.specs.Zq.{Q, lackQ}
+use Rattle.zq.specs.Words.{lack}
 use Rattle.definitions.proofs.Cases.{ltb-cases}
 use borrow.Author.Tests.{lt-ltb, le-ltb}
 use lib.Bits.{bitXor, xor-zero-r, xor-add-and, and-mask}

@@ -4,7 +4,8 @@ use mathlib.Core.Bool.{cond}
 use Prim.Native.Nat.{ℕ, _+_, _-_, _%_, _≤_, _<_, _^_}
 use native.Mathlib.Omega.{arith}
 use borrow.Author.Needs.{needs}
-use Rattle.definitions.specs.Zq.{Q, lackQ, passed}
+use Rattle.definitions.specs.Zq.{Q, lackQ}
+use Rattle.zq.specs.Words.{passed}
 use Rattle.definitions.proofs.Cases.{ltb-cases}
 use Rattle.zq.proofs.zq.passed.Statement.{statement}
 use Rattle.zq.proofs.zq.passed.Tie as tie

@@ -4,7 +4,7 @@ use Prim.Native.Nat.{ℕ, _+_, _%_, _≤_, _<_, _^_}
 use native.Mathlib.Omega.{arith}
 use borrow.Author.Needs.{needs}
 use Rattle.definitions.specs.Zq.{Q}
-use Rattle.definitions.proofs.Lack.{passed-mod}
+use Rattle.zq.proofs.Words.{passed-mod}
 use Rattle.zq.proofs.zq.Zq.add.Statement.{statement}
 use Rattle.zq.proofs.zq.Zq.add.Tie as tie
 

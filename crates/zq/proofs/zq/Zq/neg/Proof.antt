@@ -4,7 +4,7 @@ use Prim.Native.Nat.{_%_}
 use native.Mathlib.Omega.{arith}
 use borrow.Author.Needs.{needs}
 use Rattle.definitions.specs.Zq.{Q}
-use Rattle.definitions.proofs.Lack.{lack-neg}
+use Rattle.zq.proofs.Words.{lack-neg}
 use Rattle.zq.proofs.zq.Zq.neg.Statement.{statement}
 use Rattle.zq.proofs.zq.Zq.neg.Tie as tie
 

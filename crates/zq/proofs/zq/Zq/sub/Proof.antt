@@ -4,7 +4,7 @@ use Prim.Native.Nat.{_+_, _%_}
 use native.Mathlib.Omega.{arith}
 use borrow.Author.Needs.{needs}
 use Rattle.definitions.specs.Zq.{Q}
-use Rattle.definitions.proofs.Lack.{lack-sub}
+use Rattle.zq.proofs.Words.{lack-sub}
 use Rattle.zq.proofs.zq.Zq.sub.Statement.{statement}
 use Rattle.zq.proofs.zq.Zq.sub.Tie as tie
 

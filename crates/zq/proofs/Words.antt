@@ -1,12 +1,13 @@
--- What a word lacks of Q: it is at most Q, and the negative modulo Q.
+-- What a word lacks of Q is at most Q, and the negative modulo Q; a sum that has passed 32 bits is a word again, the same modulo Q.
 use mathlib.Core.Path.{_≡_, refl, sym, ap, _∙_}
 use mathlib.Core.Bool.{cond}
 use lib.Dec.{ltb}
 use Prim.Native.Nat.{ℕ, _+_, _-_, _*_, _%_, _^_, _≤_, _<_}
 use native.Mathlib.Nat.{zero-add}
 use native.Mathlib.Omega.{arith}
-use Rattle.definitions.specs.Zq.{Q, lack, passed, zneg, zsub}
+use Rattle.definitions.specs.Zq.{Q, zneg, zsub}
 use Rattle.definitions.proofs.Cases.{ltb-cases}
+use Rattle.zq.specs.Words.{lack, passed}
 
 -- it is at most Q
 pub lack-le : (a : ℕ) → lack a ≤ Q
@@ -16,7 +17,7 @@ lack-le a = ltb-cases (λ t. cond t (Q - (a - Q)) (Q - a) ≤ Q) Q a (λ l. omeg
 pub over : ℕ → ℕ
 over a = cond (ltb Q a) 2 1
 
--- so many
+-- they make so many Q
 pub lack-whole : (a : ℕ) → a < 2 ^ 32 → lack a + a ≡ Q * over a
 unfolding over
 lack-whole a h = ltb-cases (λ t. cond t (Q - (a - Q)) (Q - a) + a ≡ Q * cond t 2 1) Q a (λ l. omega arith) (λ l. omega arith)
