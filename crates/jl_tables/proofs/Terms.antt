@@ -51,7 +51,7 @@ passes a term h l less = omega arith
 stays : (a term : ℕ) → a < 4294967296 → term < 4294967296 → a ≤ (a + term) % 4294967296 → a + term < 4294967296
 stays a term h l more = omega arith
 
--- where Q lacks 1 of 2^32, Q less is one more
+-- where Q is 2^32 − 1, a sum that has passed is one more
 pub one-more : (next : ℕ) → next < 4294967296 → lackQ ≡ 1 → biased next < 4294967295 → (next + 1) % 4294967296 ≡ biased (passed (biased next + 4294967296))
 one-more next h e l =
     ltb-cases (λ t. (next + 1) % 4294967296 ≡ biased (cond t (biased next + 4294967296 - Q) (biased next + 4294967296 - Q - Q))) (biased next + 4294967296 - Q) 4294967296

@@ -40,7 +40,7 @@ impl Rq {
         Rq { coeffs: sum }
     }
 
-    // The same element with words up to Q: each word is one where Q lacks 1 of 2^32.
+    // The same element with words up to Q. Where Q is 2^32 − 1, every word is.
     pub fn settled(self) -> Rq
         ensures { λ r. ⌜ (element (r .coeffs) ≡ element (self .coeffs)) × AtMostQ (r .coeffs) ⌝ }
     {

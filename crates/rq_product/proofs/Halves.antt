@@ -73,7 +73,7 @@ pub folded-mod : (x y : List ℕ) (at : ℕ) → folded x y at % Q ≡ Σ 64 (λ
 unfolding folded
 folded-mod x y at = let p : ℕ → ℕ = λ i. getD x i 0 * getD y (at + i) 0 in joined (Σ 64 (λ i. p i / 4294967296)) (Σ 64 (λ i. p i % 4294967296)) (Σ 64 p) (halves 64 p)
 
--- such a sum of products of words is at most so much
+-- the halves of 64 products of words sum to at most that
 pub folded-small : (x y : List ℕ) (at : ℕ) → 64 ≤ length x → at + 64 ≤ length y → AllWords x → AllWords y → folded x y at ≤ growth
 unfolding folded
 folded-small x y at hx hy wx wy =

@@ -41,7 +41,7 @@ folded x y at =
     Σ 64 (λ i. getD x i 0 * getD y (at + i) 0 % 4294967296)
     + Σ 64 (λ i. getD x i 0 * getD y (at + i) 0 / 4294967296) * lackQ
 
--- what such a sum is at most: 2^39 where Q lacks 1
+-- what such a sum is at most: 2^38 and 2^38 times what Q lacks of 2^32
 abbrev pub growth : ℕ
 growth = 274877906944 + 274877906944 * lackQ
 

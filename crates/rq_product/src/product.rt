@@ -15,7 +15,7 @@ pub const MODULUS: u64 = Zq::Q as u64;
 
 pub const RADIX: u64 = 4294967296;
 
-// What Q lacks of 2^32, which is that modulo Q.
+// What Q lacks of 2^32: 2^32 is that modulo Q.
 pub const LACK: u64 = RADIX - MODULUS;
 
 // The coefficients of −a, then 64 zeros.
@@ -70,7 +70,7 @@ fn add(h: Halves, x: u64, y: u64) -> Halves
     }
 }
 
-// The sum of the lower halves, which is what the upper halves leave of the sum, and that of the upper halves, which counts what Q lacks of 2^32.
+// The sum of the lower halves, which is what the upper halves leave of the sum, and that of the upper halves, each of which counts what Q lacks of 2^32.
 fn join(h: Halves) -> u64
     requires { ⌜ h .upper ≤ 2 ^ 38 ⌝ }
     ensures { λ r. ⌜ r ≡ halvesSum (h .sum) (h .upper) ⌝ }

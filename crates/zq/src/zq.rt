@@ -28,7 +28,7 @@ fn canonical(word: u32) -> Zq
     }
 }
 
-// Q less the word, or twice Q less it where it is above Q.
+// The negative of a word, not reduced: Q less it, or twice Q less it where it is above Q.
 pub fn lack(word: u32) -> u32
     ensures { λ r. ⌜ r ≡ lack word ⌝ }
 {
@@ -39,7 +39,7 @@ pub fn lack(word: u32) -> u32
     }
 }
 
-// A sum of two words that has passed 32 bits and has this word lowest, less Q: its carry counts what Q lacks of 2^32.
+// The word that stands for 2^32 and this one, a sum of two words that has passed 32 bits: 2^32 is what Q lacks of it.
 pub fn passed(word: u32) -> u32
     requires { ⌜ word < 4294967295 ⌝ }
     ensures { λ r. ⌜ r ≡ passed (word + 4294967296) ⌝ }

@@ -1,4 +1,4 @@
--- `shift` meets its contract: where 2^32 is 1 modulo Q, the sum with its carry is below 2^32 once that is taken off.
+-- `shift` meets its contract: where Q is 2^32 − 1, the sum with its carry is below 2^32 once that is taken off.
 use mathlib.Core.Path.{_≡_, _∙_, ap}
 use Prim.Native.Nat.{ℕ, _+_, _*_, _%_, _/_, _<_}
 use native.Mathlib.Omega.{arith}

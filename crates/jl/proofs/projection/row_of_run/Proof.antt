@@ -16,7 +16,7 @@ Inv-loop randomness pi-at witness s-at n first end j width sum₀ i₀ sum i =
     (first ≤ i)
     × (i - first ≤ end - first)
     × (sum % Q ≡ Σ (i - first) (λ k. vector-row randomness pi-at witness s-at n (first + k) j) % Q)
-    × (sum ≤ 281474976645120 * (i - first))
+    × (sum ≤ 562949953290240 * (i - first))
 
 abbrev μ-loop : tie.MeasureT-loop
 μ-loop randomness pi-at witness s-at n first end j width sum₀ i₀ sum i = end - i

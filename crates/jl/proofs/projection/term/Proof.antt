@@ -1,10 +1,25 @@
 -- `term` meets its contract.
-use mathlib.Core.Path.{_∙_}
+use mathlib.Core.Path.{_≡_, ap, _∙_}
+use mathlib.Core.Bool.{cond}
+use Prim.Native.Nat.{ℕ, _-_, _≤_}
 use native.Mathlib.Omega.{arith}
 use borrow.Author.Needs.{needs}
 use borrow.Author.Tests.{lt-ltb, le-ltb}
+use lib.Dec.{ltb}
+use Rattle.definitions.specs.Zq.{Q, lackQ}
+use Rattle.definitions.proofs.Cases.{ltb-cases}
+use Rattle.jl.specs.Rows.{term, flipped}
 use Rattle.jl.proofs.projection.term.Statement.{statement}
 use Rattle.jl.proofs.projection.term.Tie as tie
+
+-- where Q is 2^32 − 1, a word with each bit changed is what the word lacks
+same : (code x : ℕ) → lackQ ≡ 1 → x ≤ 4294967295 → flipped code x ≡ term code x
+same code x e h =
+    ap (λ n. cond (ltb code 1073741824) n (cond (ltb code 2147483648) x 0))
+    (ltb-cases (λ t. 4294967295 - x ≡ cond t (Q - (x - Q)) (Q - x)) Q x (λ l. omega arith) (λ l. omega arith))
+
+returns : tie.Need-returns
+returns c = let s = c .before .before .args in c .flipped .ensures ∙ same (s .code) (s .word) (c .before .if1 .taken) (omega arith)
 
 returns-2 : tie.Need-returns-2
 returns-2 c = c .lack .ensures ∙ simp (lt-ltb (c .before .before .before .args .code) 1073741824 (omega arith))
@@ -16,4 +31,4 @@ returns-4 : tie.Need-returns-4
 returns-4 c = simp (le-ltb (c .before .before .before .args .code) 1073741824 (omega arith), le-ltb (c .before .before .before .args .code) 2147483648 (omega arith))
 
 pub term-spec : {M : Type 1} → statement M
-term-spec = tie.close (tie.spec (λ c κs. omega arith) (λ c. search needs) (λ c κs. search needs) returns-2 returns-3 returns-4)
+term-spec = tie.close (tie.spec (λ c κs. search needs) returns (λ c κs. search needs) returns-2 returns-3 returns-4)
