@@ -9,11 +9,10 @@ use borrow.Author.Tests.{lt-ltb, le-ltb}
 use Rattle.lists.specs.Sum.{Σ}
 use Rattle.definitions.specs.Zq.{Q, lackQ}
 use Rattle.zq.specs.Words.{passed}
-use Rattle.zq.proofs.Words.{passed-word}
-use Rattle.definitions.proofs.Cases.{ltb-cases}
+use Rattle.zq.proofs.Words.{passed-once}
 use Rattle.jl.proofs.Places.{add-mod}
 use Rattle.jl_omega.specs.Omega.{carried}
-use Rattle.jl_omega.proofs.Columns.{carried-mod}
+use Rattle.jl_omega.proofs.Columns.{carried-word, carried-mod}
 use Rattle.jl_pairs.specs.Pairs.{biased}
 use Rattle.jl_tables.specs.Tables.{biased-sum, terms-added}
 
@@ -32,10 +31,6 @@ unfolding terms-added
 terms-ext f g x zero h = refl
 terms-ext f g x (suc n) h = ap₂ biased-sum (terms-ext f g x n (λ t l. h t (omega arith))) (h n (omega arith))
 
--- a carried sum of words is a word
-carried-word : (a b : ℕ) → a < 4294967296 → b < 4294967296 → carried a b < 4294967296
-carried-word a b ha hb = ltb-cases (λ t. cond t (a + b) (passed (a + b)) < 4294967296) (a + b) 4294967296 (λ l. l) (λ l. passed-word (a + b) l (omega arith))
-
 -- 2^31 added twice
 biased-twice : (x : ℕ) → x < 4294967296 → biased (biased x) ≡ x
 biased-twice x h = omega arith
@@ -51,15 +46,9 @@ passes a term h l less = omega arith
 stays : (a term : ℕ) → a < 4294967296 → term < 4294967296 → a ≤ (a + term) % 4294967296 → a + term < 4294967296
 stays a term h l more = omega arith
 
--- where Q is 2^32 − 1, a sum that has passed is one more
-pub one-more : (next : ℕ) → next < 4294967296 → lackQ ≡ 1 → biased next < 4294967295 → (next + 1) % 4294967296 ≡ biased (passed (biased next + 4294967296))
-one-more next h e l =
-    ltb-cases (λ t. (next + 1) % 4294967296 ≡ biased (cond t (biased next + 4294967296 - Q) (biased next + 4294967296 - Q - Q))) (biased next + 4294967296 - Q) 4294967296
-    (λ m. omega arith)
-    (λ m. omega arith)
-
-over-again : (y : ℕ) → 4294967296 ≤ y → y < 8589934592 → y % 4294967296 + 4294967296 ≡ y
-over-again y h l = omega arith
+-- a sum that has passed, and 2^31 added to it less Q
+once-less : (y : ℕ) → 4294967296 ≤ y → y - Q < 4294967296 → y < 8589934592 → (biased (y % 4294967296) + lackQ) % 4294967296 ≡ biased (y - Q)
+once-less y h l m = omega arith
 
 mod-small : (y : ℕ) → y < 4294967296 → y % 4294967296 ≡ y
 mod-small y h = omega arith
@@ -72,11 +61,12 @@ module _ (x term next : ℕ) (small : x < 4294967296) (word : term < 4294967296)
   again : next ≡ biased ((biased x + term) % 4294967296)
   again = sym (biased-twice next (omega arith)) ∙ ap biased kept
 
-  pub sum-passed : biased next < biased x → biased (passed (biased next + 4294967296)) ≡ biased-sum x term
-  sum-passed less =
+  pub sum-passed : term ≤ Q → biased next < biased x → (next + lackQ) % 4294967296 ≡ biased-sum x term
+  sum-passed few less =
       let past : 4294967296 ≤ biased x + term = passes (biased x) term (omega arith) word (rw kept at less) in
-      ap (λ n. biased (passed (n + 4294967296))) kept
-      ∙ ap (λ y. biased (passed y)) (over-again (biased x + term) past (omega arith))
+      ap (λ n. (n + lackQ) % 4294967296) again
+      ∙ once-less (biased x + term) past (omega arith) (omega arith)
+      ∙ ap biased (sym (passed-once (biased x + term) (omega arith)))
       ∙ sym (ap (λ t. biased (cond t (biased x + term) (passed (biased x + term)))) (le-ltb (biased x + term) 4294967296 past))
 
   pub sum-stayed : biased x ≤ biased next → next ≡ biased-sum x term

@@ -5,9 +5,10 @@ use lib.Dec.{ltb}
 use Prim.Native.Nat.{ℕ, _+_, _-_, _*_, _%_, _^_, _≤_, _<_}
 use native.Mathlib.Nat.{zero-add}
 use native.Mathlib.Omega.{arith}
+use borrow.Author.Tests.{lt-ltb}
 use Rattle.definitions.specs.Zq.{Q, zneg, zsub}
 use Rattle.definitions.proofs.Cases.{ltb-cases}
-use Rattle.zq.specs.Words.{lack, passed}
+use Rattle.zq.specs.Words.{lack, lowered, passed}
 
 -- it is at most Q
 pub lack-le : (a : ℕ) → lack a ≤ Q
@@ -37,6 +38,13 @@ lack-sub x a h = ltb-cases (λ t. (x + cond t (Q - (a - Q)) (Q - a)) % Q ≡ zsu
 pub lack-neg : (a : ℕ) → a < 2 ^ 32 → lack a % Q ≡ zneg a
 lack-neg a h = ap (λ x. x % Q) (sym (zero-add (lack a))) ∙ lack-sub 0 a h ∙ ap (λ x. x % Q) (zero-add (Q - a % Q))
 
+-- a word that is lowered is at most Q, and the same modulo Q
+pub lowered-le : (a : ℕ) → a < 2 ^ 32 → lowered a ≤ Q
+lowered-le a h = ltb-cases (λ t. cond t (a - Q) a ≤ Q) Q a (λ l. omega arith) (λ l. l)
+
+pub lowered-mod : (a : ℕ) → lowered a % Q ≡ a % Q
+lowered-mod a = ltb-cases (λ t. cond t (a - Q) a % Q ≡ a % Q) Q a (λ l. omega arith) (λ l. refl)
+
 -- a sum that has passed 32 bits is the same modulo Q after Q is taken
 pub passed-mod : (y : ℕ) → 4294967296 ≤ y → passed y % Q ≡ y % Q
 passed-mod y h = ltb-cases (λ t. cond t (y - Q) (y - Q - Q) % Q ≡ y % Q) (y - Q) 4294967296 (λ l. omega arith) (λ l. omega arith)
@@ -44,3 +52,7 @@ passed-mod y h = ltb-cases (λ t. cond t (y - Q) (y - Q - Q) % Q ≡ y % Q) (y -
 -- and a word
 pub passed-word : (y : ℕ) → 4294967296 ≤ y → y < 8589934592 → passed y < 4294967296
 passed-word y h l = ltb-cases (λ t. cond t (y - Q) (y - Q - Q) < 4294967296) (y - Q) 4294967296 (λ m. m) (λ m. omega arith)
+
+-- where what is left is a word, Q is taken once
+pub passed-once : (y : ℕ) → y - Q < 4294967296 → passed y ≡ y - Q
+passed-once y h = ap (λ t. cond t (y - Q) (y - Q - Q)) (lt-ltb (y - Q) 4294967296 h)

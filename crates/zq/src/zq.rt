@@ -6,7 +6,7 @@ ghost use mathlib.Core.Bool.{cond};
 ghost use Prim.Native.Nat.{_+_, _-_, _*_, _%_, _<_};
 ghost use lib.Dec.{eqb};
 ghost use Rattle.definitions.specs.Zq.{Q, Canonical, zadd, zsub, zneg, zmul, isLargerThanHalf, centre, size};
-ghost use Rattle.zq.specs.Words.{lack, passed};
+ghost use Rattle.zq.specs.Words.{lack, lowered, passed};
 
 // A word; canonical below Q. No operation asks for a canonical word, and each gives one.
 pub struct Zq(pub u32);
@@ -37,6 +37,13 @@ pub fn lack(word: u32) -> u32
     } else {
         Zq::Q - (word - Zq::Q)
     }
+}
+
+// A word less Q where it is above Q.
+pub fn lowered(word: u32) -> u32
+    ensures { λ r. ⌜ r ≡ lowered word ⌝ }
+{
+    if word <= Zq::Q { word } else { word - Zq::Q }
 }
 
 // The word that stands for 2^32 and this one, a sum of two words that has passed 32 bits: 2^32 is what Q lacks of it.

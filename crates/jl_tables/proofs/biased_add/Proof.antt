@@ -9,8 +9,9 @@ returns : tie.Need-returns
 returns c =
     let tested = c .before .before in
     let s = tested .before .before .before .args in
-    c .biased-passed .ensures
+    c .wrapping-add-u322 .ensures
     ∙ sum-passed (s .sum) (s .term) (tested .before .before .wrapping-add-u32 .result) (search needs) (search needs) (tested .before .before .wrapping-add-u32 .ensures)
+    (tested .before .before .before .pre)
     (rw (tested .before .biased .ensures, tested .biased2 .ensures) at (c .before .if1 .taken))
 
 returns-2 : tie.Need-returns-2
