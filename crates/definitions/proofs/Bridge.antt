@@ -17,7 +17,7 @@ use Rattle.definitions.specs.Zq.{Q, Canonical, zadd, zsub, zneg, zmul}
 use Rattle.definitions.specs.Rq.{coeff, Element, rzero, radd, rsub, low, high, rmul, rscale, rconj}
 use Rattle.definitions.specs.Ring.{residue, canonical-mod, ZqOps, IsElement, words, table-element, element, RqOps, scale, conj}
 use Rattle.definitions.proofs.ZqRing.{zq-ring, residue-Σ, residue-zsub, residue-reduced}
-use Rattle.definitions.proofs.RqRing.{words-path, coefficient, element-path, coefficient-element, coefficient-table, coefficient-radd, coefficient-rsub, coefficient-rzero, coefficient-neg, coefficient-rscale, coefficient-rmul, residue-low, residue-high, rq-ring}
+use Rattle.definitions.proofs.RqRing.{words-path, coefficient, element-path, coefficient-element, coefficient-table, coefficient-radd, coefficient-rsub, coefficient-rzero, coefficient-neg, coefficient-rscale, coefficient-rmul, residue-low, residue-high}
 
 -- zero is an element
 pub rzero-element : IsElement rzero
@@ -106,14 +106,15 @@ pub words-conj : (a : Element) → words (conj a) ≡ rconj (words a)
 unfolding conj
 words-conj a = words-element (rconj (words a)) (rconj-element (words a) (coeff-canonical a 0))
 
+-- lists whose coefficients agree modulo Q have one element
+pub element-agree : (a b : List ℕ) → ((k : ℕ) → k < 64 → coeff a k % Q ≡ coeff b k % Q) → element a ≡ element b
+unfolding element
+element-agree a b h = words-path (element a) (element b) (table-ext 64 (λ k. coeff a k % Q) (λ k. coeff b k % Q) h)
+
 -- the element of a sum of lists
 pub element-radd : (a b : List ℕ) → element (radd a b) ≡ RqOps .add (element a) (element b)
 element-radd a b = element-path (element (radd a b)) (RqOps .add (element a) (element b)) (λ k h.
     coefficient-radd a b k h ∙ ap₂ (ZqOps .add) (sym (coefficient-element a k h)) (sym (coefficient-element b k h)) ∙ sym (coefficient-radd (words (element a)) (words (element b)) k h))
-
--- zero added to a list reduces its words
-pub element-reduced : (a : List ℕ) → element (radd a rzero) ≡ element a
-element-reduced a = element-radd a rzero ∙ rq-ring .add-nil (element a)
 
 -- the element of a difference of lists
 pub element-rsub : (a b : List ℕ) → element (rsub a b) ≡ RqOps .add (element a) (RqOps .neg (element b))

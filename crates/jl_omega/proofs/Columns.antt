@@ -16,11 +16,11 @@ use Rattle.lists.proofs.Fill.{getD-splice-table}
 use Rattle.algebra.specs.Ops.{sum}
 use Rattle.algebra.proofs.Sum.{sum-ext}
 use Rattle.definitions.specs.Zq.{Q}
-use Rattle.zq.specs.Words.{passed}
+use Rattle.zq.specs.Words.{lowered}
 use Rattle.definitions.specs.Projection.{entry}
 use Rattle.definitions.specs.Rq.{Element, coeff, rzero, radd, rconj}
 use Rattle.definitions.specs.Ring.{ZqOps, residue, RqOps, words, element, scale, conj}
-use Rattle.zq.proofs.Words.{passed-mod, passed-word}
+use Rattle.zq.proofs.Words.{lowered-le, lowered-add}
 use Rattle.definitions.proofs.Cases.{ltb-cases}
 use Rattle.definitions.proofs.ZqRing.{residue-mod}
 use Rattle.definitions.proofs.RqRing.{coefficient, element-path, coefficient-table, coefficient-rscale, residue-products}
@@ -36,11 +36,15 @@ use Rattle.jl.proofs.Terms.{term-mod}
 
 -- a carried sum is the sum modulo Q
 pub carried-mod : (a b : ℕ) → carried a b % Q ≡ (a + b) % Q
-carried-mod a b = ltb-cases (λ t. cond t (a + b) (passed (a + b)) % Q ≡ (a + b) % Q) (a + b) 4294967296 (λ l. refl) (λ l. passed-mod (a + b) l)
+carried-mod a b =
+    ltb-cases (λ t. cond t (a + lowered b) (a + lowered b - Q) % Q ≡ (a + lowered b) % Q) (a + lowered b) 4294967296 (λ l. refl) (λ l. taken (a + lowered b) l) ∙ lowered-add a b
+  where
+    taken : (x : ℕ) → 4294967296 ≤ x → (x - Q) % Q ≡ x % Q
+    taken x h = omega arith
 
 -- a carried sum of words is a word
 pub carried-word : (a b : ℕ) → a < 4294967296 → b < 4294967296 → carried a b < 4294967296
-carried-word a b ha hb = ltb-cases (λ t. cond t (a + b) (passed (a + b)) < 4294967296) (a + b) 4294967296 (λ l. l) (λ l. passed-word (a + b) l (omega arith))
+carried-word a b ha hb = ltb-cases (λ t. cond t (a + lowered b) (a + lowered b - Q) < 4294967296) (a + lowered b) 4294967296 (λ l. l) (λ l. omega (arith, lowered-le b (omega arith)))
 
 -- the sum of a column modulo Q
 added-mod : (R : List ℕ) (pi om width c : ℕ) → ((i : ℕ) → getD R i 0 ≤ 4294967295) → (j : ℕ)

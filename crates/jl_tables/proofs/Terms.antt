@@ -1,15 +1,15 @@
 -- Terms added to a sum that is kept with 2^31 added.
 use mathlib.Core.Path.{_≡_, refl, sym, _∙_, ap, ap₂}
-use mathlib.Core.Bool.{cond}
+use mathlib.Core.Bool.{Bool, true, false, cond}
 use Prim.Native.Nat.{ℕ, zero, suc, _+_, _-_, _%_, _≤_, _<_, _^_}
 use native.Mathlib.Nat.{add-zero, add-assoc}
 use native.Mathlib.Numerals.{add-one}
 use native.Mathlib.Omega.{arith}
 use borrow.Author.Tests.{lt-ltb, le-ltb}
+use lib.Dec.{ltb}
 use Rattle.lists.specs.Sum.{Σ}
 use Rattle.definitions.specs.Zq.{Q, lackQ}
-use Rattle.zq.specs.Words.{passed}
-use Rattle.zq.proofs.Words.{passed-once}
+use Rattle.zq.proofs.Words.{lowered-same}
 use Rattle.jl.proofs.Places.{add-mod}
 use Rattle.jl_omega.specs.Omega.{carried}
 use Rattle.jl_omega.proofs.Columns.{carried-word, carried-mod}
@@ -53,7 +53,10 @@ once-less y h l m = omega arith
 mod-small : (y : ℕ) → y < 4294967296 → y % 4294967296 ≡ y
 mod-small y h = omega arith
 
-module _ (x term next : ℕ) (small : x < 4294967296) (word : term < 4294967296) (e : next ≡ (x + term) % 4294967296) where
+module _ (x term next : ℕ) (small : x < 4294967296) (few : term ≤ Q) (e : next ≡ (x + term) % 4294967296) where
+  word : term < 4294967296
+  word = omega arith
+
   -- what is kept, without the 2^31
   kept : biased next ≡ (biased x + term) % 4294967296
   kept = ap biased e ∙ biased-plus x term small word
@@ -61,20 +64,23 @@ module _ (x term next : ℕ) (small : x < 4294967296) (word : term < 4294967296)
   again : next ≡ biased ((biased x + term) % 4294967296)
   again = sym (biased-twice next (omega arith)) ∙ ap biased kept
 
-  pub sum-passed : term ≤ Q → biased next < biased x → (next + lackQ) % 4294967296 ≡ biased-sum x term
-  sum-passed few less =
+  -- the term is lowered already
+  carried-as : (t : Bool) → ltb (biased x + term) 4294967296 ≡ t → biased-sum x term ≡ biased (cond t (biased x + term) (biased x + term - Q))
+  carried-as t h =
+      ap (λ u. biased (cond (ltb (biased x + u) 4294967296) (biased x + u) (biased x + u - Q))) (lowered-same term few)
+      ∙ ap (λ t. biased (cond t (biased x + term) (biased x + term - Q))) h
+
+  pub sum-passed : biased next < biased x → (next + lackQ) % 4294967296 ≡ biased-sum x term
+  sum-passed less =
       let past : 4294967296 ≤ biased x + term = passes (biased x) term (omega arith) word (rw kept at less) in
       ap (λ n. (n + lackQ) % 4294967296) again
       ∙ once-less (biased x + term) past (omega arith) (omega arith)
-      ∙ ap biased (sym (passed-once (biased x + term) (omega arith)))
-      ∙ sym (ap (λ t. biased (cond t (biased x + term) (passed (biased x + term)))) (le-ltb (biased x + term) 4294967296 past))
+      ∙ sym (carried-as false (le-ltb (biased x + term) 4294967296 past))
 
   pub sum-stayed : biased x ≤ biased next → next ≡ biased-sum x term
   sum-stayed more =
       let within : biased x + term < 4294967296 = stays (biased x) term (omega arith) word (rw kept at more) in
-      again
-      ∙ ap biased (mod-small (biased x + term) within)
-      ∙ sym (ap (λ t. biased (cond t (biased x + term) (passed (biased x + term)))) (lt-ltb (biased x + term) 4294967296 within))
+      again ∙ ap biased (mod-small (biased x + term) within) ∙ sym (carried-as true (lt-ltb (biased x + term) 4294967296 within))
 
 -- modulo Q the terms are added
 pub terms-mod : (f : ℕ → ℕ) (x n : ℕ) → ((t : ℕ) → f t < 2 ^ 32) → biased (terms-added f x n) % Q ≡ (biased x + Σ n f) % Q

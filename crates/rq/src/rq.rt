@@ -5,6 +5,7 @@ use definitions::modulus;
 use rq_product::product;
 use zq::norm;
 use zq::zq::Zq;
+use zq::zq::lowered;
 ghost use mathlib.Core.Path.{_≡_};
 ghost use Rattle.definitions.specs.Answer.{value128};
 ghost use Rattle.definitions.specs.Norm.{norm};
@@ -47,7 +48,12 @@ impl Rq {
         if modulus::LACK == 1 {
             return self;
         }
-        self.add(Rq::zero())
+        let a = self.coeffs;
+        let mut words = [0u32; Rq::DEGREE];
+        for k in 0..Rq::DEGREE {
+            words[k] = lowered(a[k]);
+        }
+        Rq { coeffs: words }
     }
 
     pub fn sub(self, rhs: Rq) -> Rq

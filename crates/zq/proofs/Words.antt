@@ -1,14 +1,14 @@
--- What a word lacks of Q is at most Q, and the negative modulo Q; a sum that has passed 32 bits is a word again, the same modulo Q.
+-- What a word lacks of Q is at most Q, and the negative modulo Q; a lowered word is at most Q, and the same modulo Q.
 use mathlib.Core.Path.{_≡_, refl, sym, ap, _∙_}
 use mathlib.Core.Bool.{cond}
 use lib.Dec.{ltb}
 use Prim.Native.Nat.{ℕ, _+_, _-_, _*_, _%_, _^_, _≤_, _<_}
 use native.Mathlib.Nat.{zero-add}
 use native.Mathlib.Omega.{arith}
-use borrow.Author.Tests.{lt-ltb}
+use borrow.Author.Tests.{le-ltb}
 use Rattle.definitions.specs.Zq.{Q, zneg, zsub}
 use Rattle.definitions.proofs.Cases.{ltb-cases}
-use Rattle.zq.specs.Words.{lack, lowered, passed}
+use Rattle.zq.specs.Words.{lack, lowered}
 
 -- it is at most Q
 pub lack-le : (a : ℕ) → lack a ≤ Q
@@ -45,14 +45,10 @@ lowered-le a h = ltb-cases (λ t. cond t (a - Q) a ≤ Q) Q a (λ l. omega arith
 pub lowered-mod : (a : ℕ) → lowered a % Q ≡ a % Q
 lowered-mod a = ltb-cases (λ t. cond t (a - Q) a % Q ≡ a % Q) Q a (λ l. omega arith) (λ l. refl)
 
--- a sum that has passed 32 bits is the same modulo Q after Q is taken
-pub passed-mod : (y : ℕ) → 4294967296 ≤ y → passed y % Q ≡ y % Q
-passed-mod y h = ltb-cases (λ t. cond t (y - Q) (y - Q - Q) % Q ≡ y % Q) (y - Q) 4294967296 (λ l. omega arith) (λ l. omega arith)
+-- and added to a number
+pub lowered-add : (x a : ℕ) → (x + lowered a) % Q ≡ (x + a) % Q
+lowered-add x a = ltb-cases (λ t. (x + cond t (a - Q) a) % Q ≡ (x + a) % Q) Q a (λ l. omega arith) (λ l. refl)
 
--- and a word
-pub passed-word : (y : ℕ) → 4294967296 ≤ y → y < 8589934592 → passed y < 4294967296
-passed-word y h l = ltb-cases (λ t. cond t (y - Q) (y - Q - Q) < 4294967296) (y - Q) 4294967296 (λ m. m) (λ m. omega arith)
-
--- where what is left is a word, Q is taken once
-pub passed-once : (y : ℕ) → y - Q < 4294967296 → passed y ≡ y - Q
-passed-once y h = ap (λ t. cond t (y - Q) (y - Q - Q)) (lt-ltb (y - Q) 4294967296 h)
+-- a number up to Q is as it was
+pub lowered-same : (a : ℕ) → a ≤ Q → lowered a ≡ a
+lowered-same a h = ap (λ t. cond t (a - Q) a) (le-ltb Q a h)

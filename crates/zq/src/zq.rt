@@ -6,7 +6,7 @@ ghost use mathlib.Core.Bool.{cond};
 ghost use Prim.Native.Nat.{_+_, _-_, _*_, _%_, _<_};
 ghost use lib.Dec.{eqb};
 ghost use Rattle.definitions.specs.Zq.{Q, Canonical, zadd, zsub, zneg, zmul, isLargerThanHalf, centre, size};
-ghost use Rattle.zq.specs.Words.{lack, lowered, passed};
+ghost use Rattle.zq.specs.Words.{lack, lowered};
 
 // A word; canonical below Q. No operation asks for a canonical word, and each gives one.
 pub struct Zq(pub u32);
@@ -46,18 +46,6 @@ pub fn lowered(word: u32) -> u32
     if word <= Zq::Q { word } else { word - Zq::Q }
 }
 
-// The word that stands for 2^32 and this one, a sum of two words that has passed 32 bits: 2^32 is what Q lacks of it.
-pub fn passed(word: u32) -> u32
-    requires { ⌜ word < 4294967295 ⌝ }
-    ensures { λ r. ⌜ r ≡ passed (word + 4294967296) ⌝ }
-{
-    if LACK == 1 {
-        return word + 1;
-    }
-    let next = std::num::wrapping_add_u32(word, LACK);
-    if next < LACK { next + LACK } else { next }
-}
-
 impl Zq {
     pub const Q: u32 = modulus::Q;
 
@@ -72,9 +60,11 @@ impl Zq {
     pub fn add(self, rhs: Zq) -> Zq
         ensures { λ r. ⌜ r .0 ≡ zadd (self .0) (rhs .0) ⌝ }
     {
-        let sum = std::num::wrapping_add_u32(self.0, rhs.0);
-        if sum < rhs.0 {
-            canonical(passed(sum))
+        let term = lowered(rhs.0);
+        let sum = std::num::wrapping_add_u32(self.0, term);
+        // a carry counts what Q lacks of 2^32
+        if sum < term {
+            canonical(sum + LACK)
         } else {
             canonical(sum)
         }
