@@ -4,7 +4,7 @@ use mathlib.Core.Bool.{Bool, true, false, cond, xor}
 use Prim.Native.Nat.{ℕ, _+_, _-_, _*_, _/_, _%_, _≤_, _<_}
 use native.Mathlib.Nat.{div-add-mod', mul-le-mul}
 use native.Mathlib.Omega.{arith}
-use Rattle.definitions.specs.Zq.{Q, topQ, Canonical, isLargerThanHalf, size}
+use Rattle.definitions.specs.Zq.{topQ, Canonical, isLargerThanHalf, size}
 use Rattle.definitions.specs.Norm.{square}
 use Rattle.definitions.specs.Digits.{remBelow, nextSize, sizeAfter, signed, digit, leftover, rest}
 use Rattle.definitions.proofs.Centre.{size-le, size-signed}

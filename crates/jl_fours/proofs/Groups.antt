@@ -15,7 +15,6 @@ use Rattle.lists.proofs.Table.{getD-table}
 use Rattle.definitions.specs.Zq.{Q, zneg}
 use Rattle.definitions.specs.Projection.{entry}
 use Rattle.definitions.proofs.Cases.{ltb-cases}
-use Rattle.zq.specs.Words.{lowered}
 use Rattle.zq.proofs.Words.{lowered-le, lowered-mod}
 use Rattle.jl.specs.Rows.{term}
 use Rattle.jl_omega.specs.Omega.{carried, omega-element}

@@ -1,12 +1,12 @@
 -- `carry_add` meets its contract.
-use mathlib.Core.Path.{_≡_, sym, subst, _∙_, ap}
+use mathlib.Core.Path.{_≡_, sym, _∙_, ap}
 use mathlib.Core.Bool.{cond}
-use Prim.Native.Nat.{ℕ, _+_, _-_, _≤_, _<_, _^_}
+use Prim.Native.Nat.{ℕ, _+_, _-_, _≤_, _<_}
 use native.Mathlib.Omega.{arith}
 use borrow.Author.Needs.{needs}
 use borrow.Author.Tests.{lt-ltb, le-ltb}
 use lib.Dec.{ltb}
-use Rattle.definitions.specs.Zq.{Q, lackQ}
+use Rattle.definitions.specs.Zq.{Q}
 use Rattle.zq.specs.Words.{lowered}
 use Rattle.zq.proofs.Words.{lowered-le}
 use Rattle.jl_omega.specs.Omega.{carried}
@@ -28,7 +28,6 @@ returns c =
     let s = w .before .before .args in
     let t = w .before .lowered .result in
     let l = term-le w in
-    let past : 4294967296 ≤ s .a + t = omega arith in
     as-carried (s .a) (s .b) t _ (w .before .lowered .ensures) (λ h. omega arith) (λ h. omega arith) (no (omega arith))
 
 returns-2 : tie.Need-returns-2
