@@ -57,11 +57,14 @@ fn sign(state: u32) -> u32
     state / 2147483648
 }
 
+// −1 modulo Q.
+const MINUS_ONE: u64 = modulus::Q_U64 - 1;
+
 // "Witness words are the draw modulo 3, less 1."
 fn ternary(state: u32) -> u32
     ensures { λ r. ⌜ r ≡ S.ternary state ⌝ }
 {
-    (((state % 3) as u64 + (modulus::Q_U64 - 1)) % modulus::Q_U64) as u32
+    (((state % 3) as u64 + MINUS_ONE) % modulus::Q_U64) as u32
 }
 
 // The word that a state gives.
