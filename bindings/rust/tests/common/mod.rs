@@ -4,6 +4,11 @@ use labrador::section_one::{BOUNDS, PARAMETERS};
 use labrador::sections::placed;
 use labrador::{load, prove, Parameters, Slice, Q};
 
+/// What is said of the word Q. Where it is below 2^32 - 1 it could be a number modulo that.
+#[allow(dead_code)]
+pub const NOT_BELOW: &str =
+    if Q < u32::MAX { "not below Q; a number of the modulus 4294967295?" } else { "not below Q" };
+
 /// What the verifier is handed.
 #[derive(Clone)]
 pub struct Case {
