@@ -141,8 +141,8 @@ fn beta_above_q_over_125() {
         set_bound(&mut job, "beta_sq", beta_sq);
         findings(&job)
     };
-    // (q/125)² is 1180591620167655.5, or over the prime 1180591566290708.9
-    let most = over(1180591620167655, 1180591566290708);
+    // (q/125)² is 1180591620167655.5, or over the prime 1180591566291586.4
+    let most = over(1180591620167655, 1180591566291586);
     let line = format!(
         "beta is above q/125, the paper's condition on check 21: beta_sq is then at most {most} (from word 13)"
     );
