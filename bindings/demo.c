@@ -8,7 +8,7 @@
 
 #include "labrador.h"
 
-#define Q 4294967295u
+#define Q LABRADOR_Q
 
 /* n elements a vector, r vectors, K = l constraints of each kind, kappa rows of A, L aggregated equations */
 enum { N = 4, R = 3, T = R * (R + 1) / 2, K = 2, KAPPA = 5, L = 4, KAPPA_1 = 4, KAPPA_2 = 4, PARTS = 4, MOST = 1 << 20 };
@@ -25,7 +25,7 @@ static void generate(void) {
     labrador_load_need need = labrador_load_needs(sizes);
     labrador_answer answer = labrador_load(sizes, seed, job, MOST, witness, MOST, randomness, MOST);
     if (need.number != 0 || answer.number != 0) exit(EXIT_FAILURE);
-    printf("a load of n %d, r %d, kappa %d, L %d, K = l = %d and seed %" PRIu32 "\n", N, R, KAPPA, L, K, seed);
+    printf("a load of n %d, r %d, kappa %d, L %d, K = l = %d and seed %" PRIu32 ", modulo %" PRIu32 "\n", N, R, KAPPA, L, K, seed, Q);
     job_length = need.job;
     witness_length = need.witness;
     randomness_length = need.randomness;
@@ -127,6 +127,10 @@ static void prove_in_rounds(void) {
 }
 
 int main(void) {
+    if (labrador_zq_neg(1).value != Q - 1) {
+        printf("the header and the archive are of two moduli\n");
+        return EXIT_FAILURE;
+    }
     generate();
     scratch_length = labrador_scratch_need(job, job_length).words;
     transcript_length = labrador_output_need(job, job_length).words;
