@@ -240,7 +240,7 @@ labrador_answer labrador_shed_rows(const uint32_t *job, size_t job_length, uint3
 labrador_answer labrador_add_projections(const uint32_t *p, size_t p_length, const uint32_t *other, size_t other_length, uint32_t *output,
                                          size_t output_length);
 
-/* The verdict on a transcript. One acceptance leaves a false statement a chance of at least 1 in 81 (L 4) or 1 in 86 (larger L), and is worth nothing where
+/* The verdict on a transcript. With Q = 4294967295 one acceptance leaves a false statement a chance of at least 1 in 81 (L 4) or 1 in 86 (larger L); with either Q it is worth nothing where
    the sender could know or choose the randomness, or hashed it from the one transcript: ask for eight or more, and see docs/SOUNDNESS.md. */
 labrador_verdict labrador_verify(const uint32_t *job, size_t job_length, const uint32_t *randomness, size_t randomness_length,
                                  const uint32_t *transcript, size_t transcript_length, uint32_t *scratch,
@@ -263,8 +263,8 @@ typedef struct {
    call is refused by 35 for a count outside 1 to 8 (place 0), before any other test; then by the job's refusals; then by 1 for scratch shorter than
    count * labrador_scratch_need words (place: that length). Where eight verdicts are given the scratch is zero to there, also where every transcript is
    refused; a refusal of the whole call touches nothing.
-   All accepted, each with randomness that the desk drew for it and none tried again, N of them leave a false statement the N-th power of one's chance: eight
-   about 1 in 2^50, eleven (L 4) or ten less than 1 in 2^64. */
+   All accepted, each with randomness that the desk drew for it and none tried again, N of them leave a false statement the N-th power of one's chance: with
+   Q = 4294967295 eight about 1 in 2^50, eleven (L 4) or ten less than 1 in 2^64. */
 labrador_verdicts labrador_verify_many(const uint32_t *job, size_t job_length, uint32_t count, const uint32_t *randomness, size_t randomness_length,
                                        const uint32_t *transcripts, size_t transcripts_length, uint32_t *scratch, size_t scratch_length);
 
