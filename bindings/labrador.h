@@ -137,6 +137,9 @@ labrador_element_answer labrador_challenge(labrador_challenge_words words);
    15, 16 digits of t, g, h above their bound.
    After the work scratch is zero to the length needed, and so is the output after 13 to 16. Words beyond never change. */
 
+/* A pledged total is a constant-term constraint with a' = 0 (K may be 0): where line 64 * m + c of vector i has the factor f, element m of phi'_i has
+   coefficient 0 equal to f for c = 0, else coefficient 64 - c equal to -f modulo Q; b0 is the total modulo Q (docs/SPECIFICATION.md, demo.c). */
+
 /* number 0 and place 0 where something was made */
 typedef struct {
     uint32_t number;

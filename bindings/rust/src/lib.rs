@@ -42,7 +42,9 @@ pub mod review;
 mod rounds;
 pub mod section_one;
 pub mod sections;
+mod sha256;
 mod sheds;
+pub mod statement;
 mod verdict;
 mod verifier;
 pub mod worth;
@@ -60,6 +62,7 @@ pub use refusal::Refusal;
 pub use rounds::{round, round_into, Round};
 pub use section_one::Parameters;
 pub use sections::Slice;
+pub use sha256::sha256;
 pub use sheds::{
     add_projections, add_projections_into, shed_projection, shed_projection_into, shed_rows, shed_rows_into, Run,
     RunParts, PROJECTION_NEED,

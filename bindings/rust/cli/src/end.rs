@@ -3,6 +3,8 @@
 use std::io::{self, Write};
 use std::process::ExitCode;
 
+use labrador::Refusal;
+
 use crate::json::Json;
 
 /// The exit statuses.
@@ -99,6 +101,12 @@ pub type Outcome = Result<End, End>;
 
 pub fn unfit(line: impl Into<String>) -> End {
     End::new(Status::Unfit, line)
+}
+
+/// The end of a refused call: its line, and the refusal's number and place for machines.
+pub fn refused(refusal: &Refusal, line: impl Into<String>) -> End {
+    let numbers = [("number", refusal.number().into()), ("place", refusal.place())];
+    unfit(line).with(numbers.map(|(name, number)| (name, Json::Number(number))).to_vec())
 }
 
 pub fn file_system(line: impl Into<String>) -> End {

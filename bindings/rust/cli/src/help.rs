@@ -47,12 +47,13 @@ pub const LOAD: Command = Command {
 
 pub const DESCRIBE: Command = Command {
     name: "describe",
-    usage: "labrador describe [--job FILE] [--as KIND] FILE…",
+    usage: "labrador describe [--job FILE] [--as KIND] [--statement FILE] FILE…",
     about: "Prints what is wrong with each file, if anything is; a job's parameters by name; each section with its place, count \
             and meaning. The others are described by a job: the one that --job names, or the first among the files.",
     options: &[
         JOB,
         opt("--as", "KIND", "read the files as job, randomness, witness or transcript, whatever they look like"),
+        STATED,
         JSON,
         HELP,
     ],
@@ -89,7 +90,7 @@ pub const PROVE: Command = Command {
 
 pub const VERIFY: Command = Command {
     name: "verify",
-    usage: "labrador verify --job FILE --randomness FILE --transcript FILE [--report PAGE.html] [--strict]",
+    usage: "labrador verify --job FILE --randomness FILE --transcript FILE [--report PAGE.html] [--statement FILE] [--strict]",
     about: "Judges a transcript. An acceptance is said with the chance that it leaves a false statement, which no single transcript \
             makes small, and with the number of things that the job does not force, which labrador review lists. Exit status 0 \
             accepted, 1 a failed check, 2 refused. The randomness is taken as it is handed in: a verdict forces nothing where the sender \
@@ -99,6 +100,7 @@ pub const VERIFY: Command = Command {
         RANDOMNESS,
         TRANSCRIPT,
         opt("--report", "FILE", "write the verdict as a page to read or print"),
+        STATED,
         STRICT,
         FORCE,
         JSON,
@@ -109,11 +111,11 @@ pub const VERIFY: Command = Command {
 
 pub const VERIFY_MANY: Command = Command {
     name: "verify-many",
-    usage: "labrador verify-many [--strict] --job FILE RANDOMNESS TRANSCRIPT [RANDOMNESS TRANSCRIPT]…",
+    usage: "labrador verify-many [--statement FILE] [--strict] --job FILE RANDOMNESS TRANSCRIPT [RANDOMNESS TRANSCRIPT]…",
     about: "Judges one to eight transcripts for one job, each with its own randomness, and prints a line for each. Where all are accepted it \
             says what they are worth together if the desk drew the randomness and nothing was tried again; what is handed in twice counts \
             once. The job is read once for all. Exit status 0 all accepted, 1 a failed check, 2 one is refused.",
-    options: &[JOB, STRICT, JSON, HELP],
+    options: &[JOB, STATED, STRICT, JSON, HELP],
     example: "labrador verify-many --job a.job north.randomness north.transcript south.randomness south.transcript",
 };
 
@@ -166,6 +168,62 @@ pub const ADD_PROJECTIONS: Command = Command {
     example: "labrador add-projections --p a.p shed1/p shed2/p",
 };
 
+const STATED: Opt = opt(
+    "--statement",
+    "FILE",
+    "a statement file: is the job its job, and are A to D those of its seed? Status 1 where not",
+);
+
+pub const STATEMENT: Command = Command {
+    name: "statement",
+    usage: "labrador statement FILE --job FILE | --from JOB [--seed HEX]",
+    about: "Makes the job of a statement file, in which a store writes its totals (docs/STATEMENT.md). With --from prints the statement file of \
+            a job whose constraints are all totals; exit status 1 where one is none, or where A to D are not those of the seed.",
+    options: &[
+        JOB,
+        opt("--from", "JOB", "print the statement file of this job"),
+        opt("--seed", "HEX", "with --from: the seed of A to D, 64 hex digits"),
+        FORCE,
+        JSON,
+        HELP,
+    ],
+    example: "labrador statement sheds.statement --job sheds.job",
+};
+
+pub const STOCK: Command = Command {
+    name: "stock",
+    usage: "labrador stock FILE --job FILE --witness FILE",
+    about: "Makes the witness of a stock list: a number a line, line 0 of s0 first, or vector,line,number a line. Lines that are not given \
+            are 0.",
+    options: &[JOB, WITNESS, FORCE, JSON, HELP],
+    example: "labrador stock sheds.stock --job sheds.job --witness sheds.witness",
+};
+
+pub const CHECK: Command = Command {
+    name: "check",
+    usage: "labrador check --job FILE --witness FILE",
+    about: "Says, before anything is proved, which totals the witness meets, by how much it misses the others, and each vector's norm against \
+            A's bound. Exit status 0 all met, 1 something is missed, 2 unfit.",
+    options: &[JOB, WITNESS, JSON, HELP],
+    example: "labrador check --job sheds.job --witness sheds.witness",
+};
+
+pub const BOUNDS: Command = Command {
+    name: "bounds",
+    usage: "labrador bounds --statement FILE --stock FILE [--slack PERCENT] [--sessions N]",
+    about: "Prints the six bounds that honest transcripts of a statement and a stock need, as lines of a statement file; the file may lack \
+            them here. Exit status 1 where one of the transcripts would not pass.",
+    options: &[
+        opt("--statement", "FILE", "the statement file"),
+        opt("--stock", "FILE", "the stock list; it is secret"),
+        opt("--slack", "PERCENT", "so much is added to what is needed (10 where it is not given)"),
+        opt("--sessions", "NUMBER", "so many transcripts are tried (40 where it is not given)"),
+        JSON,
+        HELP,
+    ],
+    example: "labrador bounds --statement sheds.statement --stock sheds.stock",
+};
+
 pub const EXPLAIN: Command = Command {
     name: "explain",
     usage: "labrador explain [NUMBER]",
@@ -175,7 +233,7 @@ pub const EXPLAIN: Command = Command {
     example: "labrador explain 22",
 };
 
-pub const COMMANDS: [&Command; 11] = [
+pub const COMMANDS: [&Command; 15] = [
     &LOAD,
     &DESCRIBE,
     &REVIEW,
@@ -186,6 +244,10 @@ pub const COMMANDS: [&Command; 11] = [
     &SHED_PROJECTION,
     &SHED_ROWS,
     &ADD_PROJECTIONS,
+    &STATEMENT,
+    &STOCK,
+    &CHECK,
+    &BOUNDS,
     &EXPLAIN,
 ];
 

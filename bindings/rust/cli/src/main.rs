@@ -14,6 +14,8 @@ mod judge;
 mod output;
 mod page;
 mod progress;
+mod stated;
+mod texts;
 mod worth;
 
 fn main() -> ExitCode {

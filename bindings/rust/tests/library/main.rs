@@ -14,4 +14,5 @@ mod mistyped;
 mod norms;
 mod review;
 mod sheds;
+mod statement;
 mod worth;

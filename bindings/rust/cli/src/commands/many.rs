@@ -7,17 +7,17 @@ use labrador::worth::repeats;
 use labrador::{verify_many, verify_many_with, Refusal, Sent, Slice, Verdict};
 
 use crate::args::Args;
-use crate::commands::verify::{line, strict, told};
-use crate::end::{unfit, usage, End, Outcome, Status};
+use crate::commands::verify::{held, line, strict, told};
+use crate::end::{self, usage, End, Outcome, Status};
 use crate::files::read_slice;
 use crate::help::Command;
 use crate::json::Json;
 use crate::progress::Progress;
+use crate::stated::Given;
 use crate::worth::{together, warnings, Told};
 
 fn refused(refusal: Refusal) -> End {
-    let numbers = [("number", refusal.number().into()), ("place", refusal.place())];
-    unfit(refusal.to_string()).with(numbers.map(|(name, number)| (name, Json::Number(number))).to_vec())
+    end::refused(&refusal, refusal.to_string())
 }
 
 /// The words of a randomness and of a transcript.
@@ -125,6 +125,7 @@ pub fn run(command: &Command, args: &Args) -> Outcome {
         let outside = verify_many_with(&[], pairs.len() as u32, &[], &[], &mut []);
         return Err(refused(outside.expect_err("more than eight are refused")));
     }
+    let given = args.file("--statement").map(Given::read).transpose()?;
     let progress = Progress::start();
     progress.step("reading the job, and each randomness and transcript");
     let job = read_slice(Slice::Job, &job)?.words;
@@ -142,5 +143,5 @@ pub fn run(command: &Command, args: &Args) -> Outcome {
             Judged { name: pair[1].display().to_string(), verdict, sent, warnings }
         })
         .collect();
-    end_of(&job, &judged, args)
+    Ok(held(end_of(&job, &judged, args)?, given.map(|given| given.compared(&job)).as_ref()))
 }

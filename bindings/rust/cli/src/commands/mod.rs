@@ -13,12 +13,13 @@ pub mod many;
 pub mod prove;
 pub mod review;
 pub mod sheds;
+pub mod statement;
 pub mod verify;
 
 type Run = fn(&Command, &Args) -> Outcome;
 
 fn found(name: &str) -> Option<(&'static Command, Run)> {
-    let runs: [Run; 11] = [
+    let runs: [Run; 15] = [
         load::run,
         describe::run,
         review::run,
@@ -29,6 +30,10 @@ fn found(name: &str) -> Option<(&'static Command, Run)> {
         sheds::projection,
         sheds::rows,
         sheds::add,
+        statement::run,
+        statement::stock::run,
+        statement::check::run,
+        statement::bounds::run,
         explain::run,
     ];
     help::COMMANDS.into_iter().zip(runs).find(|(command, _)| command.name == name)

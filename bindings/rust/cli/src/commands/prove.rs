@@ -5,7 +5,7 @@ use std::path::Path;
 use labrador::{prove, round, Refusal, Round, Slice};
 
 use crate::args::Args;
-use crate::end::{unfit, End, Outcome, Status};
+use crate::end::{refused, End, Outcome, Status};
 use crate::files::{bytes_of, read_slice};
 use crate::help::Command;
 use crate::json::Json;
@@ -45,10 +45,8 @@ pub fn run(command: &Command, args: &Args) -> Outcome {
         prove(&job, &randomness, &witness)
     };
     let words = made.map_err(|refusal| {
-        let place = Json::Number(refusal.place());
         let handed = [(Slice::Job, &job[..]), (Slice::Randomness, &randomness), (Slice::Witness, &witness)];
-        unfit(judge::told(&refusal, handed))
-            .with(vec![("number", Json::Number(refusal.number().into())), ("place", place)])
+        refused(&refusal, judge::told(&refusal, handed))
     })?;
     progress.step("writing the transcript");
     let file = Output { path: transcript, secret: false, bytes: bytes_of(&words) };

@@ -5,15 +5,14 @@ use std::path::Path;
 use labrador::{add_projections, shed_projection, shed_rows, Refusal, Run, Slice, PROJECTION_NEED};
 
 use crate::args::Args;
-use crate::end::{unfit, usage, End, Outcome, Status};
+use crate::end::{self, usage, End, Outcome, Status};
 use crate::files::{bytes_of, read, read_slice};
 use crate::help::Command;
 use crate::json::Json;
 use crate::output::{self, Output};
 
 fn refused(refusal: Refusal) -> End {
-    let numbers = [("number", refusal.number().into()), ("place", refusal.place())];
-    unfit(refusal.to_string()).with(numbers.map(|(name, number)| (name, Json::Number(number))).to_vec())
+    end::refused(&refusal, refusal.to_string())
 }
 
 fn run_of(command: &Command, args: &Args) -> Result<Run, End> {

@@ -13,6 +13,7 @@ use crate::judge;
 use crate::output::{self, Output};
 use crate::page::{page, Report, SLICES};
 use crate::progress::Progress;
+use crate::stated::{Compared, Given};
 use crate::worth::{listed, warnings, Told};
 
 /// The figures of a failed check.
@@ -84,6 +85,19 @@ pub fn strict(end: End, job: Option<&Told>, zero_weights: bool, args: &Args) -> 
     End { status: Status::Failed, line: format!("{}; --strict: {}", end.line, reasons.join(", ")), ..end }
 }
 
+/// An end of acceptances is a failure where the job is not that of the statement that `--statement` names.
+pub fn held(end: End, compared: Option<&Compared>) -> End {
+    let Some(compared) = compared else {
+        return end;
+    };
+    let end = end.with(vec![("compared", Json::List(compared.told.iter().map(Json::text).collect()))]);
+    let status = if end.status == Status::Fine { Status::Failed } else { end.status };
+    match compared.same {
+        true => end,
+        false => End { status, line: format!("{}; {}", end.line, compared.told.join("; ")), ..end },
+    }
+}
+
 /// Writes the page; where it fails, the verdict is told with it.
 fn write_page(path: &Path, page: String, force: bool, end: &End) -> Result<(), End> {
     let file = Output { path: path.to_path_buf(), secret: false, bytes: page.into_bytes() };
@@ -101,7 +115,9 @@ pub fn run(command: &Command, args: &Args) -> Outcome {
     let names = [0, 1, 2].map(|k: usize| names[k].as_path());
     let (report, force) = (args.file("--report"), args.flag("--force"));
     let outputs: Vec<&Path> = report.into_iter().collect();
-    output::admit(&outputs, &names, force)?;
+    let stated = args.file("--statement");
+    output::admit(&outputs, &names.into_iter().chain(stated).collect::<Vec<_>>(), force)?;
+    let given = stated.map(Given::read).transpose()?;
     let progress = Progress::start();
     progress.step("reading the job, the randomness and the transcript");
     let [job, randomness, transcript] = [0, 1, 2].map(|k: usize| read_slice(SLICES[k], names[k]));
@@ -118,9 +134,12 @@ pub fn run(command: &Command, args: &Args) -> Outcome {
     let said = line(&verdict, slices, told_of_job.as_ref(), &warnings);
     let end = strict(End::new(status, said), told_of_job.as_ref(), !warnings.is_empty(), args);
     let end = end.with(fields).with(of_job).warning(warnings.clone());
+    let compared = given.as_ref().filter(|_| told_of_job.is_some()).map(|given| given.compared(&job));
+    let end = held(end, compared.as_ref());
     if let Some(path) = report {
         progress.step("writing the page");
-        let page = page(&Report { names, slices, verdict: &verdict, job: told_of_job.as_ref(), warnings: &warnings });
+        let (job, compared) = (told_of_job.as_ref(), compared.as_ref());
+        let page = page(&Report { names, slices, verdict: &verdict, job, warnings: &warnings, compared });
         write_page(path, page, force, &end)?;
     }
     Ok(end)

@@ -6,6 +6,7 @@ use std::path::Path;
 use labrador::section_one::SectionOne;
 use labrador::{Slice, Verdict};
 
+use crate::stated::Compared;
 use crate::worth::Told;
 
 mod checks;
@@ -13,6 +14,7 @@ mod findings;
 mod html;
 mod norms;
 mod place;
+mod stated;
 mod style;
 mod tables;
 mod verdict;
@@ -27,6 +29,8 @@ pub struct Report<'a> {
     pub job: Option<&'a Told>,
     /// What is to be told of the randomness.
     pub warnings: &'a [String],
+    /// How the job stands to a statement file, where one was handed in.
+    pub compared: Option<&'a Compared>,
 }
 
 /// The slices in the order of a report.
@@ -36,6 +40,11 @@ impl Report<'_> {
     /// The refusal's number where nothing was worked out: the slices were unfit.
     fn before_work(&self) -> bool {
         matches!(self.verdict.number(), 1..=12)
+    }
+
+    /// Whether a statement file was handed in whose job is another.
+    fn is_other(&self) -> bool {
+        self.compared.is_some_and(|compared| !compared.same)
     }
 
     /// Section one, where its words are within their limits.
@@ -54,6 +63,7 @@ pub fn page(report: &Report) -> String {
     let beside = [place::around(report), norms::bars(report), findings::list(report)].concat();
     let parts = [
         verdict::header(report),
+        stated::list(report),
         html::pair(&checks::list(report), &beside),
         tables::parameters(report),
         tables::sections(report),

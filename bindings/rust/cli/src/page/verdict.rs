@@ -10,7 +10,10 @@ use crate::worth::{chance_sentence, drawn_sentence};
 /// The verdict in a line; an acceptance has what it is worth beside it.
 pub fn title(report: &Report) -> String {
     match (report.verdict, report.job) {
-        (Verdict::Accepted { .. }, Some(job)) => format!("Accepted; {}", job.short(&job.worth_with(report.warnings))),
+        (Verdict::Accepted { .. }, Some(job)) => {
+            let other = if report.is_other() { "; the job is not that of the statement file" } else { "" };
+            format!("Accepted; {}{other}", job.short(&job.worth_with(report.warnings)))
+        }
         (Verdict::Accepted { .. }, None) => unreachable!("an acceptance is under a fit job"),
         (Verdict::Failed(check), _) => format!("Not accepted: check {} failed", check.number()),
         (Verdict::Refused(refusal), _) => format!("Refused: refusal {}", refusal.number()),
@@ -56,9 +59,9 @@ fn cells(report: &Report) -> String {
 }
 
 pub fn header(report: &Report) -> String {
-    let worthless = report.job.is_some_and(|job| job.worth_with(report.warnings).certain);
+    let certain = report.job.is_some_and(|job| job.worth_with(report.warnings).certain);
     let (class, mark) = match report.verdict {
-        Verdict::Accepted { .. } if worthless => ("refused", "!"),
+        Verdict::Accepted { .. } if certain || report.is_other() => ("refused", "!"),
         Verdict::Accepted { .. } => ("accepted", "✓"),
         Verdict::Failed(_) => ("failed", "✗"),
         Verdict::Refused(_) => ("refused", "✗"),

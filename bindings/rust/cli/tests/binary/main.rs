@@ -13,6 +13,7 @@ mod render;
 mod reviews;
 mod run;
 mod sheds;
+mod statement;
 mod statuses;
 mod terminal;
 mod worth;

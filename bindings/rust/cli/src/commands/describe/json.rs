@@ -6,6 +6,7 @@ use labrador::{expected, Refusal, Slice};
 
 use super::Read;
 use crate::json::Json;
+use crate::stated;
 
 fn sections_json(sections: &[Placed]) -> Json {
     let section = |s: &Placed| {
@@ -32,6 +33,7 @@ pub fn json_of(file: &Read, job: Option<&[u32]>, refusal: Option<&Refusal>) -> J
     let one = SectionOne::read(words).filter(|_| file.kind == Some(Slice::Job));
     let job = if one.is_some() { words } else { job.unwrap_or_default() };
     let sections = file.kind.map(|kind| expected(kind, job, usize::MAX)).unwrap_or_default();
+    let states = if one.is_some() { stated::constraints(words) } else { Vec::new() };
     Json::Object(vec![
         ("file", Json::text(file.path.display())),
         ("kind", text(file.kind.map(|kind| kind.name().to_string()))),
@@ -39,5 +41,6 @@ pub fn json_of(file: &Read, job: Option<&[u32]>, refusal: Option<&Refusal>) -> J
         ("wrong", text(refusal.map(|refusal| refusal.to_string()))),
         ("parameters", one.as_ref().map_or(Json::Null, parameters_json)),
         ("sections", sections_json(&sections)),
+        ("states", Json::List(states.iter().map(Json::text).collect())),
     ])
 }

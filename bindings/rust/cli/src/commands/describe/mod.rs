@@ -10,6 +10,7 @@ use crate::files::{read, read_slice, Words};
 use crate::help::Command;
 use crate::json::Json;
 use crate::judge;
+use crate::stated::{Compared, Given};
 
 use self::json::json_of;
 use self::text::describe;
@@ -45,10 +46,22 @@ fn named_job(path: &Path) -> Result<Vec<u32>, End> {
     }
 }
 
+/// How the job stands to the statement that `--statement` names.
+fn compared(given: &Given, job: Option<&[u32]>) -> Compared {
+    match job.filter(|job| judge::refusal(Slice::Job, job, job).is_none()) {
+        Some(job) => given.compared(job),
+        None => Compared {
+            same: false,
+            told: vec![format!("there is no fit job to hold {} against", given.path.display())],
+        },
+    }
+}
+
 pub fn run(command: &Command, args: &Args) -> Outcome {
     if args.rest.is_empty() {
         return Err(usage(format!("describe takes a file or more; {}", command.hint())));
     }
+    let given = args.file("--statement").map(Given::read).transpose()?;
     let most = Slice::ALL.into_iter().map(Slice::greatest_length).max().unwrap_or(0) + 1;
     let forced = forced(args)?;
     let mut files = Vec::new();
@@ -70,6 +83,15 @@ pub fn run(command: &Command, args: &Args) -> Outcome {
         list.push(json_of(file, job.as_deref(), refusal.as_ref()));
         first = first.or(refusal.map(|refusal| format!("{}: {refusal}", file.path.display())));
     }
-    let status = if first.is_some() { Status::Unfit } else { Status::Fine };
-    Ok(End::new(status, first.unwrap_or_default()).printing(out).with(vec![("files", Json::List(list))]))
+    let compared = given.as_ref().map(|given| compared(given, job.as_deref()));
+    let told = compared.as_ref().map(|compared| compared.told.clone()).unwrap_or_default();
+    let differs = compared.filter(|compared| !compared.same).and_then(|compared| compared.told.last().cloned());
+    let status = match (&first, &differs) {
+        (Some(_), _) => Status::Unfit,
+        (None, Some(_)) => Status::Failed,
+        (None, None) => Status::Fine,
+    };
+    out.extend(told.iter().map(|line| format!("{line}\n")));
+    let fields = vec![("files", Json::List(list)), ("compared", Json::List(told.iter().map(Json::text).collect()))];
+    Ok(End::new(status, first.or(differs).unwrap_or_default()).printing(out).with(fields))
 }

@@ -6,6 +6,7 @@ use labrador::{expected, Refusal, Slice};
 
 use super::Read;
 use crate::judge;
+use crate::stated;
 
 /// The parameters and bounds by name.
 fn parameters(one: &SectionOne) -> String {
@@ -59,6 +60,12 @@ fn plain_sections(words: &[u32]) -> String {
     out
 }
 
+/// What a job states.
+fn stated(job: &[u32]) -> String {
+    let lines = stated::constraints(job).into_iter().map(|line| format!("  {line}\n"));
+    format!("states\n{}", lines.collect::<String>())
+}
+
 /// A file in words, with its refusal.
 pub fn describe(file: &Read, job: Option<&[u32]>) -> (String, Option<Refusal>) {
     let (words, shown) = (&file.words.words[..], file.path.display());
@@ -78,5 +85,9 @@ pub fn describe(file: &Read, job: Option<&[u32]>) -> (String, Option<Refusal>) {
     }
     let one = SectionOne::read(words).filter(|_| kind == Slice::Job);
     out += &one.as_ref().map(parameters).unwrap_or_default();
-    (out + &sections(words, &expected(kind, job, usize::MAX)), refusal)
+    out += &sections(words, &expected(kind, job, usize::MAX));
+    if kind == Slice::Job && refusal.is_none() {
+        out += &stated(words);
+    }
+    (out, refusal)
 }
