@@ -25,7 +25,7 @@ module _ (J X Y : List ℕ) (a : Accepted J X 0) (a′ : Accepted J Y 0) where
   open Parameters (parameters J) using (r, κ, b, t₁, t₂)
 
   -- the same digits are those of the same cells
-  same-t-g : opening-1 J X ≡ opening-1 J Y → Same-t-g J X Y
+  pub same-t-g : opening-1 J X ≡ opening-1 J Y → Same-t-g J X Y
   unfolding opening-1 rows triangle
   same-t-g same =
       let X₀ = public J [] in
@@ -36,7 +36,7 @@ module _ (J X Y : List ℕ) (a : Accepted J X 0) (a′ : Accepted J Y 0) where
         of-g = λ i j h l. same-cells b t₂ r (λ i. i + 1) (sent J X .g) (sent J Y .g) g-same (λ i j h l. all-back J X a .of-g i j h (omega arith)) (λ i j h l. all-back J Y a′ .of-g i j h (omega arith)) i j h (omega arith);
       }
 
-  same-h : opening-2 J X ≡ opening-2 J Y → Same-h J X Y
+  pub same-h : opening-2 J X ≡ opening-2 J Y → Same-h J X Y
   unfolding opening-2 triangle
   same-h same i j h l =
       same-cells b t₁ r (λ i. i + 1) (sent J X .h) (sent J Y .h) same (λ i j h l. all-back J X a .of-h i j h (omega arith)) (λ i j h l. all-back J Y a′ .of-h i j h (omega arith)) i j h (omega arith)

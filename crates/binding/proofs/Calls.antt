@@ -12,7 +12,7 @@ use Rattle.binding.proofs.Binding.{binding-1, binding-2}
 use Rattle.binding.proofs.Bound.{bound-1, bound-2}
 
 -- a transcript of which the call's verdict is an acceptance
-accepted-by-call : (J R X scratch : List ℕ) (v : Verdict) (cells : ℕ) → ofVerdict v ≡ verify J R X (length scratch) → v ≡ V′.Accepted cells → Accepted J X cells
+pub accepted-by-call : (J R X scratch : List ℕ) (v : Verdict) (cells : ℕ) → ofVerdict v ≡ verify J R X (length scratch) → v ≡ V′.Accepted cells → Accepted J X cells
 accepted-by-call J R X scratch v cells judged is = record { randomness = R; scratch = length scratch; verdict = sym judged ∙ ap ofVerdict is }
 
 -- two calls with one job, and what their contracts ensure

@@ -17,7 +17,7 @@ module _ (J : List ℕ) (count : ℕ) (R T : List ℕ) where
   part m = transcript-part (parameters J) count T m
 
   -- of which the verdict is an acceptance
-  accepted-part : (m cells : ℕ) → part-verdict J count R T m ≡ accepted cells → Accepted J (part m) cells
+  pub accepted-part : (m cells : ℕ) → part-verdict J count R T m ≡ accepted cells → Accepted J (part m) cells
   unfolding part-verdict
   accepted-part m cells e = record { randomness = randomness-part (parameters J) count R m; scratch = scratch-need (parameters J); verdict = e }
 

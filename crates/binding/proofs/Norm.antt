@@ -26,7 +26,7 @@ use Rattle.binding.proofs.Size.{square-of-difference}
     omega (arith, Σ-le n d (λ i. 2 * f i + 2 * g i) h, Σ-add n (λ i. 2 * f i) (λ i. 2 * g i), Σ-mul-left n 2 f, Σ-mul-left n 2 g)
 
 -- the norm of an element, over its 64 coefficients
-norm-of-words : (e : Element) → norm (words e) ≡ Σ 64 (λ k. square (coeff (words e) k))
+pub norm-of-words : (e : Element) → norm (words e) ≡ Σ 64 (λ k. square (coeff (words e) k))
 unfolding norm
 norm-of-words e = ap (λ n. Σ n (λ k. square (coeff (words e) k))) (length-words e)
 
@@ -44,7 +44,7 @@ norm-of-entry x y =
     )
 
 -- the norm of a table of elements, over its entries
-norm-of-table : (n : ℕ) (f : ℕ → Element) → norm-of (table n f) ≡ Σ n (λ m. norm (words (f m)))
+pub norm-of-table : (n : ℕ) (f : ℕ → Element) → norm-of (table n f) ≡ Σ n (λ m. norm (words (f m)))
 norm-of-table n f = additive-table norm-of norm-of-additive n f ∙ Σ-ext n (λ m. norm-of (f m ∷ [])) (λ m. norm (words (f m))) (λ m l. norm-of-one (f m))
 
 -- the norm of a vector, over its entries

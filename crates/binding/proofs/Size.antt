@@ -26,7 +26,7 @@ size-of-difference a b h k =
         (λ p. size-by (λ n. d ≤ n + size b) a (λ q. size-by (λ n. d ≤ Q - a + n) b (λ r. omega arith) (λ r. omega arith)) (λ q. size-by (λ n. d ≤ a + n) b (λ r. omega arith) (λ r. omega arith)))
 
 -- twice a product is at most the sum of the squares
-twice-product : (x y : ℕ) → 2 * (x * y) ≤ x * x + y * y
+pub twice-product : (x y : ℕ) → 2 * (x * y) ≤ x * x + y * y
 twice-product x y = ltb-cases (λ t. 2 * (x * y) ≤ x * x + y * y) x y (λ l. of-larger x y (omega arith)) (λ l. omega (arith, of-larger y x l))
   where
     more : (x d : ℕ) → 2 * (x * (x + d)) ≤ x * x + (x + d) * (x + d)

@@ -261,21 +261,17 @@ module _ (X : Public) (M : Message) where
   unfolding checks
   accepted-checks cells e = after-unaccepted up-to-29 _ cells (no-up-to-29 .unaccepted) e
 
-  -- what holds where the checks accept: 23, 28 and 29, on which binding rests, and the number
+  -- what holds where the checks accept: 22 to 29 pass, and the number
   pub record Passed (cells : ℕ) : Type 0 where
+    pub constant-terms : check-22 X M ≡ fine
     pub norm-sum : check-23 X M ≡ fine
+    pub t-relation : check-24 X M ≡ fine
+    pub g-relation : check-25 X M ≡ fine
+    pub h-relation : check-26 X M ≡ fine
+    pub aggregated : check-27 X M ≡ fine
     pub first-commitment : check-28 X M ≡ fine
     pub second-commitment : check-29 X M ≡ fine
     pub number : cells-left-of X (M .t) (M .g) (M .h) ≡ cells
-
-  -- 23 passes where 15 does
-  to-23 : up-to-27 then t-norm X (M .t) then g-norm X (M .g) ≡ fine → check-21 X M then check-22 X M then check-23 X M ≡ fine
-  to-23 e = six (check-21 X M then check-22 X M then check-23 X M) (check-24 X M) (check-25 X M) (check-26 X M) (check-27 X M) (t-norm X (M .t)) (g-norm X (M .g)) e
-    where
-      six : (a b c d e f g : Answer) → a then b then c then d then e then f then g ≡ fine → a ≡ fine
-      six a b c d e f g h =
-          then-fine-left a b
-          (then-fine-left (a then b) c (then-fine-left (a then b then c) d (then-fine-left (a then b then c then d) e (then-fine-left (a then b then c then d then e) f (then-fine-left (a then b then c then d then e then f) g h)))))
 
   passed : (cells : ℕ) → checks X M ≡ accepted cells → Passed cells
   passed cells e =
@@ -283,8 +279,16 @@ module _ (X : Public) (M : Message) where
       let to-15 = up-to-27 then t-norm X (M .t) then g-norm X (M .g) in
       let to-16 : to-15 then check-28 X M then h-norm X (M .h) ≡ fine = then-fine-left (to-15 then check-28 X M then h-norm X (M .h)) (check-29 X M) (found .0) in
       let to-28 : to-15 then check-28 X M ≡ fine = then-fine-left (to-15 then check-28 X M) (h-norm X (M .h)) to-16 in
+      let to-14 : up-to-27 then t-norm X (M .t) ≡ fine = then-fine-left (up-to-27 then t-norm X (M .t)) (g-norm X (M .g)) (then-fine-left to-15 (check-28 X M) to-28) in
+      let up-to-23 = check-21 X M then check-22 X M then check-23 X M in
+      let relations = then-fine-each up-to-23 (check-24 X M) (check-25 X M) (check-26 X M) (check-27 X M) (then-fine-left up-to-27 (t-norm X (M .t)) to-14) in
       record {
-        norm-sum = then-fine-right (check-21 X M then check-22 X M) (check-23 X M) (to-23 (then-fine-left to-15 (check-28 X M) to-28));
+        constant-terms = then-fine-right (check-21 X M) (check-22 X M) (then-fine-left (check-21 X M then check-22 X M) (check-23 X M) (relations .0));
+        norm-sum = then-fine-right (check-21 X M then check-22 X M) (check-23 X M) (relations .0);
+        t-relation = relations .1;
+        g-relation = relations .2;
+        h-relation = relations .3;
+        aggregated = relations .4;
         first-commitment = then-fine-right to-15 (check-28 X M) to-28;
         second-commitment = then-fine-right (to-15 then check-28 X M then h-norm X (M .h)) (check-29 X M) (found .0);
         number = found .1;
@@ -307,14 +311,27 @@ zero-accepts J R X lent e =
     let two = told-fine (up-to-29 Y M) (accepted cells) (no-up-to-29 Y M) (one .1) in
     (cells, ap₂ (λ a b. a then (b then accepted cells)) (one .0) (two .0))
 
--- and its job is refused nothing
+-- where it is accepted, nothing is refused before the work
+accepted-unrefused : (J R X : List ℕ) (lent cells : ℕ) → verify J R X lent ≡ accepted cells → verify-refusal J R X lent ≡ fine
+unfolding verify
+accepted-unrefused J R X lent cells e = after (verify-refusal J R X lent) (checks (public J R) (message (parameters J) X)) cells (refusal-no J R X lent .unaccepted) e .0
+
+-- nor of the job, the randomness and the transcript
+accepted-slices : (J R X : List ℕ) (lent cells : ℕ) → verify J R X lent ≡ accepted cells → job-refusal J then randomness-refusal (parameters J) 7 R then transcript-refusal (parameters J) X ≡ fine
+unfolding verify-refusal
+accepted-slices J R X lent cells e =
+    let P = parameters J in
+    then-fine-left (job-refusal J then randomness-refusal P 7 R then transcript-refusal P X) (scratch-refusal P lent) (accepted-unrefused J R X lent cells e)
+
 accepted-job : (J R X : List ℕ) (lent cells : ℕ) → verify J R X lent ≡ accepted cells → job-refusal J ≡ fine
-unfolding verify verify-refusal
 accepted-job J R X lent cells e =
     let P = parameters J in
-    let slices = job-refusal J then randomness-refusal P 7 R then transcript-refusal P X in
-    let none = after (verify-refusal J R X lent) (checks (public J R) (message P X)) cells (refusal-no J R X lent .unaccepted) e .0 in
-    then-fine-left (job-refusal J) (randomness-refusal P 7 R) (then-fine-left (job-refusal J then randomness-refusal P 7 R) (transcript-refusal P X) (then-fine-left slices (scratch-refusal P lent) none))
+    then-fine-left (job-refusal J) (randomness-refusal P 7 R) (then-fine-left (job-refusal J then randomness-refusal P 7 R) (transcript-refusal P X) (accepted-slices J R X lent cells e))
+
+pub accepted-transcript : (J R X : List ℕ) (lent cells : ℕ) → verify J R X lent ≡ accepted cells → transcript-refusal (parameters J) X ≡ fine
+accepted-transcript J R X lent cells e =
+    let P = parameters J in
+    then-fine-right (job-refusal J then randomness-refusal P 7 R) (transcript-refusal P X) (accepted-slices J R X lent cells e)
 
 -- a number that is not refused is at least its least value
 at-least : (least greatest place x : ℕ) → limited least greatest place x ≡ fine → least ≤ x

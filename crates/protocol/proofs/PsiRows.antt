@@ -110,13 +110,16 @@ module _ (X : Public) (s : ℕ → ℕ → Element) where
   unfolding sent constant
   residue-sent k = constant-b″ k
 
-  -- the canonical value of the second value, in Zq
+  -- the canonical value of the second value, in Zq: of any numbers in the place of p, and of p
+  pub residue-second : (q : ℕ → ℕ) (k : ℕ) → residue ((Σ l (λ x. psi k x * b₀ x) + Σ 256 (λ j. omega k j * q j)) % Q) ≡ rights k +Q Ops.sum ZqOps 256 (λ j. residue (omega k j) *Q residue (q j))
+  residue-second q k =
+      residue-reduced (Σ l (λ x. psi k x * b₀ x) + Σ 256 (λ j. omega k j * q j))
+      ∙ residue-add (Σ l (λ x. psi k x * b₀ x)) (Σ 256 (λ j. omega k j * q j))
+      ∙ ap₂ _+Q_ (residue-products l (psi k) b₀) (residue-products 256 (omega k) q)
+
   pub residue-computed : (k : ℕ) → residue (computed X s k) ≡ rights k +Q projections k
   unfolding computed
-  residue-computed k =
-      residue-reduced (Σ l (λ x. psi k x * b₀ x) + Σ 256 (λ j. omega k j * p X s j))
-      ∙ residue-add (Σ l (λ x. psi k x * b₀ x)) (Σ 256 (λ j. omega k j * p X s j))
-      ∙ ap₂ _+Q_ (residue-products l (psi k) b₀) (residue-products 256 (omega k) (p X s))
+  residue-computed k = residue-second (p X s) k
 
   -- Σ psi[k][l]·error_l in Zq
   pub residue-row : (k : ℕ) → residue (Σ l (λ x. psi k x * constant-error X s x)) ≡ lefts k +Q ZqOps .neg (rights k)

@@ -1,0 +1,39 @@
+-- The same over the verifying calls, from what their contracts ensure: each transcript of a fork is accepted by a call of its own, or is one of those of a call on many.
+use mathlib.Core.Path.{_≡_, subst}
+use mathlib.Core.List.{List}
+use mathlib.Core.Logic.{_⊎_}
+use Prim.Native.Nat.{ℕ}
+use lib.ListN.{length}
+use Rattle.definitions.specs.declared.answers.Verdict.{Verdict}
+use Rattle.definitions.specs.declared.answers.Verdict.the-variants as V′
+use Rattle.definitions.specs.Answer.{ofVerdict, accepted}
+use Rattle.protocol.specs.Verifier.{verify}
+use Rattle.protocol.specs.Many.{part-verdict}
+use Rattle.binding.proofs.Calls.{accepted-by-call}
+use Rattle.binding.proofs.Many.{part, accepted-part}
+use Rattle.extraction.specs.Fork.{Branch, Node, Fork, Gives-away}
+use Rattle.extraction.specs.Extracted.{Extracted}
+use Rattle.extraction.proofs.Extraction.{extraction}
+
+-- calls on one transcript each, all with one job: each accepts, and no cell has something left
+module _ {Index : Type 0} (J : List ℕ) (R X scratch : Index → List ℕ) (verdict : Index → Verdict)
+    (judged : (v : Index) → ofVerdict (verdict v) ≡ verify J (R v) (X v) (length (scratch v)))
+    (is : (v : Index) → verdict v ≡ V′.Accepted 0) where
+  abbrev pub called : Index → Branch J
+  called v = record { transcript = X v; accepted = accepted-by-call J (R v) (X v) (scratch v) (verdict v) 0 (judged v) (is v) }
+
+-- verdicts of calls on many transcripts: each is an acceptance with no cell left
+module _ {Index : Type 0} (J : List ℕ) (count : Index → ℕ) (R T : Index → List ℕ) (m : Index → ℕ)
+    (is : (v : Index) → part-verdict J (count v) (R v) (T v) (m v) ≡ accepted 0) where
+  abbrev pub parts : Index → Branch J
+  parts v = record { transcript = part J (count v) (R v) (T v) (m v); accepted = accepted-part J (count v) (R v) (T v) (m v) 0 (is v) }
+
+-- T4 of a fork whose transcripts are given so
+pub extraction-of : {J : List ℕ} (branch : Node → Branch J) (F : Fork J) → F .branch ≡ branch → Gives-away J branch ⊎ Extracted F
+extraction-of {J} branch F same = subst (λ b. Gives-away J b ⊎ Extracted F) same (extraction F)
+
+module _ (J : List ℕ) (R X scratch : Node → List ℕ) (verdict : Node → Verdict)
+    (judged : (v : Node) → ofVerdict (verdict v) ≡ verify J (R v) (X v) (length (scratch v)))
+    (is : (v : Node) → verdict v ≡ V′.Accepted 0) where
+  pub extraction-over-calls : (F : Fork J) → F .branch ≡ called J R X scratch verdict judged is → Gives-away J (called J R X scratch verdict judged is) ⊎ Extracted F
+  extraction-over-calls = extraction-of (called J R X scratch verdict judged is)

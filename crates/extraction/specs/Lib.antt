@@ -1,0 +1,3 @@
+pub mod Fork
+pub mod Extracted
+pub mod Tree
