@@ -30,8 +30,9 @@ static const uint32_t bounds[6] = {2079478, 39666743, 605242, 23659721, 4695543,
 static const uint8_t seed[33] = "labrador: three sheds, one total";
 static const uint32_t totals[TOTALS] = {9860, 9900, 9880, 38083};
 
-/* SHA-256 of the job's bytes, four a word, the least first, with Q = 4294967295: `labrador statement` makes the same job of the same statement. */
-static const char job_digest[] = "2af9329c82049925f4959be028bdc9d4c4b6dc5bc45084cb7b3373bc065a2386";
+/* SHA-256 of the job's bytes, four a word, the least first, over 2^32 - 1 and over the prime: `labrador statement` makes the same job of the same statement. */
+static const char *const job_digest = Q == UINT32_MAX ? "2af9329c82049925f4959be028bdc9d4c4b6dc5bc45084cb7b3373bc065a2386"
+                                                      : "c7f9c5322564783ff2412dea10982e9136716a5f92f6e528f4f7a617383fce7a";
 
 static uint32_t job[MOST], witness[MOST], scratch[TRANSCRIPTS * MOST], randomness[TRANSCRIPTS * MOST], transcripts[TRANSCRIPTS * MOST], joined[MOST];
 static size_t job_length, randomness_length, witness_length, transcript_length, scratch_length, phi, b_0, ends[8];
@@ -180,11 +181,11 @@ static void tell_statement(void) {
     sha256(bytes, 4 * job_length, digest);
     free(bytes);
     for (int k = 0; k < 32; k++) snprintf(hex + 2 * k, 3, "%02x", digest[k]);
-    printf("three sheds of %d lines state to a lender, in grams:\n", LINES);
+    printf("three sheds of %d lines state to a lender, in grams, modulo %" PRIu32 ":\n", LINES, Q);
     for (size_t k = 0; k < sizeof statement / sizeof *statement; k++)
         if (strncmp(statement[k], "total", 5) == 0) printf("  %s\n", statement[k]);
     printf("job %zu words, SHA-256 %.16s…; the matrices A to D are those of the seed\n", job_length, hex);
-    if (Q == 4294967295u && strcmp(hex, job_digest) != 0) {
+    if (strcmp(hex, job_digest) != 0) {
         printf("the job is NOT that of the statement: its SHA-256 is %s\n", hex);
         exit(EXIT_FAILURE);
     }

@@ -52,13 +52,12 @@ fn between<'a>(text: &'a str, first: &str, last: &str) -> &'a str {
 /// The demonstration writes its job by hand and ends where its digest is another: it is that of the statement that it prints.
 #[test]
 fn the_demonstration_s_job_is_that_of_its_statement() {
-    if over(false, true) {
-        return println!("not tried: the digest in bindings/demo.c, which is of 4294967295");
-    }
     let source = fs::read_to_string(root().join("bindings/demo.c")).expect("the demonstration");
     let quoted: Vec<&str> = between(&source, "statement[] = {", "};").split('"').skip(1).step_by(2).collect();
     let statement = Statement::parse(&quoted.join("\n")).unwrap_or_else(|mistake| panic!("{mistake}"));
     let bytes: Vec<u8> = statement.job().iter().flat_map(|word| word.to_le_bytes()).collect();
     let digest: String = sha256(&bytes).iter().map(|byte| format!("{byte:02x}")).collect();
-    assert_eq!(between(&source, "job_digest[] = \"", "\""), digest);
+    // of 4294967295, then of the prime
+    let digests: Vec<&str> = between(&source, "job_digest = ", ";").split('"').skip(1).step_by(2).collect();
+    assert_eq!(digests[over(0, 1)], digest);
 }
