@@ -22,7 +22,7 @@ module _ (J : List ℕ) (count : ℕ) (R T : List ℕ) where
   accepted-part m cells e = record { randomness = randomness-part (parameters J) count R m; scratch = scratch-need (parameters J); verdict = e }
 
   -- a verdict with the number 0 is one
-  zero-part : (m : ℕ) → number (part-verdict J count R T m) ≡ 0 → (cells : ℕ) × (part-verdict J count R T m ≡ accepted cells)
+  pub zero-part : (m : ℕ) → number (part-verdict J count R T m) ≡ 0 → (cells : ℕ) × (part-verdict J count R T m ≡ accepted cells)
   unfolding part-verdict
   zero-part m e = zero-accepts J (randomness-part (parameters J) count R m) (part m) (scratch-need (parameters J)) e
 

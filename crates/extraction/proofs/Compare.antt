@@ -2,13 +2,12 @@
 use mathlib.Core.Path.{_≡_, sym, ap, ap₂, _∙_}
 use mathlib.Core.List.{List, [], List-discrete}
 use mathlib.Core.Logic.{_⊎_, inl, inr}
-use Prim.Native.Nat.{ℕ, _+_, _*_, _≤_, _<_}
-use lib.ListN.{length, getD}
+use Prim.Native.Nat.{ℕ, _*_, _≤_, _<_}
 use Rattle.lists.specs.Table.{table}
 use Rattle.lists.proofs.Table.{length-table, getD-table}
 use Rattle.algebra.specs.Ops as Ops
 use Rattle.algebra.specs.Ops.{Ops}
-use Rattle.algebra.proofs.Ring.{CRing, ring, eq-of-sub-nil, add-neg}
+use Rattle.algebra.proofs.Ring.{CRing, ring, eq-of-sub-nil}
 use Rattle.algebra.proofs.Sum.{sum-ext}
 use Rattle.algebra.proofs.Dot.{dot-add-right, dot-sub-right, dot-mul-right}
 use Rattle.definitions.specs.Rq.{Element}

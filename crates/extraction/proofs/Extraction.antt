@@ -1,7 +1,7 @@
 -- T4: of a fork of accepted transcripts at the challenges something is given away, or its vectors are extracted.
 use mathlib.Core.Path.{_≡_, sym, ap, ap₂, _∙_}
 use mathlib.Core.List.{List, []}
-use mathlib.Core.Logic.{_⊎_, inl, inr}
+use mathlib.Core.Logic.{_⊎_, inr}
 use Prim.Native.Nat.{ℕ, _<_}
 use native.Mathlib.Omega.{arith}
 use Rattle.algebra.specs.Ops.{Ops}
@@ -14,13 +14,13 @@ use Rattle.definitions.specs.Ring.{RqOps}
 use Rattle.definitions.proofs.RqRing.{rq-ring}
 use Rattle.definitions.proofs.Scalar.{rq-double-cancel}
 use Rattle.protocol.specs.Parameters.{Parameters, parameters}
-use Rattle.protocol.specs.Views.{Public, Message, public}
-use Rattle.protocol.specs.Formulas.{_⊕_, _⊗_, sum, dot, pairs, left, a-sum, φ-sum, b-sum}
+use Rattle.protocol.specs.Views.{Public, public}
+use Rattle.protocol.specs.Formulas.{_⊕_, _⊗_, dot, left, a-sum, φ-sum, b-sum}
 use Rattle.protocol.specs.Verifier.{twice}
 use Rattle.binding.specs.Openings.{nil, neg}
 use Rattle.soundness.specs.Weights.{IsUnit}
 use Rattle.extraction.specs.Fork.{values, message-of, z-of, challenge-of, _⊖_, Node, base, first, second, mixed, Used, x, y, Fork, Gives-away}
-use Rattle.extraction.specs.Extracted.{extracted, Opens, Extracted}
+use Rattle.extraction.specs.Extracted.{extracted, Extracted}
 use Rattle.extraction.proofs.Steps.{step}
 use Rattle.extraction.proofs.Places.{step-none, step-first, step-second, one-step, other-step, both-steps, divided}
 use Rattle.extraction.proofs.Quadratic.{Squares, squares-after, squares-one, squares-both, Lines, lines-after, lines-one, lines-both}

@@ -7,7 +7,7 @@ use native.Mathlib.Omega.{arith}
 use Rattle.definitions.specs.Rq.{Element}
 use Rattle.protocol.specs.Parameters.{parameters, triangular}
 use Rattle.protocol.specs.Layout.{start, transcript-sections}
-use Rattle.protocol.specs.Views.{Message, element-at, cell}
+use Rattle.protocol.specs.Views.{element-at, cell}
 use Rattle.extraction.specs.Fork.{Branch, message-of}
 
 -- a triangle's cell is that of the mirrored indexes

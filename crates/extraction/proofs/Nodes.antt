@@ -1,11 +1,10 @@
 -- The transcripts of a fork: alike in t, g and h, or something is given away; their challenges as steps from those of the first; and A·z of each, by 24.
 use mathlib.Core.Path.{_≡_, sym, ap, ap₂, _∙_}
 use mathlib.Core.Bool.{cond}
-use mathlib.Core.List.{List, []}
-use mathlib.Core.Logic.{_⊎_, inl, inr, _≢_}
+use mathlib.Core.List.{List}
+use mathlib.Core.Logic.{_⊎_, inr, _≢_}
 use Prim.Native.Nat.{ℕ, _<_}
 use native.Mathlib.Omega.{arith}
-use lib.Dec.{eqb}
 use borrow.Author.Tests.{ne-eqb}
 use Rattle.algebra.specs.Ops as Ops
 use Rattle.algebra.specs.Ops.{Ops}
@@ -15,10 +14,9 @@ use Rattle.definitions.specs.Rq.{Element}
 use Rattle.definitions.specs.Ring.{RqOps}
 use Rattle.definitions.proofs.RqRing.{rq-ring}
 use Rattle.protocol.specs.Parameters.{Parameters, parameters}
-use Rattle.protocol.specs.Views.{Public, Message, public}
 use Rattle.protocol.specs.Formulas.{_⊕_, _⊗_, sum, dot}
-use Rattle.binding.specs.Openings.{nil, Same-t-g, Same-h}
-use Rattle.extraction.specs.Fork.{Branch, values, message-of, z-of, challenge-of, _⊖_, Node, base, first, second, mixed, Used, changed, c, x, y, Fork, Gives-away}
+use Rattle.binding.specs.Openings.{nil}
+use Rattle.extraction.specs.Fork.{message-of, challenge-of, _⊖_, Node, base, first, second, mixed, Used, changed, c, x, y, Fork, Gives-away}
 use Rattle.extraction.proofs.Steps.{step, one-at, dot-step, dot-one-at}
 use Rattle.extraction.proofs.Places.{step-none, step-first, step-second, one-changed}
 use Rattle.extraction.proofs.Search.{or-else}
@@ -119,7 +117,8 @@ module _ {J : List ℕ} (F : Fork J) where
   unfolding Ops.dot
   A-after v i j δ ε h l alike moved k below =
       t-holds (F .branch v) k below
-      ∙ sum-ext RqOps r (λ a. message-of (F .branch v) .t a k ⊗ challenge-of (F .branch v) a) (λ a. first-t a k ⊗ step RqOps C (one-at RqOps i) (one-at RqOps j) δ ε a) (λ a q. ap₂ _⊗_ (alike .of-t a k q below) (moved a q))
+      ∙ sum-ext RqOps r (λ a. message-of (F .branch v) .t a k ⊗ challenge-of (F .branch v) a) (λ a. first-t a k ⊗ step RqOps C (one-at RqOps i) (one-at RqOps j) δ ε a)
+      (λ a q. ap₂ _⊗_ (alike .of-t a k q below) (moved a q))
       ∙ dot-step RqOps rq-ring r (λ a. first-t a k) (one-at RqOps i) (one-at RqOps j) C (one-at RqOps i) (one-at RqOps j) δ ε
       ∙ ap₂ (λ p q. sum r (λ a. first-t a k ⊗ C a) ⊕ δ ⊗ p ⊕ ε ⊗ q) (dot-one-at RqOps rq-ring r i (λ a. first-t a k) h) (dot-one-at RqOps rq-ring r j (λ a. first-t a k) l)
 
@@ -141,7 +140,9 @@ module _ {J : List ℕ} (F : Fork J) where
   difference-mixed i j h l both one other k below =
       ap₂ _⊕_
       (ap₂ (λ p q. p ⊖ q)
-      (ap₂ (λ p q. p ⊖ q) (A-after (mixed i j) i j (dx i) (dx j) (omega arith) l both (moved-mixed i j h l) k below) (A-after (first i) i j (dx i) nil (omega arith) l one (moved-first i j (omega arith)) k below))
+      (ap₂ (λ p q. p ⊖ q)
+      (A-after (mixed i j) i j (dx i) (dx j) (omega arith) l both (moved-mixed i j h l) k below)
+      (A-after (first i) i j (dx i) nil (omega arith) l one (moved-first i j (omega arith)) k below))
       (A-after (first j) i j nil (dx j) (omega arith) l other (moved-other i j l) k below))
       (A-after base i j nil nil (omega arith) l like-base (moved-base i j) k below)
       ∙ no-mixed-difference RqOps rq-ring (sum r (λ a. first-t a k ⊗ C a)) (first-t i k) (first-t j k) (dx i) (dx j)

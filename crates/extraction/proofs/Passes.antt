@@ -14,7 +14,7 @@ use Rattle.protocol.proofs.Fine.{required, failed-not-fine}
 use Rattle.protocol.proofs.First.{first-each}
 use Rattle.protocol.proofs.Acceptance.{Passed}
 use Rattle.binding.proofs.Binding.{found}
-use Rattle.extraction.specs.Fork.{Branch, values, message-of, z-of, challenge-of}
+use Rattle.extraction.specs.Fork.{Branch, values, message-of}
 
 module _ {J : List ℕ} (X : Branch J) where
   open Parameters (parameters J) using (n, r, κ)

@@ -1,13 +1,12 @@
 -- Challenges and vectors of a fork's transcripts, as steps from those of its first.
 use mathlib.Core.Path.{_≡_, sym, ap, ap₂, _∙_}
 use mathlib.Core.Bool.{cond}
-use mathlib.Core.Logic.{_≢_}
-use Prim.Native.Nat.{ℕ, _<_}
+use Prim.Native.Nat.{ℕ}
 use native.Mathlib.Decide.{ℕ-discrete}
 use lib.Dec.{eqb}
 use borrow.Author.Tests.{eq-eqb, ne-eqb}
 use Rattle.algebra.specs.Ops.{Ops}
-use Rattle.algebra.proofs.Ring.{CRing, ring, add-left-comm, add-neg-cancel, add-neg, add-nil, add-comm, one-mul, eq-of-sub-nil}
+use Rattle.algebra.proofs.Ring.{CRing, ring, add-left-comm, add-neg, add-nil, one-mul, eq-of-sub-nil}
 use Rattle.extraction.proofs.Steps.{step, one-at}
 
 module _ (O : Ops) (R : CRing O) where

@@ -1,15 +1,13 @@
 -- Second differences of bilinear forms in a commutative ring: what follows where two forms agree at several steps from one place.
 use mathlib.Core.Path.{_≡_, sym, ap, ap₂, _∙_}
 use mathlib.Core.Bool.{cond}
-use mathlib.Core.Logic.{_≢_}
 use Prim.Native.Nat.{ℕ, _<_}
 use lib.Dec.{eqb}
 use borrow.Author.Tests.{eq-eqb, ne-eqb}
-use Rattle.algebra.specs.Ops.{Ops, sum, dot, pairs}
-use Rattle.algebra.proofs.Ring.{CRing, ring, add-cancel-left, add-cancel-right, mul-nil, one-mul, mul-assoc}
-use Rattle.algebra.proofs.Sum.{sum-ext, sum-single, sum-mul-left, sum-mul-right}
-use Rattle.algebra.proofs.Dot.{dot-ext, dot-add-left, dot-add-right, dot-mul-left, dot-mul-right}
-use Rattle.algebra.proofs.Form.{pairs-ext}
+use Rattle.algebra.specs.Ops.{Ops, dot}
+use Rattle.algebra.proofs.Ring.{CRing, ring, add-cancel-left, mul-nil, one-mul, mul-assoc}
+use Rattle.algebra.proofs.Sum.{sum-single}
+use Rattle.algebra.proofs.Dot.{dot-add-left, dot-add-right, dot-mul-left, dot-mul-right}
 use Rattle.soundness.specs.Weights.{IsUnit}
 
 -- f with δ·f₁ and ε·f₂ added

@@ -53,7 +53,7 @@ module _ {J : List ℕ} (T : Tree J) where
     root-row = row-of root beta (record {}) (record {}) (T .at-beta)
 
     -- they are a witness
-    all-met : Witness T
+    pub all-met : Witness T
     all-met = record {
       meets = record {
         constants = λ x h. constant-met (at root) (at (psi x)) s (T .row) (T .row-below) root-row (row-of (psi x) (psi-beta x) h h (T .at-psi-beta x h)) x h (T .at-psi x h);

@@ -1,3 +1,4 @@
 pub mod Fork
 pub mod Extracted
 pub mod Tree
+pub mod Honest

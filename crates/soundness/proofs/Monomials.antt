@@ -74,7 +74,7 @@ power-hom i j =
         ∙ ap ones (Nat.add-assoc k i j)
 
 -- 2 is a unit: Q is odd, and its inverse is (Q + 1) / 2
-two-unit : IsUnit RqOps (RqOps .add (RqOps .one) (RqOps .one))
+pub two-unit : IsUnit RqOps (RqOps .add (RqOps .one) (RqOps .one))
 two-unit = (
   scalar ((Q + 1) / 2),
   ap (λ x. RqOps .mul x (scalar ((Q + 1) / 2))) (sym (scalar-add 1 1)) ∙ sym (scalar-mul 2 ((Q + 1) / 2)) ∙ scalar-mod (2 * ((Q + 1) / 2)) 1 half-Q,
@@ -147,7 +147,7 @@ powers-unit m n h k p q d = go (decLt m n)
     go (yes l) = less m n k p l
     go (no l) = unit-swap RqOps rq-ring (inverse-power n) (inverse-power m) (less n m h q (omega arith))
 
-shift-unit : (m : ℕ) → m < 128 → IsUnit RqOps (shift (suc m))
+pub shift-unit : (m : ℕ) → m < 128 → IsUnit RqOps (shift (suc m))
 shift-unit m h = subst (IsUnit RqOps) (sym (shift-power m h)) (power-unit RqOps rq-ring inverse-power power-start power-hom power-half two-unit (128 - m) (omega arith))
 
 -- T3: the difference of two of the 129 elements is a unit

@@ -1,3 +1,4 @@
 mod Rows
 mod Whole
 pub mod Openings
+pub mod Forks

@@ -12,7 +12,7 @@ use Rattle.protocol.proofs.Acceptance.{many-no}
 use Rattle.call_answers.specs.declared.verdicts.LabradorVerdict.{LabradorVerdict}
 use Rattle.call_answers.specs.Calls.{labradorVerdict, failedCheck}
 use Rattle.binding.specs.Openings.{opening-1, opening-2, Equal-u1, Equal-u2, Given-away-1, Given-away-2}
-use Rattle.binding.proofs.Many.{part, binding-1-of-parts, binding-2-of-parts}
+use Rattle.binding.proofs.Many.{part, zero-part, binding-1-of-parts, binding-2-of-parts}
 use Rattle.verify_many.specs.declared.answers.LabradorVerdicts.{LabradorVerdicts}
 use Rattle.many_verdicts.specs.Windows.{unused, verdicts-of}
 use Rattle.verify_many.specs.Answers.{manyVerdicts}
@@ -38,21 +38,29 @@ module _ (J : List ℕ) (count : ℕ) (R T scratch : List ℕ) (x : LabradorVerd
       let e = many-no J count (length scratch) .numbered (sym (ap (λ (x : LabradorVerdicts). x .number) is) ∙ whole) in
       ap (λ (x : LabradorVerdicts). x .verdicts) is ∙ ap (λ a. result a (verdicts-of J count R T) (replicate 8 (failedCheck 0 0 0 0))) e
 
-  -- one of them with the number 0 is that of a transcript, with the number 0
-  zero-of : (m : ℕ) → m < 8 → verdict-at x m .number ≡ 0 → number (part-verdict J count R T m) ≡ 0
-  zero-of m h e = by (decLt m count)
+  -- one of them with the number 0 is that of a transcript
+  verdict-is : (m : ℕ) → m < 8 → verdict-at x m .number ≡ 0 → verdict-at x m ≡ labradorVerdict (part-verdict J count R T m)
+  verdict-is m h e = by (decLt m count)
     where
-      at : (v : LabradorVerdict) → verdict-at x m ≡ v → v .number ≡ 0
-      at v same = sym (ap (λ (v : LabradorVerdict). v .number) same) ∙ e
+      f : ℕ → LabradorVerdict
+      f m = labradorVerdict (part-verdict J count R T m)
 
-      by : Dec (m < count) → number (part-verdict J count R T m) ≡ 0
-      by (yes l) =
-          let f : ℕ → LabradorVerdict = λ m. labradorVerdict (part-verdict J count R T m) in
-          sym (same-number (part-verdict J count R T m)) ∙ at (f m) (ap (λ l. getD l m unused) verdicts-are ∙ padded-below 8 unused f count m h l)
+      by : Dec (m < count) → verdict-at x m ≡ f m
+      by (yes l) = ap (λ l. getD l m unused) verdicts-are ∙ padded-below 8 unused f count m h l
       by (no l) =
-          let f : ℕ → LabradorVerdict = λ m. labradorVerdict (part-verdict J count R T m) in
-          let z : _≡_ {A = ℕ} 4294967295 0 = at unused (ap (λ l. getD l m unused) verdicts-are ∙ padded-past 8 unused f count m h (omega arith)) in
+          let past : verdict-at x m ≡ unused = ap (λ l. getD l m unused) verdicts-are ∙ padded-past 8 unused f count m h (omega arith) in
+          let z : _≡_ {A = ℕ} 4294967295 0 = sym (ap (λ (v : LabradorVerdict). v .number) past) ∙ e in
           absurd (omega arith)
+
+  -- with the number 0
+  zero-of : (m : ℕ) → m < 8 → verdict-at x m .number ≡ 0 → number (part-verdict J count R T m) ≡ 0
+  zero-of m h e = sym (same-number (part-verdict J count R T m)) ∙ sym (ap (λ (v : LabradorVerdict). v .number) (verdict-is m h e)) ∙ e
+
+  -- and where no cell is left, it is an acceptance without one
+  pub none-left-of : (m : ℕ) → m < 8 → verdict-at x m .number ≡ 0 → verdict-at x m .«cells_left» ≡ 0 → part-verdict J count R T m ≡ accepted 0
+  none-left-of m h e none =
+      let found = zero-part J count R T m (zero-of m h e) in
+      found .1 ∙ ap accepted (sym (ap (λ (v : LabradorVerdict). v .«cells_left») (verdict-is m h e ∙ ap labradorVerdict (found .1))) ∙ none)
 
   module _ (i j : ℕ) (h : i < 8) (k : j < 8) (e : verdict-at x i .number ≡ 0) (f : verdict-at x j .number ≡ 0) where
     pub binding-1-over-many : Equal-u1 J (part J count R T i) (part J count R T j) → (opening-1 J (part J count R T i) ≡ opening-1 J (part J count R T j) → ⊥) → Given-away-1 J (part J count R T i) (part J count R T j)

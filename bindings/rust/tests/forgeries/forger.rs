@@ -25,7 +25,7 @@ pub struct Forger<'a> {
     /// ε_k, by which the b''_k that is sent is off.
     changes: Vec<Element>,
     /// D, by which the aggregated b is off.
-    error: Element,
+    pub error: Element,
     /// What is sent as h.
     h: Vec<Element>,
 }
@@ -101,6 +101,12 @@ impl<'a> Forger<'a> {
         let other = challenges.get(1).copied().unwrap_or(Element::ZERO);
         mul(&self.error, &mul(&challenges[0], &sub(&challenges[0], &other)))
     }
+
+    /// A transcript is accepted exactly where the form of the challenges is zero, and else 26 fails.
+    pub fn hold_verdict(&self, challenges: &[Element], verdict: &Verdict) {
+        let expected = if self.form(challenges) == Element::ZERO { 0 } else { 26 };
+        assert_eq!(verdict.number(), expected, "{verdict}");
+    }
 }
 
 impl Prover for Forger<'_> {
@@ -132,15 +138,14 @@ pub struct Judged {
     pub challenges: Vec<Element>,
 }
 
-/// A session with honest randomness. It is accepted exactly where the form of the challenges is zero, and else 26 fails.
+/// A session with honest randomness, its verdict held.
 pub fn judged(statement: &Statement, slot: &Slot, p_modulus: Option<u32>, desk: &mut Words) -> Judged {
     let mut forger = Forger::new(statement, slot, p_modulus);
     let session = session(&statement.parameters, desk, &mut forger);
     let verdict = verify(&statement.job, &session.randomness, &session.transcript);
     let drawn = split(&session.randomness);
     let challenges = challenges(drawn[5], drawn[6]);
-    let expected = if forger.form(&challenges) == Element::ZERO { 0 } else { 26 };
-    assert_eq!(verdict.number(), expected, "{verdict}");
+    forger.hold_verdict(&challenges, &verdict);
     Judged { verdict, error: forger.error, challenges, session }
 }
 

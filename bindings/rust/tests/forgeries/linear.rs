@@ -2,7 +2,8 @@
 
 use labrador::{Element, Q};
 
-use crate::modular::inverse;
+use crate::modular::{inverse, primes};
+use crate::ring::{mul, ONE};
 
 /// u with Σ_m rows[k][m]·u_m = right[k] for each k, modulo a prime; nothing where elimination finds none.
 pub fn solve(rows: &[Vec<Element>], right: &[Element], prime: u64) -> Option<Vec<Element>> {
@@ -50,6 +51,19 @@ fn eliminate(equations: &mut [Vec<u64>], unknowns: usize, prime: u64) -> Vec<usi
         pivots.push(column);
     }
     pivots
+}
+
+/// The inverse of an element modulo a prime, where it has one.
+pub fn inverse_modulo(a: &Element, prime: u64) -> Option<Element> {
+    solve(&[vec![*a]], &[ONE], prime).map(|solution| solution[0])
+}
+
+/// The inverse of an element, where it is a unit.
+pub fn inverse_of(a: &Element) -> Option<Element> {
+    let modulo = |prime| Some((prime, vec![inverse_modulo(a, prime)?]));
+    let inverse = joined(&primes().into_iter().map(modulo).collect::<Option<Vec<_>>>()?)[0];
+    assert_eq!(mul(a, &inverse), ONE);
+    Some(inverse)
 }
 
 /// The elements modulo Q that have these residues modulo its primes.

@@ -55,7 +55,7 @@ fn two_rows_of_a() {
 }
 
 /// A statement with a total that no witness within its limits has, whose limit of check 23 is a tenth above an honest transcript's.
-fn limited(p: &Parameters, words: &mut Words) -> Statement {
+pub fn limited(p: &Parameters, words: &mut Words) -> Statement {
     let witness = (0..p.r * p.n).map(|_| words.within(1)).collect();
     let mut statement = Statement::met(p, witness, words);
     let honest = statement.bound("beta_prime_sq") / 2;

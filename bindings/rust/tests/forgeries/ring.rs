@@ -5,6 +5,12 @@ use labrador::{ChallengeWords, Element, Zq, Q};
 
 const CANONICAL: &str = "canonical words";
 
+pub const ONE: Element = {
+    let mut one = Element::ZERO;
+    one.coeffs[0] = 1;
+    one
+};
+
 pub fn add(a: &Element, b: &Element) -> Element {
     a.add(b).expect(CANONICAL)
 }
@@ -32,6 +38,17 @@ pub fn dot(a: &[Element], b: &[Element]) -> Element {
     a.iter().zip(b).fold(Element::ZERO, |sum, (a, b)| add(&sum, &mul(a, b)))
 }
 
+/// a - b, element by element.
+pub fn sub_each(a: &[Element], b: &[Element]) -> Vec<Element> {
+    assert_eq!(a.len(), b.len());
+    a.iter().zip(b).map(|(a, b)| sub(a, b)).collect()
+}
+
+/// c times each element.
+pub fn mul_each(c: &Element, a: &[Element]) -> Vec<Element> {
+    a.iter().map(|a| mul(c, a)).collect()
+}
+
 /// The sum of products of numbers modulo Q.
 pub fn number_dot(a: &[u32], b: &[u32]) -> u32 {
     assert_eq!(a.len(), b.len());
@@ -43,6 +60,12 @@ pub fn number_dot(a: &[u32], b: &[u32]) -> u32 {
 pub fn mirrored(cells: &[Element], r: usize, of: impl Fn(usize, usize) -> Element) -> Element {
     let pairs = (0..r).flat_map(|i| (0..r).map(move |j| (i, j)));
     pairs.fold(Element::ZERO, |sum, (i, j)| add(&sum, &mul(&cells[cell(i, j)], &of(i, j))))
+}
+
+/// Σ a_ij·⟨s_i,s_j⟩ + Σ⟨φ_i,s_i⟩ of r vectors, one after the other.
+pub fn left_side(a: &[Element], phi: &[Element], r: usize, vectors: &[Element]) -> Element {
+    let s: Vec<&[Element]> = vectors.chunks_exact(vectors.len() / r).collect();
+    add(&mirrored(a, r, |i, j| dot(s[i], s[j])), &dot(phi, vectors))
 }
 
 /// Where a triangle has cell (i, j) or (j, i).

@@ -6,7 +6,7 @@ use labrador::sections::words_of;
 use labrador::{prove, Element, Parameters, Slice, Zq};
 
 use crate::common::{begin, set_bound};
-use crate::ring::{add, dot, mirrored, section, to_elements, to_words};
+use crate::ring::{left_side, section, to_elements, to_words};
 use crate::sessions;
 use crate::words::Words;
 
@@ -57,7 +57,7 @@ impl Statement {
     }
 
     /// Sets the limits: bound_A is the longest vector's norm, beta_sq twice the witness's, the others twice what one honest transcript has.
-    fn limit(&mut self, words: &mut Words) {
+    pub fn limit(&mut self, words: &mut Words) {
         let randomness = sessions::drawn(&self.parameters, words);
         let transcript = prove(&self.job, &randomness, &self.witness_slice()).expect("no bound is in the way");
         let one = SectionOne::read(&self.job).expect("a fit job");
@@ -107,10 +107,9 @@ impl Statement {
 
     /// The left side of each constraint of a kind: Σ a_ij·⟨s_i,s_j⟩ + Σ⟨φ_i,s_i⟩.
     pub fn left_sides(&self, a: &str, phi: &str) -> Vec<Element> {
-        let s: Vec<&[Element]> = self.vectors().collect();
         let (a, phi) = (self.elements(a), self.elements(phi));
         let each = a.chunks_exact(self.parameters.triangle() as usize).zip(phi.chunks_exact(self.witness.len()));
-        let left = |(a, phi)| add(&mirrored(a, s.len(), |i, j| dot(s[i], s[j])), &dot(phi, &self.witness));
+        let left = |(a, phi)| left_side(a, phi, self.parameters.r as usize, &self.witness);
         each.map(left).collect()
     }
 

@@ -7,7 +7,7 @@ use crate::slot::Slot;
 use crate::statement::{Statement, SMALLEST};
 use crate::words::Words;
 
-fn statement(slot: &Slot, p: &Parameters, words: &mut Words) -> Statement {
+pub fn statement(slot: &Slot, p: &Parameters, words: &mut Words) -> Statement {
     let witness = (0..p.r * p.n).map(|_| words.within(1)).collect();
     let mut statement = Statement::met(p, witness, words);
     statement.claim(Q / slot.prime * (1 + words.below(slot.prime - 1)));
