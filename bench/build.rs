@@ -1,16 +1,24 @@
-//! Links the archive of the fast inner products, which KEPT_CALLS_ARCHIVE names; where it is not named their rows are left out.
+//! Links the archives of the fast inner products and of the build over the prime, which KEPT_CALLS_ARCHIVE and PRIME_CALLS_ARCHIVE name; where one is not named its
+//! rows are left out.
 
 use std::path::Path;
 
+/// Links the archive that a variable names, and sets a word for it.
+fn link(variable: &str, word: &str) {
+    println!("cargo:rustc-check-cfg=cfg({word})");
+    println!("cargo:rerun-if-env-changed={variable}");
+    let Ok(archive) = std::env::var(variable) else {
+        return;
+    };
+    println!("cargo:rerun-if-changed={archive}");
+    let path = Path::new(&archive);
+    let name = path.file_name().and_then(|n| n.to_str()).expect("a file name");
+    println!("cargo:rustc-link-search=native={}", path.parent().expect("a folder").display());
+    println!("cargo:rustc-link-lib=static:+verbatim={name}");
+    println!("cargo:rustc-cfg={word}");
+}
+
 fn main() {
-    println!("cargo:rustc-check-cfg=cfg(kept_calls)");
-    println!("cargo:rerun-if-env-changed=KEPT_CALLS_ARCHIVE");
-    if let Ok(archive) = std::env::var("KEPT_CALLS_ARCHIVE") {
-        println!("cargo:rerun-if-changed={archive}");
-        let path = Path::new(&archive);
-        let name = path.file_name().and_then(|n| n.to_str()).expect("a file name");
-        println!("cargo:rustc-link-search=native={}", path.parent().expect("a folder").display());
-        println!("cargo:rustc-link-lib=static:+verbatim={name}");
-        println!("cargo:rustc-cfg=kept_calls");
-    }
+    link("KEPT_CALLS_ARCHIVE", "kept_calls");
+    link("PRIME_CALLS_ARCHIVE", "prime");
 }

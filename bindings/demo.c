@@ -8,7 +8,7 @@
 
 #include "labrador.h"
 
-#define Q 4294967295u
+#define Q LABRADOR_Q
 
 /* n elements a vector, r vectors, kappa rows of A, L aggregated equations; LINES lines of stock a vector, of which the first STORED are in use */
 enum { N = 4, R = 3, T = R * (R + 1) / 2, TOTALS = 4, KAPPA = 5, L = 5, KAPPA_1 = 4, KAPPA_2 = 4, PARTS = 4 };
@@ -30,8 +30,9 @@ static const uint32_t bounds[6] = {2079478, 39666743, 605242, 23659721, 4695543,
 static const uint8_t seed[33] = "labrador: three sheds, one total";
 static const uint32_t totals[TOTALS] = {9860, 9900, 9880, 38083};
 
-/* SHA-256 of the job's bytes, four a word, the least first: `labrador statement` makes the same job of the same statement. */
-static const char job_digest[] = "2af9329c82049925f4959be028bdc9d4c4b6dc5bc45084cb7b3373bc065a2386";
+/* SHA-256 of the job's bytes, four a word, the least first, over 2^32 - 1 and over the prime: `labrador statement` makes the same job of the same statement. */
+static const char *const job_digest = Q == UINT32_MAX ? "2af9329c82049925f4959be028bdc9d4c4b6dc5bc45084cb7b3373bc065a2386"
+                                                      : "c7f9c5322564783ff2412dea10982e9136716a5f92f6e528f4f7a617383fce7a";
 
 static uint32_t job[MOST], witness[MOST], scratch[TRANSCRIPTS * MOST], randomness[TRANSCRIPTS * MOST], transcripts[TRANSCRIPTS * MOST], joined[MOST];
 static size_t job_length, randomness_length, witness_length, transcript_length, scratch_length, phi, b_0, ends[8];
@@ -180,7 +181,7 @@ static void tell_statement(void) {
     sha256(bytes, 4 * job_length, digest);
     free(bytes);
     for (int k = 0; k < 32; k++) snprintf(hex + 2 * k, 3, "%02x", digest[k]);
-    printf("three sheds of %d lines state to a lender, in grams:\n", LINES);
+    printf("three sheds of %d lines state to a lender, in grams, modulo %" PRIu32 ":\n", LINES, Q);
     for (size_t k = 0; k < sizeof statement / sizeof *statement; k++)
         if (strncmp(statement[k], "total", 5) == 0) printf("  %s\n", statement[k]);
     printf("job %zu words, SHA-256 %.16s…; the matrices A to D are those of the seed\n", job_length, hex);
@@ -341,6 +342,10 @@ static void damage_each(void) {
 }
 
 int main(void) {
+    if (labrador_zq_neg(1).value != Q - 1) {
+        printf("the header and the archive are of two moduli\n");
+        return EXIT_FAILURE;
+    }
     write_job();
     write_witness();
     for (int k = 0; k < TRANSCRIPTS; k++) draw(k);

@@ -7,7 +7,8 @@
 
 #include "labrador.h"
 
-#define Q 4294967295u
+#define Q LABRADOR_Q
+#define HALF (Q / 2)
 
 /* The slices. Each stands in memory of its own between two unreadable pages; inputs cannot be written there. */
 enum {

@@ -36,7 +36,7 @@ int one_in(uint32_t count) { return below(count) == 0; }
 
 /* Any word, those at an edge more often. */
 uint32_t draw_word(void) {
-    static const uint32_t edges[] = {0, 1, 2, 31, 32, 33, 64, 65, 1073741823, 1073741824, 2147483647, 2147483648, Q - 2, Q - 1, Q, Q};
+    static const uint32_t edges[] = {0, 1, 2, 31, 32, 33, 64, 65, 1073741823, 1073741824, 2147483647, 2147483648, Q - 2, Q - 1, Q, UINT32_MAX};
     return one_in(2) ? edges[below(sizeof edges / sizeof *edges)] : draw();
 }
 
@@ -63,7 +63,7 @@ uint32_t *stage(int s) {
 }
 
 static void put_word(uint32_t *at) {
-    static const uint32_t steps[] = {1, Q, 2, 1u << 31};
+    static const uint32_t steps[] = {1, UINT32_MAX, 2, 1u << 31};
     *at = one_in(2) ? draw_word() : *at + steps[below(4)];
 }
 

@@ -11,10 +11,10 @@ static void draw_operands(size_t from, size_t count) {
     int at_edges = one_in(4);
     for (size_t k = from; k < operand_count; k++) {
         uint32_t word = at_edges ? draw_word() : draw();
-        operands[k] = word == Q ? Q - 1 - below(2) : word;
+        operands[k] = word >= Q ? Q - 1 - below(2) : word;
     }
     if (one_in(4)) operands[from + below((uint32_t)count)] = Q;
-    if (one_in(8)) operands[from + below((uint32_t)count)] = Q;
+    if (one_in(8)) operands[from + below((uint32_t)count)] = UINT32_MAX;
 }
 
 void draw_word_operand(void) { draw_operands(0, 1); }
@@ -102,9 +102,9 @@ static const char *judged(const answer *a, uint64_t most) {
 const char *judge_words(const answer *a) { return judged(a, Q - 1); }
 
 const char *judge_centre(const answer *a) {
-    if (operands[0] == Q) return refused(a, 6, 0);
+    if (operands[0] >= Q) return refused(a, 6, 0);
     int64_t centre = (int64_t)a->values[0];
-    return a->number == 0 && a->place == 0 && centre >= -2147483647 && centre <= 2147483647 ? NULL : "no centre";
+    return a->number == 0 && a->place == 0 && centre >= -(int64_t)HALF && centre <= (int64_t)HALF ? NULL : "no centre";
 }
 
 /* 64 squares are below 2^68. */

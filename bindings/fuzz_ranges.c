@@ -4,19 +4,20 @@
 #include "fuzz.h"
 
 enum { PAIRS = 8192 };
+static const int64_t half = HALF;
 static int64_t lows[PAIRS], highs[PAIRS];
 
 /* So many pairs, now and then one of them crossed or beyond the numbers allowed. */
 static void draw_pairs(size_t count) {
-    static const int64_t beyond[] = {INT64_MIN, INT64_MAX, -2147483648, 2147483648, -4294967295, 4294967296};
-    uint32_t width = one_in(2) ? 3 : 2147483647;
+    static const int64_t beyond[] = {INT64_MIN, INT64_MAX, -(int64_t)HALF - 1, (int64_t)HALF + 1, -4294967295, 4294967296};
+    uint32_t width = one_in(2) ? 3 : HALF;
     for (size_t k = 0; k < count; k++) {
         lows[k] = (int64_t)below(width) - (one_in(2) ? width : 0);
-        highs[k] = lows[k] + (one_in(4) ? 0 : below((uint32_t)(2147483648 - (lows[k] > 0 ? lows[k] : 0))));
+        highs[k] = lows[k] + (one_in(4) ? 0 : below((uint32_t)(half + 1 - (lows[k] > 0 ? lows[k] : 0))));
     }
     if (count == 0) return;
-    if (one_in(4)) lows[below((uint32_t)count)] = 2147483647;
-    if (one_in(4)) highs[below((uint32_t)count)] = -2147483647;
+    if (one_in(4)) lows[below((uint32_t)count)] = half;
+    if (one_in(4)) highs[below((uint32_t)count)] = -half;
     if (one_in(8)) (one_in(2) ? lows : highs)[below((uint32_t)count)] = beyond[below(6)];
 }
 
@@ -47,7 +48,7 @@ static int pair_is_wrong(const answer *a) {
     int64_t low, high;
     memcpy(&low, slices[LOWS].words + 2 * a->place, sizeof low);
     memcpy(&high, slices[HIGHS].words + 2 * a->place, sizeof high);
-    int beyond = low < -2147483647 || low > 2147483647 || high < -2147483647 || high > 2147483647;
+    int beyond = low < -half || low > half || high < -half || high > half;
     return a->number == 37 ? beyond : low > high && !beyond;
 }
 

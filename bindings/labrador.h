@@ -1,4 +1,4 @@
-/* The calls of liblabrador.a: on numbers modulo Q = 4294967295, ring elements modulo X^64 + 1 and challenges, and on whole slices of
+/* The calls of liblabrador.a: on numbers modulo Q (LABRADOR_Q below), ring elements modulo X^64 + 1 and challenges, and on whole slices of
    words (prove, its five rounds, verify).
    An answer begins with a refusal's number, 0 where nothing is refused, and the refusal's place among the operands' words.
    On a refusal the result is zero. A word at or above Q is refused with 6. */
@@ -7,6 +7,12 @@
 
 #include <stddef.h>
 #include <stdint.h>
+
+/* The modulus of the archive that is linked: labrador_zq_neg(1) is LABRADOR_Q - 1. `./install --prime` installs the archive of 4294967197, under other
+   names and with a header that says so. Both export the same calls: a program links one of them. */
+#ifndef LABRADOR_Q
+#define LABRADOR_Q 4294967295u
+#endif
 
 #ifdef __cplusplus
 extern "C" {
@@ -72,20 +78,20 @@ labrador_word_answer labrador_zq_mul(uint32_t a, uint32_t b);
 /* -a */
 labrador_word_answer labrador_zq_neg(uint32_t a);
 
-/* The centre of a: a itself up to 2147483647, above that a - Q. */
+/* The centre of a: a itself up to (Q - 1) / 2, above that a - Q. */
 labrador_centre_answer labrador_zq_centre(uint32_t a);
 
 /* The digits of a, lowest first, in 32 places, and the size left over when the parts are used up, without sign. A base outside 2 to
-   4294967294 is refused with 4 at place 0, a number of parts outside 1 to 32 with 4 at place 1; a is place 2. */
+   Q - 1 is refused with 4 at place 0, a number of parts outside 1 to 32 with 4 at place 1; a is place 2. */
 labrador_digits_answer labrador_zq_digits(uint32_t base, uint32_t parts, uint32_t a);
 
 /* The value of digits, lowest first: the sum of digits[i] * base^i. Of the digits of a value it is that value exactly when nothing was
-   left after them. A base outside 2 to 4294967294 is refused with 31 at place 0, a length outside 1 to 32 with 31 at place 1, and the digits
+   left after them. A base outside 2 to Q - 1 is refused with 31 at place 0, a length outside 1 to 32 with 31 at place 1, and the digits
    are not read then; digits[i] is place 2 + i. digits is not null. */
 labrador_word_answer labrador_recompose(uint32_t base, const uint32_t *digits, size_t length);
 
-/* The smallest number of parts that leaves nothing of any value: 31 for base 2, 21 for base 3, 1 for base 4294967294. A base outside 2 to
-   4294967294 is refused with 31 at place 0. */
+/* The smallest number of parts that leaves nothing of any value: 31 for base 2, 21 for base 3, 1 for base Q - 1. A base outside 2 to
+   Q - 1 is refused with 31 at place 0. */
 labrador_word_answer labrador_parts_needed(uint32_t base);
 
 /* The projection's entry that a word stands for: Q - 1 for -1, 1 or 0. */
@@ -237,13 +243,13 @@ labrador_answer labrador_shed_rows(const uint32_t *job, size_t job_length, uint3
 labrador_answer labrador_add_projections(const uint32_t *p, size_t p_length, const uint32_t *other, size_t other_length, uint32_t *output,
                                          size_t output_length);
 
-/* The verdict on a transcript. One acceptance leaves a false statement a chance of at least 1 in 81 (L 4) or 1 in 86 (larger L), and is worth nothing where
+/* The verdict on a transcript. With Q = 4294967295 one acceptance leaves a false statement a chance of at least 1 in 81 (L 4) or 1 in 86 (larger L); with either Q it is worth nothing where
    the sender could know or choose the randomness, or hashed it from the one transcript: ask for eight or more, and see docs/SOUNDNESS.md. */
 labrador_verdict labrador_verify(const uint32_t *job, size_t job_length, const uint32_t *randomness, size_t randomness_length,
                                  const uint32_t *transcript, size_t transcript_length, uint32_t *scratch,
                                  size_t scratch_length);
 
-/* The number of a verdict that is unused. */
+/* The number of a verdict that is unused, whatever Q is. */
 #define LABRADOR_UNUSED 4294967295u
 
 /* number 0: eight verdicts are given; those past the number of transcripts have the number LABRADOR_UNUSED and zeros. Else the refusal of the whole
@@ -260,8 +266,8 @@ typedef struct {
    call is refused by 35 for a count outside 1 to 8 (place 0), before any other test; then by the job's refusals; then by 1 for scratch shorter than
    count * labrador_scratch_need words (place: that length). Where eight verdicts are given the scratch is zero to there, also where every transcript is
    refused; a refusal of the whole call touches nothing.
-   All accepted, each with randomness that the desk drew for it and none tried again, N of them leave a false statement the N-th power of one's chance: eight
-   about 1 in 2^50, eleven (L 4) or ten less than 1 in 2^64. */
+   All accepted, each with randomness that the desk drew for it and none tried again, N of them leave a false statement the N-th power of one's chance: with
+   Q = 4294967295 eight about 1 in 2^50, eleven (L 4) or ten less than 1 in 2^64. */
 labrador_verdicts labrador_verify_many(const uint32_t *job, size_t job_length, uint32_t count, const uint32_t *randomness, size_t randomness_length,
                                        const uint32_t *transcripts, size_t transcripts_length, uint32_t *scratch, size_t scratch_length);
 
@@ -274,7 +280,7 @@ typedef struct {
 
 /* Which constant was mistyped. Where labrador_verify gives 22, the list's first 2 * l words hold, for each index of b0 at which adding one number
    alone would let check 22 pass, the index from 0 and the number of smallest centred size that does, as a word below Q; then zeros. Smallest size
-   comes first; of equal sizes negative numbers (above 2147483647) first, then lower indexes. Other checks are not judged. Refused: as labrador_verify is, 14 to 16 too, with 2 right after 1 for a list
+   comes first; of equal sizes negative numbers (above (Q - 1) / 2) first, then lower indexes. Other checks are not judged. Refused: as labrador_verify is, 14 to 16 too, with 2 right after 1 for a list
    shorter than 2 * l (place: 2 * l); 32 where the verdict is no refusal and no 22; 33 where the list would be empty (place 0 of both). Where the work is
    reached the scratch is zero to the length needed, and where it ends without a list the first 2 * l words are zero. Words beyond stay, and a
    refusal before the work touches nothing. */
@@ -301,7 +307,7 @@ typedef struct {
 
 /* A witness known within ranges: 64 * r * n lows and as many highs without counts, centred numbers in the witness's order, of which a choice takes
    one from each low to its high. Refused: the job's refusals; 11 another number of lows, then of highs (place: the length where it is shorter, else
-   64 * r * n); 37 a number beyond +-2147483647, over all pairs, then 36 a low above its high (place: the pair's index). */
+   64 * r * n); 37 a number beyond +-(Q - 1) / 2, over all pairs, then 36 a low above its high (place: the pair's index). */
 labrador_ranges_answer labrador_ranges(const uint32_t *job, size_t job_length, const int64_t *lows, size_t lows_length,
                                        const int64_t *highs, size_t highs_length);
 

@@ -5,8 +5,15 @@
 
 #include "labrador.h"
 
-#define Q 4294967295u
+#define Q LABRADOR_Q
+#define HALF (Q / 2)
 #define NEG(n) (Q - (n))
+
+/* 2^32 modulo Q */
+#define LACK (UINT32_MAX - Q + 1)
+
+/* Recorded answers are those of 2^32 - 1. */
+enum { RECORDED = Q == 4294967295u };
 
 static int checks = 0;
 static int failures = 0;
@@ -74,7 +81,7 @@ static uint64_t left_of(uint64_t size, uint32_t base, uint32_t parts) {
     return size;
 }
 
-static uint64_t size_of(uint32_t a) { return a > 2147483647u ? Q - a : a; }
+static uint64_t size_of(uint32_t a) { return a > HALF ? Q - a : a; }
 
 static int is_element(labrador_element_answer r, labrador_element a) {
     return r.number == 0 && r.place == 0 && same(r.coeffs, a.coeffs, 64);
@@ -89,15 +96,15 @@ static int is_norm(labrador_norm_answer r, uint32_t number, uint32_t place, uint
 }
 
 static void test_numbers(void) {
-    CHECK(is_word(labrador_zq_add(4294967294u, 1), 0, 0, 0));
-    CHECK(is_word(labrador_zq_mul(65536, 65536), 0, 0, 1));
-    CHECK(is_word(labrador_zq_mul(65537, 65535), 0, 0, 0));
-    CHECK(is_word(labrador_zq_sub(0, 1), 0, 0, 4294967294u));
-    CHECK(is_word(labrador_zq_neg(1), 0, 0, 4294967294u));
+    CHECK(is_word(labrador_zq_add(NEG(1), 1), 0, 0, 0));
+    CHECK(is_word(labrador_zq_mul(65536, 65536), 0, 0, LACK));
+    CHECK(is_word(labrador_zq_mul(65537, 65535), 0, 0, LACK - 1));
+    CHECK(is_word(labrador_zq_sub(0, 1), 0, 0, NEG(1)));
+    CHECK(is_word(labrador_zq_neg(1), 0, 0, NEG(1)));
     CHECK(is_word(labrador_zq_neg(0), 0, 0, 0));
-    CHECK(is_centre(labrador_zq_centre(2147483647u), 0, 0, 2147483647));
-    CHECK(is_centre(labrador_zq_centre(2147483648u), 0, 0, -2147483647));
-    CHECK(is_centre(labrador_zq_centre(4294967294u), 0, 0, -1));
+    CHECK(is_centre(labrador_zq_centre(HALF), 0, 0, HALF));
+    CHECK(is_centre(labrador_zq_centre(HALF + 1), 0, 0, -(int64_t)HALF));
+    CHECK(is_centre(labrador_zq_centre(NEG(1)), 0, 0, -1));
     CHECK(is_word(labrador_zq_add(Q, Q), 6, 0, 0));
     CHECK(is_word(labrador_zq_sub(1, Q), 6, 1, 0));
     CHECK(is_word(labrador_zq_mul(Q, 2), 6, 0, 0));
@@ -107,27 +114,35 @@ static void test_numbers(void) {
     CHECK(is_word(labrador_projection_entry(1073741824u), 0, 0, 1));
     CHECK(is_word(labrador_projection_entry(2147483647u), 0, 0, 1));
     CHECK(is_word(labrador_projection_entry(2147483648u), 0, 0, 0));
-    CHECK(is_word(labrador_projection_entry(4294967294u), 0, 0, 0));
+    CHECK(is_word(labrador_projection_entry(NEG(1)), 0, 0, 0));
     CHECK(is_word(labrador_projection_entry(Q), 6, 0, 0));
+    const uint32_t above[3] = {Q, Q + (UINT32_MAX - Q) / 2, UINT32_MAX};
+    for (int k = 0; k < 3; k++) {
+        CHECK(is_word(labrador_zq_add(1, above[k]), 6, 1, 0));
+        CHECK(is_word(labrador_zq_neg(above[k]), 6, 0, 0));
+        CHECK(is_centre(labrador_zq_centre(above[k]), 6, 0, 0));
+        CHECK(is_word(labrador_projection_entry(above[k]), 6, 0, 0));
+        CHECK(is_word(labrador_parts_needed(above[k]), 31, 0, 0));
+    }
     for (int n = 0; n < 10000; n++) {
         uint32_t a = draw() % Q, b = draw() % Q;
         CHECK(is_word(labrador_zq_add(a, b), 0, 0, (uint32_t)(((uint64_t)a + b) % Q)));
         CHECK(is_word(labrador_zq_sub(a, b), 0, 0, (uint32_t)(((uint64_t)a + Q - b) % Q)));
         CHECK(is_word(labrador_zq_mul(a, b), 0, 0, (uint32_t)((uint64_t)a * b % Q)));
         CHECK(is_word(labrador_zq_neg(a), 0, 0, (Q - a) % Q));
-        CHECK(is_centre(labrador_zq_centre(a), 0, 0, a > 2147483647u ? (int64_t)a - Q : (int64_t)a));
+        CHECK(is_centre(labrador_zq_centre(a), 0, 0, a > HALF ? (int64_t)a - Q : (int64_t)a));
     }
 }
 
 static void test_digits(void) {
     CHECK(is_digits(labrador_zq_digits(4, 2, 7), 0, 0, NEG(1), 2, 0));
     CHECK(is_digits(labrador_zq_digits(4, 1, 7), 0, 0, NEG(1), 0, 2));
-    CHECK(is_digits(labrador_zq_digits(4, 2, 4294967288u), 0, 0, 1, NEG(2), 0));
-    CHECK(is_digits(labrador_zq_digits(4, 1, 4294967288u), 0, 0, 1, 0, 2));
+    CHECK(is_digits(labrador_zq_digits(4, 2, NEG(7)), 0, 0, 1, NEG(2), 0));
+    CHECK(is_digits(labrador_zq_digits(4, 1, NEG(7)), 0, 0, 1, 0, 2));
     CHECK(is_digits(labrador_zq_digits(10, 2, 6), 0, 0, NEG(4), 1, 0));
     CHECK(is_digits(labrador_zq_digits(10, 2, 5), 0, 0, 5, 0, 0));
     CHECK(is_digits(labrador_zq_digits(10, 2, 1234), 0, 0, 4, 3, 12));
-    CHECK(is_digits(labrador_zq_digits(4294967294u, 32, 5), 0, 0, 5, 0, 0));
+    CHECK(is_digits(labrador_zq_digits(NEG(1), 32, 5), 0, 0, 5, 0, 0));
     CHECK(is_digits(labrador_zq_digits(1, 0, Q), 4, 0, 0, 0, 0));
     CHECK(is_digits(labrador_zq_digits(Q, 1, 5), 4, 0, 0, 0, 0));
     CHECK(is_digits(labrador_zq_digits(4, 0, Q), 4, 1, 0, 0, 0));
@@ -135,7 +150,7 @@ static void test_digits(void) {
     CHECK(is_digits(labrador_zq_digits(4, 2, Q), 6, 2, 0, 0, 0));
     for (int n = 0; n < 10000; n++) {
         /* 32 digits of any base give the value back */
-        uint32_t a = draw() % Q, base = 2 + draw() % (n % 2 ? 4294967293u : 30u);
+        uint32_t a = draw() % Q, base = 2 + draw() % (n % 2 ? Q - 2 : 30u);
         labrador_digits_answer r = labrador_zq_digits(base, 32, a);
         uint64_t sum = 0, power = 1;
         for (int k = 0; k < 32; k++) {
@@ -153,8 +168,8 @@ static void test_recompose(void) {
     const uint32_t seven[2] = {NEG(1), 2}, minus_seven[2] = {1, NEG(2)}, bad[3] = {1, Q, Q};
     CHECK(is_word(labrador_recompose(4, seven, 2), 0, 0, 7));
     CHECK(is_word(labrador_recompose(4, seven, 1), 0, 0, NEG(1)));
-    CHECK(is_word(labrador_recompose(4, minus_seven, 2), 0, 0, 4294967288u));
-    CHECK(is_word(labrador_recompose(4294967294u, seven, 2), 0, 0, NEG(3)));
+    CHECK(is_word(labrador_recompose(4, minus_seven, 2), 0, 0, NEG(7)));
+    CHECK(is_word(labrador_recompose(NEG(1), seven, 2), 0, 0, NEG(3)));
     CHECK(is_word(labrador_recompose(1, bad, 3), 31, 0, 0));
     CHECK(is_word(labrador_recompose(0, words, 0), 31, 0, 0));
     CHECK(is_word(labrador_recompose(Q, words, 33), 31, 0, 0));
@@ -167,20 +182,20 @@ static void test_recompose(void) {
     CHECK(is_word(labrador_recompose(2, bad, 1), 0, 0, 1));
     CHECK(is_word(labrador_parts_needed(2), 0, 0, 31));
     CHECK(is_word(labrador_parts_needed(3), 0, 0, 21));
-    CHECK(is_word(labrador_parts_needed(4294967293u), 0, 0, 2));
-    CHECK(is_word(labrador_parts_needed(4294967294u), 0, 0, 1));
+    CHECK(is_word(labrador_parts_needed(NEG(2)), 0, 0, 2));
+    CHECK(is_word(labrador_parts_needed(NEG(1)), 0, 0, 1));
     CHECK(is_word(labrador_parts_needed(0), 31, 0, 0));
     CHECK(is_word(labrador_parts_needed(1), 31, 0, 0));
     CHECK(is_word(labrador_parts_needed(Q), 31, 0, 0));
     for (int n = 0; n < 10000; n++) {
         /* a value comes back exactly when nothing is left of it */
-        uint32_t a = draw() % Q, base = 2 + draw() % (n % 2 ? 4294967293u : 300u), parts = 1 + draw() % 32;
+        uint32_t a = draw() % Q, base = 2 + draw() % (n % 2 ? Q - 2 : 300u), parts = 1 + draw() % 32;
         labrador_digits_answer d = labrador_zq_digits(base, parts, a);
         labrador_word_answer r = labrador_recompose(base, d.digits, parts);
         CHECK(r.number == 0 && r.place == 0);
         CHECK((r.value == a) == (d.left == 0) && d.left == left_of(size_of(a), base, parts));
         uint32_t needed = labrador_parts_needed(base).value;
-        CHECK(left_of(2147483647u, base, needed) == 0 && left_of(2147483647u, base, needed - 1) > 0);
+        CHECK(left_of(HALF, base, needed) == 0 && left_of(HALF, base, needed - 1) > 0);
     }
 }
 
@@ -199,7 +214,7 @@ static labrador_element product(labrador_element a, labrador_element b) {
 static labrador_norm_answer norm(labrador_element a) {
     unsigned __int128 sum = 0;
     for (int k = 0; k < 64; k++) {
-        uint64_t size = a.coeffs[k] > 2147483647u ? Q - a.coeffs[k] : a.coeffs[k];
+        uint64_t size = size_of(a.coeffs[k]);
         sum += size * size;
     }
     labrador_norm_answer r = {0, 0, (uint64_t)(sum >> 64), (uint64_t)sum};
@@ -247,7 +262,7 @@ static void test_fast_product(void) {
         CHECK(agree(top, a));
     }
     /* single coefficients: results just below and just above zero, and at the ends */
-    const uint32_t words[] = {0, 1, 2, 65535, 65537, 2147483647u, 2147483648u, Q - 2, Q - 1};
+    const uint32_t words[] = {0, 1, 2, 65535, 65537, HALF, HALF + 1, Q - 2, Q - 1};
     const int count = sizeof words / sizeof *words;
     for (int i = 0; i < 64; i++)
         for (int j = 0; j < 64; j++) {
@@ -265,15 +280,16 @@ static void test_fast_product(void) {
 static void test_elements(void) {
     labrador_element x = monomial(1, 1), largest, worst;
     for (int k = 0; k < 64; k++) {
-        largest.coeffs[k] = 2147483648u;
+        largest.coeffs[k] = HALF + 1;
         worst.coeffs[k] = Q;
     }
     CHECK(is_element(labrador_rq_mul(monomial(1, 63), x), monomial(NEG(1), 0)));
     CHECK(is_element(labrador_rq_conj(x), monomial(NEG(1), 63)));
     CHECK(is_element(labrador_rq_add(x, monomial(NEG(1), 1)), zero()));
     CHECK(is_element(labrador_rq_sub(zero(), x), monomial(NEG(1), 1)));
-    CHECK(is_element(labrador_rq_scale(monomial(65537, 5), 65535), zero()));
-    CHECK(is_norm(labrador_rq_norm(largest), 0, 0, 15, 18446743798831644736u));
+    CHECK(is_element(labrador_rq_scale(monomial(65537, 5), 65535), monomial(LACK - 1, 5)));
+    const unsigned __int128 most = (unsigned __int128)64 * HALF * HALF;
+    CHECK(is_norm(labrador_rq_norm(largest), 0, 0, (uint64_t)(most >> 64), (uint64_t)most));
     CHECK(is_refused(labrador_rq_add(x, monomial(Q, 5)), 6, 69));
     CHECK(is_refused(labrador_rq_sub(monomial(Q, 63), monomial(Q, 5)), 6, 63));
     CHECK(is_refused(labrador_rq_mul(worst, worst), 6, 0));
@@ -409,7 +425,7 @@ static const load_vector loads[3] = {
     {{2, 3, 5, 2, 1, 3, 2, 31, 16, 3, 2, 5}, 1, 13163, 385, 100425, 1570, 3879,
      {1015568748u, 1586005467u, 827939114u, 211367553u}, 1230392950u, 2664596849u, {Q - 1, 1, 0, 1},
      {43359596u, 1514994139u, 2510895788u, 4264785435u}},
-    {{3, 2, 8, 1, 2, 1, 4, 16, 4294967294u, 1, 2, 8}, 4294967295u, 6317, 385, 101175, 2338, 2921,
+    {{3, 2, 8, 1, 2, 1, 4, 16, Q - 1, 1, 2, 8}, UINT32_MAX, 6317, 385, 101175, 2338, 2921,
      {1012239698u, 806866057u, 3693287520u, 3343740991u}, 1770543956u, 1837463797u, {1, 1, 1, 0},
      {3055150098u, 308327497u, 4176324560u, 4105001199u}},
 };
@@ -479,8 +495,9 @@ static void test_loads(void) {
         CHECK(a.number == 2 && a.place == v->randomness && job[0] == MARK && randomness[0] == MARK);
         a = labrador_load(v->sizes, v->seed, job, JOB, witness, WITNESS, randomness, RANDOMNESS);
         CHECK(a.number == 0 && a.place == 0);
-        CHECK(job[0] == 30 && same(job + 1, &v->sizes.n, 12) && job[13] == Q && job[30] == Q);
-        CHECK(has_words(job, 32, v->job, v->job_words) && job[v->b_0] == v->b_0_word && job[v->b] == v->b_word);
+        CHECK(job[0] == 30 && same(job + 1, &v->sizes.n, 12) && job[13] == UINT32_MAX && job[30] == UINT32_MAX);
+        CHECK(has_words(job, 32, v->job, v->job_words));
+        CHECK(!RECORDED || (job[v->b_0] == v->b_0_word && job[v->b] == v->b_word));
         CHECK(has_words(witness, 1, v->witness, v->witness_words) && has_words(randomness, 1, v->randomness, v->randomness_words));
         CHECK(job[v->job] == MARK && witness[v->witness] == MARK && randomness[v->randomness] == MARK);
     }
@@ -621,7 +638,7 @@ static uint64_t cells_of(const uint32_t *words, size_t cells, uint32_t base, uin
 
 /* The number of cells that an acceptance states, for parts too few, enough and too few by one. */
 static void test_cells_left(void) {
-    const uint32_t parts[7][3] = {{256, 4, 4}, {256, 3, 3}, {256, 1, 4}, {256, 4, 1}, {2, 1, 1}, {65536, 2, 2}, {4294967294u, 1, 1}};
+    const uint32_t parts[7][3] = {{256, 4, 4}, {256, 3, 3}, {256, 1, 4}, {256, 4, 1}, {2, 1, 1}, {65536, 2, 2}, {Q - 1, 1, 1}};
     for (int k = 0; k < 7; k++) {
         const labrador_parameters sizes = {2, 2, 4, 1, 1, 1, 1, 32, parts[k][0], parts[k][1], parts[k][2], 4};
         make_load(sizes);
@@ -716,19 +733,20 @@ static void test_ranges(void) {
     CHECK(is_refused_range(ranges(NUMBERS, NUMBERS + 64), 11, NUMBERS));
     lows[0] = 4;
     CHECK(is_refused_range(ranges(NUMBERS, NUMBERS), 36, 0));
-    const int64_t beyond[4] = {INT64_MIN, INT64_MAX, -2147483648, 2147483648};
+    const int64_t half = HALF, beyond[4] = {INT64_MIN, INT64_MAX, -half - 1, half + 1};
     for (int k = 0; k < 4; k++) {
         highs[NUMBERS - 1] = beyond[k];
         CHECK(is_refused_range(ranges(NUMBERS, NUMBERS), 37, NUMBERS - 1));
     }
-    /* the whole of the centred numbers: 128 squares of 2147483647 */
+    /* the whole of the centred numbers: 128 squares of the greatest */
     for (int k = 0; k < NUMBERS; k++) {
-        lows[k] = -2147483647;
-        highs[k] = 2147483647;
+        lows[k] = -half;
+        highs[k] = half;
     }
     labrador_ranges_answer a = ranges(NUMBERS, NUMBERS);
     CHECK(a.number == 0 && a.vectors[1].meets == 2 && a.vectors[1].least_hi == 0 && a.vectors[1].least_lo == 0);
-    CHECK(a.vectors[1].greatest_hi == 31 && a.vectors[1].greatest_lo == 18446743523953737856u);
+    const unsigned __int128 most = (unsigned __int128)128 * HALF * HALF;
+    CHECK(a.vectors[1].greatest_hi == (uint64_t)(most >> 64) && a.vectors[1].greatest_lo == (uint64_t)most);
     job[12] = 3;
     CHECK(is_refused_range(ranges(0, 0), 5, 12));
     job[12] = 4;
@@ -1040,7 +1058,7 @@ static void test_run_refusals(size_t scratch_need) {
     CHECK(is_answer(projection_of(1, 3, scratch_need, run_rows, 256), 2, 257) && is_answer(rows_of(1, 3, scratch_need, run_rows, 512), 2, 513));
     CHECK(scratch[0] == MARK && scratch[scratch_need - 1] == MARK && run_rows[0] == MARK && run_rows[512] == MARK);
     /* the run's second vector is the job's third; p is made all the same */
-    for (int k = 65; k <= 128; k++) run_vectors[k] = 2147483648u;
+    for (int k = 65; k <= 128; k++) run_vectors[k] = HALF + 1;
     set_bound(64);
     CHECK(is_answer(rows_of(1, 3, scratch_need, run_rows, 514), 13, 2) && all_zero(run_rows, 513) && run_rows[513] == MARK);
     CHECK(all_zero(scratch, scratch_need) && scratch[scratch_need] == MARK);
@@ -1208,18 +1226,20 @@ int main(void) {
     test_left();
     test_challenge();
     test_loads();
-    test_recorded_loads();
     test_calls();
     test_one_kind();
     test_cells_left();
     test_apart();
     test_ranges();
-    test_recorded_ranges();
     test_mistyped();
-    test_recorded_mistyped();
     test_sheds();
-    test_recorded_sheds();
     test_many();
+    if (RECORDED) {
+        test_recorded_loads();
+        test_recorded_ranges();
+        test_recorded_mistyped();
+        test_recorded_sheds();
+    }
     if (failures > 0) {
         printf("%d of %d checks failed\n", failures, checks);
         return EXIT_FAILURE;

@@ -3,6 +3,8 @@
 use crate::fast;
 use crate::loads;
 use crate::many;
+#[cfg(prime)]
+use crate::prime::{self, Against};
 use harness::instances::{Instance, LOOSE};
 use harness::random::Random;
 use harness::rust;
@@ -58,7 +60,7 @@ fn leaf(ours: impl FnMut() + 'static, theirs: impl FnMut() + 'static) -> Kernel 
     }
 }
 
-fn product(random: &mut Random) -> Kernel {
+pub fn product(random: &mut Random) -> Kernel {
     let (a, b) = (elements(random), elements(random));
     let (x, y) = (all(&a), all(&b));
     leaf(
@@ -75,7 +77,7 @@ fn product(random: &mut Random) -> Kernel {
     )
 }
 
-fn multiply_add(random: &mut Random) -> Kernel {
+pub fn multiply_add(random: &mut Random) -> Kernel {
     let a = elements(random);
     let numbers = random.numbers(BATCH);
     let x = all(&a);
@@ -170,7 +172,7 @@ fn slice(random: &mut Random, call: SliceCall, sizes: Vec<usize>) -> Kernel {
 }
 
 /// The parameters of the calls on whole slices.
-fn parameters(n: usize, r: usize) -> Parameters {
+pub fn parameters(n: usize, r: usize) -> Parameters {
     Parameters {
         n,
         r,
@@ -261,7 +263,7 @@ fn failing(random: &mut Random, number: u32) -> Kernel {
 }
 
 /// A whole call on a statement that is met. A round is timed against the Rust's whole prover.
-fn whole(random: &mut Random, call: Call, n: usize, r: usize) -> Kernel {
+pub fn whole(random: &mut Random, call: Call, n: usize, r: usize) -> Kernel {
     let p = parameters(n, r);
     let instance = loads::instance(p, random.word());
     let (job, randomness) = (instance.job_words(), instance.randomness_words());
@@ -376,4 +378,32 @@ pub const KERNELS: &[Entry] = &[
     ("verify, n 16, r 8 (growth)", |random| whole(random, Call::Verify, 16, 8)),
     ("prove, n 16, r 16 (growth)", |random| whole(random, Call::Prove, 16, 16)),
     ("verify, n 16, r 16 (growth)", |random| whole(random, Call::Verify, 16, 16)),
+    #[cfg(prime)]
+    ("over the prime, against 2^32 − 1: element product", |random| prime::element_product(random, Against::Default)),
+    #[cfg(prime)]
+    ("over the prime, against 2^32 − 1: product with a number, added to an accumulator", |random| prime::accumulated(random, Against::Default)),
+    #[cfg(prime)]
+    ("over the prime, against 2^32 − 1: round 2 (p), n 16, r 4", |random| prime::whole_call(random, Call::Round(2), 16, 4, Against::Default)),
+    #[cfg(prime)]
+    ("over the prime, against 2^32 − 1: prove, n 16, r 4", |random| prime::whole_call(random, Call::Prove, 16, 4, Against::Default)),
+    #[cfg(prime)]
+    ("over the prime, against 2^32 − 1: verify, n 16, r 4", |random| prime::whole_call(random, Call::Verify, 16, 4, Against::Default)),
+    #[cfg(prime)]
+    ("over the prime, against 2^32 − 1: prove, n 16, r 8", |random| prime::whole_call(random, Call::Prove, 16, 8, Against::Default)),
+    #[cfg(prime)]
+    ("over the prime, against 2^32 − 1: verify, n 16, r 8", |random| prime::whole_call(random, Call::Verify, 16, 8, Against::Default)),
+    #[cfg(prime)]
+    ("over the prime, against 2^32 − 1: prove, n 64, r 16", |random| prime::whole_call(random, Call::Prove, 64, 16, Against::Default)),
+    #[cfg(prime)]
+    ("over the prime, against 2^32 − 1: verify, n 64, r 16", |random| prime::whole_call(random, Call::Verify, 64, 16, Against::Default)),
+    #[cfg(prime)]
+    ("over the prime, against the Rust: element product", |random| prime::element_product(random, Against::Rust)),
+    #[cfg(prime)]
+    ("over the prime, against the Rust: prove, n 16, r 4", |random| prime::whole_call(random, Call::Prove, 16, 4, Against::Rust)),
+    #[cfg(prime)]
+    ("over the prime, against the Rust: verify, n 16, r 4", |random| prime::whole_call(random, Call::Verify, 16, 4, Against::Rust)),
+    #[cfg(prime)]
+    ("over the prime, against the Rust: prove, n 64, r 16", |random| prime::whole_call(random, Call::Prove, 64, 16, Against::Rust)),
+    #[cfg(prime)]
+    ("over the prime, against the Rust: verify, n 64, r 16", |random| prime::whole_call(random, Call::Verify, 64, 16, Against::Rust)),
 ];

@@ -8,7 +8,7 @@ use model::Call;
 use std::hint::black_box;
 
 /// The twelve words of section one that a load takes.
-fn twelve(p: &Parameters) -> [u32; 12] {
+pub fn twelve(p: &Parameters) -> [u32; 12] {
     p.words()[..12].try_into().expect("twelve words")
 }
 

@@ -7,6 +7,8 @@ mod fast;
 mod kernels;
 mod loads;
 mod many;
+#[cfg(prime)]
+mod prime;
 mod table;
 
 fn main() {

@@ -1,4 +1,5 @@
-//! Links the archive of proved calls: the one that LABRADOR_ARCHIVE names, or the one that `rt staticlib labrador` builds.
+//! Links the archive of proved calls: the one that LABRADOR_ARCHIVE names, or the one that `rt staticlib labrador` builds. The archive is asked for its
+//! modulus, by a C program that is linked with it: -1 is Q - 1.
 
 use std::env;
 use std::path::{Path, PathBuf};
@@ -21,6 +22,31 @@ fn built(root: &Path) -> PathBuf {
     }
 }
 
+const ASKS: &str = r#"#include <stdio.h>
+#include "labrador.h"
+int main(void) { return printf("%u", labrador_zq_neg(1).value) < 1; }
+"#;
+
+/// What is said by a program that must end well.
+fn said(what: &str, command: &mut Command) -> String {
+    let told = command.stdin(Stdio::null()).output().unwrap_or_else(|error| panic!("{what} cannot be run: {error}"));
+    if !told.status.success() {
+        panic!("{what} failed:\n{}", String::from_utf8_lossy(&told.stderr));
+    }
+    String::from_utf8_lossy(&told.stdout).into_owned()
+}
+
+/// Q of the archive.
+fn modulus(archive: &Path, header: &Path) -> u32 {
+    let out = PathBuf::from(env::var_os("OUT_DIR").expect("cargo names a folder"));
+    let (source, program) = (out.join("modulus.c"), out.join("modulus"));
+    std::fs::write(&source, ASKS).expect("the folder can be written");
+    println!("cargo:rerun-if-changed={}", header.join("labrador.h").display());
+    said("the C compiler", Command::new("cc").arg("-I").arg(header).arg("-o").arg(&program).arg(&source).arg(archive));
+    let greatest: u32 = said("the archive's modulus", &mut Command::new(&program)).parse().expect("a word");
+    greatest + 1
+}
+
 fn main() {
     println!("cargo:rerun-if-changed=build.rs");
     println!("cargo:rerun-if-env-changed=LABRADOR_ARCHIVE");
@@ -35,4 +61,8 @@ fn main() {
     let name = archive.file_name().and_then(|name| name.to_str()).expect("an archive's name in UTF-8");
     println!("cargo:rustc-link-search=native={}", folder.display());
     println!("cargo:rustc-link-lib=static:+verbatim={name}");
+    let q = modulus(&archive, &package.join(".."));
+    println!("cargo:rustc-env=LABRADOR_Q={q}");
+    println!("cargo:rustc-env=LABRADOR_GREATEST={}", q - 1);
+    println!("cargo:rustc-env=LABRADOR_HALF={}", q / 2);
 }

@@ -54,7 +54,7 @@ pub use load::{load, load_into, load_needs, Load, LoadNeeds};
 pub use many::{verify_many, verify_many_with, Sent};
 pub use mistyped::{mistyped, mistyped_into, Mistyped};
 pub use needs::{output_need, scratch_need};
-pub use number::{parts_needed, projection_entry, recompose, Digits, Zq, GREATEST, Q};
+pub use number::{parts_needed, projection_entry, recompose, Digits, Zq, HALF, Q};
 pub use place::{expected, Place, Spot};
 pub use prover::{prove, prove_into};
 pub use ranges::{ranges, Meets, RangeNorms};

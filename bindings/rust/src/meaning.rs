@@ -82,7 +82,11 @@ const NO_FIGURES: &str = "it has none";
 
 const MEND_LAYOUT: &str =
     "The slice is cut, lengthened, damaged, of another kind, or belongs to a job with other parameters.";
-const MEND_WORD: &str = "The slice is damaged or was not made for these calls; every number is below Q = 4294967295.";
+const MEND_WORD: &str = concat!(
+    "The slice is damaged or was not made for these calls, or for another modulus; every number is below Q = ",
+    env!("LABRADOR_Q"),
+    "."
+);
 const NOT_HONEST: &str =
     "The prover's transcript never fails this check with its own job and randomness: this one was \
                           changed, or belongs to another job or other randomness.";
@@ -137,7 +141,7 @@ pub const MEANINGS: [Meaning; 32] = [
         "a word of the randomness is out of range",
         RANDOMNESS,
         WORD,
-        "Sign words are 0 or 1, shuffle words are free, and all others are below Q = 4294967295.",
+        concat!("Sign words are 0 or 1, shuffle words are free, and all others are below Q = ", env!("LABRADOR_Q"), "."),
     ),
     row(9, "the transcript's layout is wrong", SENDER, LAYOUT, MEND_LAYOUT),
     row(10, "a word of the transcript is not below Q", SENDER, WORD, MEND_WORD),
@@ -233,7 +237,7 @@ pub const MEANINGS: [Meaning; 32] = [
         "the base or the number of digits is outside its limits",
         CALLER,
         "0 for the base, 1 for the number of digits",
-        "A base is from 2 to 4294967294, and there are 1 to 32 digits.",
+        concat!("A base is from 2 to ", env!("LABRADOR_GREATEST"), ", and there are 1 to 32 digits."),
     ),
     row(
         32,
@@ -272,9 +276,9 @@ pub const MEANINGS: [Meaning; 32] = [
     ),
     row(
         37,
-        "a number is beyond ±2147483647",
+        concat!("a number is beyond ±", env!("LABRADOR_HALF")),
         WITNESS,
         "the pair's index, from 0",
-        "A centred number is from -2147483647 to 2147483647.",
+        concat!("A centred number is from -", env!("LABRADOR_HALF"), " to ", env!("LABRADOR_HALF"), "."),
     ),
 ];

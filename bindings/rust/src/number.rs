@@ -4,19 +4,23 @@ use crate::element::operand;
 use crate::ffi;
 use crate::refusal::Refusal;
 
-/// The modulus; it is composite. Numbers modulo Q are 0 to Q - 1.
-pub const Q: u32 = 4294967295;
+/// The modulus of the archive that the crate is built over: 4294967295 = 3·5·17·257·65537, or the prime 4294967197. Numbers modulo Q
+/// are 0 to Q - 1.
+pub const Q: u32 = match u32::from_str_radix(env!("LABRADOR_Q"), 10) {
+    Ok(q) => q,
+    Err(_) => panic!("the build names no modulus"),
+};
 
-/// The greatest centred number; the least is minus this.
-pub const GREATEST: u32 = (Q - 1) / 2;
+/// The greatest size of a centred number.
+pub const HALF: u32 = Q / 2;
 
 /// A number modulo Q. A word at or above Q is refused by each call, with 6.
 ///
 /// ```
-/// use labrador::{recompose, Zq};
+/// use labrador::{recompose, Zq, HALF, Q};
 ///
-/// assert_eq!(Zq(65536).mul(Zq(65536))?, Zq(1));
-/// assert_eq!(Zq(2147483648).centre()?, -2147483647);
+/// assert_eq!(Zq(Q - 2).mul(Zq(3))?, Zq(Q - 6));
+/// assert_eq!(Zq(HALF + 1).centre()?, -i64::from(HALF));
 /// let digits = Zq(7).digits(4, 2)?;
 /// assert_eq!(recompose(4, &digits.digits[..2])?, Zq(7));
 /// assert_eq!(digits.left, 0);
@@ -58,18 +62,26 @@ impl Zq {
         word(ffi::zq_neg(self.0), &[self.0])
     }
 
-    /// The number itself up to 2147483647, above that itself less Q.
+    /// The number itself up to [`HALF`], above that itself less Q.
     pub fn centre(self) -> Result<i64, Refusal> {
         let answer = ffi::zq_centre(self.0);
         operand(answer.number, answer.place.into(), &[self.0])?;
         Ok(answer.value)
     }
 
-    /// The digits to a base from 2 to 4294967294, in 1 to 32 parts, and what is left after them.
+    /// The digits to a base from 2 to Q - 1, in 1 to 32 parts, and what is left after them.
     pub fn digits(self, base: u32, parts: u32) -> Result<Digits, Refusal> {
         let answer = ffi::zq_digits(base, parts, self.0);
         operand(answer.number, answer.place.into(), &[base, parts, self.0])?;
         Ok(Digits { digits: answer.digits, left: answer.left })
+    }
+}
+
+/// What is wrong with a word at or above Q. One below 2^32 - 1 could be a number modulo that.
+pub(crate) fn not_below(word: Option<u32>) -> &'static str {
+    match word {
+        Some(word) if (Q..u32::MAX).contains(&word) => "not below Q; a number of the modulus 4294967295?",
+        _ => "not below Q",
     }
 }
 

@@ -1,9 +1,10 @@
 //! The greatest norm that each limit can be held against.
 
+use crate::number::HALF;
 use crate::section_one::{Parameters, SectionOne, BOUNDS, PARAMETERS};
 
 /// The greatest size of a centred number.
-const GREATEST: u128 = 2147483647;
+const GREATEST: u128 = HALF as u128;
 
 /// A limit with the check or refusal that is answered above it.
 pub(crate) struct Limit {

@@ -4,6 +4,7 @@ use std::error::Error;
 use std::fmt;
 
 use crate::meaning::{meaning, Meaning};
+use crate::number::{not_below, HALF, Q};
 use crate::place::Place;
 use crate::section_one::Parameters;
 use crate::sheds::Run;
@@ -59,7 +60,7 @@ pub enum Refusal {
     Projection { number: u32, which: &'static str, place: u64, length: u64, found: Option<u32> },
     /// 36: the first pair whose low is above its high.
     Crossed { pair: u64, low: i64, high: i64 },
-    /// 37: the first pair with a number beyond ±2147483647.
+    /// 37: the first pair with a number beyond ±[`HALF`].
     Beyond { pair: u64, low: i64, high: i64 },
 }
 
@@ -145,7 +146,7 @@ impl Refusal {
             Refusal::Aggregations { place, parameters } => aggregations_fault(place, parameters),
             Refusal::RandomnessWord(place) => place.word_fault(randomness_fault(place)),
             Refusal::JobWord(place) | Refusal::TranscriptWord(place) | Refusal::WitnessWord(place) => {
-                place.word_fault("not below Q")
+                place.word_fault(not_below(place.found))
             }
             Refusal::WitnessNorm { vector, norm, bound } => {
                 format!("the norm of witness vector {vector} is {norm}, above A's bound {bound}")
@@ -161,7 +162,7 @@ impl Refusal {
             Refusal::Projection { which, place, length, found, .. } => projection_fault(which, *place, *length, *found),
             Refusal::Crossed { pair, low, high } => format!("pair {pair} goes from {low} to {high}, which is below"),
             Refusal::Beyond { pair, low, high } => {
-                format!("pair {pair} goes from {low} to {high}, beyond ±2147483647")
+                format!("pair {pair} goes from {low} to {high}, beyond ±{HALF}")
             }
             Refusal::DigitsOfT
             | Refusal::DigitsOfG
@@ -193,17 +194,17 @@ fn aggregations_fault(place: &Place, parameters: &Parameters) -> String {
 fn randomness_fault(place: &Place) -> &'static str {
     match &place.spot {
         crate::place::Spot::Word { section: "signs", .. } => "neither 0 nor 1",
-        _ => "not below Q",
+        _ => not_below(place.found),
     }
 }
 
 fn operand_fault(number: u32, place: u64, found: u32) -> String {
     match (number, place) {
-        (4 | 31, 0) => format!("the base is {found}, not from 2 to 4294967294"),
+        (4 | 31, 0) => format!("the base is {found}, not from 2 to {}", Q - 1),
         (4, _) => format!("the number of parts is {found}, not from 1 to 32"),
         (31, _) => format!("the number of digits is {found}, not from 1 to 32"),
         (8, _) => format!("sign word {place} is {found}, neither 0 nor 1"),
-        _ => format!("word {place} of the operands is {found}, not below Q"),
+        _ => format!("word {place} of the operands is {found}, {}", not_below(Some(found))),
     }
 }
 
@@ -212,7 +213,7 @@ fn projection_fault(which: &str, place: u64, length: u64, found: Option<u32>) ->
     match found {
         _ if place == 257 => format!("the {which} p goes on at word 257, behind its 256 entries"),
         Some(word) if place > 0 => {
-            format!("word {place} of the {which} p is {word}, not below Q (entry {})", place - 1)
+            format!("word {place} of the {which} p is {word}, {} (entry {})", not_below(Some(word)), place - 1)
         }
         Some(word) => format!("word 0 of the {which} p is {word}, and its count is 256"),
         None => format!("the {which} p ends after {length} words, and has 257 with its count"),

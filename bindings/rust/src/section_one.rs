@@ -1,5 +1,7 @@
 //! Section one of a job, its parameters and bounds. Which words it has is said here alone.
 
+use crate::number::Q;
+
 /// A parameter: a word of section one that has limits.
 #[derive(Clone, Copy, Debug)]
 pub struct Parameter {
@@ -23,7 +25,7 @@ pub const PARAMETERS: [Parameter; 12] = [
     parameter("K", 0, 64, "ring constraints"),
     parameter("l", 0, 64, "constant-term constraints"),
     parameter("log_q", 16, 32, "bits of the modulus: L is at least 128 divided by this, rounded up"),
-    parameter("b", 2, 4294967294, "base of the digits"),
+    parameter("b", 2, Q - 1, "base of the digits"),
     parameter("t_1", 1, 32, "digits of a cell of t and of h"),
     parameter("t_2", 1, 32, "digits of a cell of g"),
     parameter("L", 1, 32, "aggregated equations, elements of b''"),

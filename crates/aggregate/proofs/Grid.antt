@@ -14,7 +14,7 @@ use Rattle.aggregate_psi.specs.Grid.{Grid}
 use Rattle.aggregate.specs.Weighed.{mixed}
 
 -- n elements one after the other are a run
-pub row-run : (words : List ℕ) (at n : ℕ) → at + 64 * n ≤ length words → n ≤ 2 ^ 20 → length words < 2 ^ 61 → Run words at 64 n
+pub row-run : (words : List ℕ) (at n : ℕ) → at + 64 * n ≤ length words → n ≤ 2 ^ 18 → length words < 2 ^ 61 → Run words at 64 n
 row-run words at n h few short = record { within = λ m l. omega arith; few = few; near = omega arith; first = omega arith }
 
 -- within any slice of the same length

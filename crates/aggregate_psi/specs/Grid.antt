@@ -11,7 +11,7 @@ use Rattle.protocol.specs.Formulas.{flat, rows, _⊕_, sum}
 -- so many constraints of so many elements each lie within the slice
 pub record Grid (words : List ℕ) (at width count : ℕ) : Type 0 where
   pub within : at + 64 * (width * count) ≤ length words
-  pub narrow : width ≤ 2 ^ 20
+  pub narrow : width ≤ 2 ^ 18
   pub few : count ≤ 2 ^ 10
 
 -- element c of the constraints: x ↦ that of constraint x

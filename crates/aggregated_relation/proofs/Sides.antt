@@ -76,8 +76,8 @@ module _ (J R X : List ℕ) (p : EnvironmentParameters) (q : Regions) (S : List 
       → Run J at 64 (p .«constraint_k») × Run R alpha 64 (p .«constraint_k») × Run R beta 64 (p .«const_agg_length») × Run X from 64 (p .«const_agg_length»)
   mix-requires at alpha beta from j r x e f g h =
       let z = reckoned (s .posed) in
-      let K : p .«constraint_k» ≤ 2 ^ 20 = omega (arith, z .within .K .1) in
-      let L : p .«const_agg_length» ≤ 2 ^ 20 = omega (arith, z .within .L .1) in (
+      let K : p .«constraint_k» ≤ 2 ^ 18 = omega (arith, z .within .K .1) in
+      let L : p .«const_agg_length» ≤ 2 ^ 18 = omega (arith, z .within .L .1) in (
         row-run J at (p .«constraint_k») (placed J X p (s .posed) J (λ Q. 31 + start (job-sections Q) 5) (λ Q. Q .K) at e (b-within J p q S ready)) K j,
         row-run R alpha (p .«constraint_k») (placed J X p (s .posed) R (λ Q. start (randomness-sections Q) 3) (λ Q. Q .K) alpha f (alpha-within 7 J R (s .drawn) (omega arith))) K r,
         row-run R beta (p .«const_agg_length») (placed J X p (s .posed) R (λ Q. start (randomness-sections Q) 4) (λ Q. Q .L) beta g (beta-within 7 J R (s .drawn) (omega arith))) L r,

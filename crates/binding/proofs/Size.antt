@@ -4,13 +4,13 @@ use mathlib.Core.Bool.{cond}
 use Prim.Native.Nat.{ℕ, _+_, _-_, _*_, _%_, _≤_, _<_}
 use native.Mathlib.Nat.{mul-le-mul}
 use native.Mathlib.Omega.{arith}
-use Rattle.definitions.specs.Zq.{Q, Canonical, zsub, size}
+use Rattle.definitions.specs.Zq.{Q, halfQ, Canonical, zsub, size}
 use Rattle.definitions.specs.Norm.{square}
 use Rattle.definitions.proofs.Cases.{ltb-cases}
 
--- what holds of a size's value holds of the size: x up to 2147483647, or Q − x above
-size-by : (P : ℕ → Type 0) (x : ℕ) → (2147483647 < x → P (Q - x)) → (x ≤ 2147483647 → P x) → P (size x)
-size-by P x f g = ltb-cases (λ t. P (cond t (Q - x) x)) 2147483647 x f g
+-- what holds of a size's value holds of the size: x up to half of Q, or Q − x above
+size-by : (P : ℕ → Type 0) (x : ℕ) → (halfQ < x → P (Q - x)) → (x ≤ halfQ → P x) → P (size x)
+size-by P x f g = ltb-cases (λ t. P (cond t (Q - x) x)) halfQ x f g
 
 -- the centred size of a difference is at most the sum of the sizes
 pub size-of-difference : (a b : ℕ) → Canonical a → Canonical b → size (zsub a b) ≤ size a + size b

@@ -16,7 +16,7 @@ ghost use Rattle.commitments.specs.Cells.{digits-at, left-at, vector-norm, Cell
 
 // 13: the first of r vectors of n elements whose norm is above the bound.
 pub fn check_witness(witness: &[u32], at: usize, n: usize, r: usize, bound: U128) -> Proved
-    requires { ⌜ (at + 64 * (r * n) ≤ length (now witness)) × (n ≤ 2 ^ 20) ⌝ }
+    requires { ⌜ (at + 64 * (r * n) ≤ length (now witness)) × (n ≤ 2 ^ 18) ⌝ }
     ensures { λ result. ⌜ ofProved result ≡ first r (vector-norm (now (witness .entry)) at n (value128 bound)) ⌝ }
 {
     let step = 64 * n;

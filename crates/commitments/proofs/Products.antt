@@ -73,7 +73,7 @@ module _ (b parts : ℕ) (f : ℕ → Element) where
 -- a matrix in a slice, with an entry in each row for each digit of its cells; `column` is the place of cell c's entries in the first row
 module _ (l : List ℕ) (m-at cells parts c column : ℕ) (at : column ≡ m-at + 64 * (c * parts)) where
   -- the blocks of the cell's entries lie within the matrix
-  pub cell-blocks : (rows : ℕ) → m-at + 64 * (rows * (cells * parts)) ≤ length l → parts ≤ 32 → cells ≤ 2 ^ 20 → c < cells → Blocks l column (64 * (cells * parts)) (64 * parts) rows
+  pub cell-blocks : (rows : ℕ) → m-at + 64 * (rows * (cells * parts)) ≤ length l → parts ≤ 32 → cells ≤ 2 ^ 18 → c < cells → Blocks l column (64 * (cells * parts)) (64 * parts) rows
   cell-blocks rows h few some less = record {
     within = λ k q. omega (arith, rows-within c cells parts less, rows-within k rows (cells * parts) q);
     near = omega (arith, mul-le-mul some few);

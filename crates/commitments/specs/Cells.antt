@@ -72,7 +72,7 @@ u2-of J d-at n words h b = flat (table n (digits-product J d-at words h b))
 -- the cells lie within the slice, and they and their parts are few
 pub record Cells (words : List ℕ) (d : Digits) : Type 0 where
   pub within : d .at + 64 * d .cells ≤ length words
-  pub few-cells : d .cells ≤ 2 ^ 20
+  pub few-cells : d .cells ≤ 2 ^ 18
   pub few-parts : d .parts ≤ 32
 
 -- blocks of `size` words at equal steps lie within the slice

@@ -4,7 +4,7 @@ use mathlib.Core.Bool.{cond}
 use Prim.Native.Nat.{ℕ, _+_, _-_, _*_, _/_, _%_, _≤_, _<_, _∣_}
 use native.Mathlib.Nat.{div-add-mod', mul-add-mod-self-right, mod-eq-of-lt, mod-lt, mod-le, mul-lt-mul-of-pos-left, lt-of-mul-lt-mul-left, eq-of-mul-eq-mul-left, pos-of-dvd-of-pos, mul-div-cancel', div-add-mod, mul-mod-right, div-le-self, add-zero, mul-le-mul-right}
 use native.Mathlib.Omega.{arith}
-use Rattle.definitions.specs.Zq.{Q, Canonical, size}
+use Rattle.definitions.specs.Zq.{Q, halfQ, Canonical, size}
 use Rattle.definitions.proofs.Cases.{ltb-cases}
 use Rattle.congruence.specs.declared.Congruence.{Congruence}
 use Rattle.congruence.specs.Congruence.{Solves, Reduced}
@@ -21,13 +21,13 @@ mul-mod-mul g m x h k =
 
 -- the size of a word is at most what bounds it and its distance to Q from below, and at most each of them
 size-above : (y m : ℕ) → m ≤ y → m ≤ Q - y → m ≤ size y
-size-above y m h k = ltb-cases (λ t. m ≤ cond t (Q - y) y) 2147483647 y (λ g. k) (λ g. h)
+size-above y m h k = ltb-cases (λ t. m ≤ cond t (Q - y) y) halfQ y (λ g. k) (λ g. h)
 
 size-below : (y : ℕ) → size y ≤ y
-size-below y = ltb-cases (λ t. cond t (Q - y) y ≤ y) 2147483647 y (λ g. omega arith) (λ g. omega arith)
+size-below y = ltb-cases (λ t. cond t (Q - y) y ≤ y) halfQ y (λ g. omega arith) (λ g. omega arith)
 
 size-from-Q : (y : ℕ) → size y ≤ Q - y
-size-from-Q y = ltb-cases (λ t. cond t (Q - y) y ≤ Q - y) 2147483647 y (λ g. omega arith) (λ g. omega arith)
+size-from-Q y = ltb-cases (λ t. cond t (Q - y) y ≤ Q - y) halfQ y (λ g. omega arith) (λ g. omega arith)
 
 module _ (c : Congruence) (r : Reduced c) where
   abbrev G : ℕ

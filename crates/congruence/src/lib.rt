@@ -1,4 +1,4 @@
-// Congruences factor·x = value modulo Q in one unknown. Q is composite: a factor without an inverse may still have solutions.
+// Congruences factor·x = value modulo Q in one unknown. Where Q is composite, a factor without an inverse may still have solutions.
 use zq::zq::Zq;
 ghost use Rattle.definitions.specs.Zq.{Canonical};
 ghost use Rattle.congruence.specs.Congruence.{Solves, Reduced, Joins, Found};

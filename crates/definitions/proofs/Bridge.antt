@@ -106,6 +106,11 @@ pub words-conj : (a : Element) → words (conj a) ≡ rconj (words a)
 unfolding conj
 words-conj a = words-element (rconj (words a)) (rconj-element (words a) (coeff-canonical a 0))
 
+-- lists whose coefficients agree modulo Q have one element
+pub element-agree : (a b : List ℕ) → ((k : ℕ) → k < 64 → coeff a k % Q ≡ coeff b k % Q) → element a ≡ element b
+unfolding element
+element-agree a b h = words-path (element a) (element b) (table-ext 64 (λ k. coeff a k % Q) (λ k. coeff b k % Q) h)
+
 -- the element of a sum of lists
 pub element-radd : (a b : List ℕ) → element (radd a b) ≡ RqOps .add (element a) (element b)
 element-radd a b = element-path (element (radd a b)) (RqOps .add (element a) (element b)) (λ k h.

@@ -5,18 +5,18 @@ use Prim.Native.Nat.{ℕ, zero, suc, _-_, _*_, _≤_, _<_}
 use native.Mathlib.Omega.{arith}
 use lib.IntN.{pos, negsuc, negℤ, negℤ-negℤ, natAbs, _-ℤ_, _*ℤ_}
 use borrow.Author.Tests.{lt-ltb, le-ltb}
-use Rattle.definitions.specs.Zq.{Q, Canonical, zneg, isLargerThanHalf, centre, size}
+use Rattle.definitions.specs.Zq.{Q, halfQ, Canonical, zneg, isLargerThanHalf, centre, size}
 use Rattle.definitions.specs.Digits.{signed}
 use Rattle.definitions.specs.Norm.{square}
 use Rattle.definitions.proofs.Cases.{ltb-cases}
 
--- a size is at most 2147483647
-pub size-le : (a : ℕ) → Canonical a → size a ≤ 2147483647
-size-le a h = ltb-cases (λ t. cond t (Q - a) a ≤ 2147483647) 2147483647 a (λ l. omega arith) (λ l. omega arith)
+-- a size is at most the greatest centre
+pub size-le : (a : ℕ) → Canonical a → size a ≤ halfQ
+size-le a h = ltb-cases (λ t. cond t (Q - a) a ≤ halfQ) halfQ a (λ l. omega arith) (λ l. omega arith)
 
 -- a value is its size with its sign
 pub signed-size : (a : ℕ) → Canonical a → signed (isLargerThanHalf a) (size a) ≡ a
-signed-size a h = ltb-cases (λ t. signed t (cond t (Q - a) a) ≡ a) 2147483647 a (λ l. omega arith) (λ l. refl)
+signed-size a h = ltb-cases (λ t. signed t (cond t (Q - a) a) ≡ a) halfQ a (λ l. omega arith) (λ l. refl)
 
 -- a − Q is minus Q − a
 below-zero : (a : ℕ) → a < Q → pos a -ℤ pos Q ≡ negℤ (pos (Q - a))
@@ -30,7 +30,7 @@ below-zero a h = ltb-cases (λ t. cond t (negsuc (Q - suc a)) (pos (a - Q)) ≡ 
 
 -- the centre is the size, or minus the size where the value is above half
 pub centre-signed : (a : ℕ) → Canonical a → centre a ≡ cond (isLargerThanHalf a) (negℤ (pos (size a))) (pos (size a))
-centre-signed a h = ltb-cases (λ t. cond t (pos a -ℤ pos Q) (pos a) ≡ cond t (negℤ (pos (cond t (Q - a) a))) (pos (cond t (Q - a) a))) 2147483647 a (λ l. below-zero a h) (λ l. refl)
+centre-signed a h = ltb-cases (λ t. cond t (pos a -ℤ pos Q) (pos a) ≡ cond t (negℤ (pos (cond t (Q - a) a))) (pos (cond t (Q - a) a))) halfQ a (λ l. below-zero a h) (λ l. refl)
 
 -- the absolute value of −n is n
 natAbs-neg : (n : ℕ) → natAbs (negℤ (pos n)) ≡ n
@@ -64,19 +64,19 @@ signed-canonical true n l = omega arith
 signed-canonical false n l = l
 
 -- a value with a sign and a positive size is above half where the sign says so
-half-signed : (t : Bool) (n : ℕ) → 0 < n → n ≤ 2147483647 → isLargerThanHalf (signed t n) ≡ t
-half-signed true n p l = lt-ltb 2147483647 (zneg n) (omega arith)
-half-signed false n p l = le-ltb 2147483647 n l
+half-signed : (t : Bool) (n : ℕ) → 0 < n → n ≤ halfQ → isLargerThanHalf (signed t n) ≡ t
+half-signed true n p l = lt-ltb halfQ (zneg n) (omega arith)
+half-signed false n p l = le-ltb halfQ n l
 
 -- the size of a value given by its sign and size
-pub size-signed : (t : Bool) (n : ℕ) → n ≤ 2147483647 → size (signed t n) ≡ n
+pub size-signed : (t : Bool) (n : ℕ) → n ≤ halfQ → size (signed t n) ≡ n
 size-signed true zero l = refl
 size-signed false zero l = refl
 size-signed true (suc n) l = ap (λ t. cond t (Q - zneg (suc n)) (zneg (suc n))) (half-signed true (suc n) (omega arith) l) ∙ omega arith
 size-signed false (suc n) l = ap (λ t. cond t (Q - suc n) (suc n)) (half-signed false (suc n) (omega arith) l)
 
 -- the centre of a value given by its sign and size
-pub centre-of-signed : (t : Bool) (n : ℕ) → n ≤ 2147483647 → centre (signed t n) ≡ cond t (negℤ (pos n)) (pos n)
+pub centre-of-signed : (t : Bool) (n : ℕ) → n ≤ halfQ → centre (signed t n) ≡ cond t (negℤ (pos n)) (pos n)
 centre-of-signed true zero l = refl
 centre-of-signed false zero l = refl
 centre-of-signed t (suc n) l =

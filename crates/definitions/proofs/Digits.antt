@@ -11,7 +11,7 @@ use lib.ListN.{length, getD}
 use borrow.Author.Tests.{le-ltb}
 use Rattle.lists.specs.Sum.{Σ}
 use Rattle.lists.proofs.Table.{length-table, getD-table}
-use Rattle.definitions.specs.Zq.{Q, Canonical, zneg, isLargerThanHalf, size}
+use Rattle.definitions.specs.Zq.{Q, topQ, halfQ, Canonical, zneg, isLargerThanHalf, size}
 use Rattle.definitions.specs.Digits.{remBelow, remSize, nextSize, sizeAfter, signed, digit, digits, leftover, rest}
 use Rattle.definitions.proofs.Cases.{ltb-cases}
 use Rattle.definitions.proofs.Centre.{size-le, signed-size, size-signed, signed-canonical}
@@ -165,8 +165,8 @@ leftover-zero b n a p =
     let le : (sizeAfter b n (size a) ≤ 0) ↔ (size a ≤ 0 * b ^ n + Σ n (λ k. b / 2 * b ^ k)) = sizeAfter-le b n (size a) 0 p in
     (λ e. omega (arith, le .0 (omega arith)), λ l. omega (arith, le .1 (omega arith)))
 
--- as many parts as reach 2147483647 leave nothing of any value
-pub enough-parts : (b n a : ℕ) → 0 < b → 2147483647 ≤ Σ n (λ k. b / 2 * b ^ k) → Canonical a → leftover b n a ≡ 0
+-- as many parts as reach the greatest size leave nothing of any value
+pub enough-parts : (b n a : ℕ) → 0 < b → halfQ ≤ Σ n (λ k. b / 2 * b ^ k) → Canonical a → leftover b n a ≡ 0
 enough-parts b n a p l h = leftover-zero b n a p .1 (omega (arith, size-le a h))
 
 -- 31 parts of base 2 leave nothing
@@ -180,18 +180,18 @@ unfolding Σ
 enough-of-3 a h = enough-parts 3 21 a (omega arith) (omega arith) h
 
 -- the size of a digit is its remainder's
-pub size-digit : (b a k : ℕ) → 0 < b → b ≤ 4294967294 → size (digit b a k) ≡ remSize b (sizeAfter b k (size a))
+pub size-digit : (b a k : ℕ) → 0 < b → b ≤ topQ → size (digit b a k) ≡ remSize b (sizeAfter b k (size a))
 unfolding digit
 size-digit b a k p l =
     let s = sizeAfter b k (size a) in
     size-signed (digitBelow b a k) (remSize b s) (omega (arith, remSize-le b s p))
 
 -- a digit's size is at most b/2 rounded down
-pub digit-size-le : (b a k : ℕ) → 0 < b → b ≤ 4294967294 → size (digit b a k) ≤ b / 2
+pub digit-size-le : (b a k : ℕ) → 0 < b → b ≤ topQ → size (digit b a k) ≤ b / 2
 digit-size-le b a k p l = rw (size-digit b a k p l) (remSize-le b (sizeAfter b k (size a)) p)
 
 -- a digit is canonical
-pub digit-canonical : (b a k : ℕ) → 0 < b → b ≤ 4294967294 → Canonical (digit b a k)
+pub digit-canonical : (b a k : ℕ) → 0 < b → b ≤ topQ → Canonical (digit b a k)
 unfolding digit
 digit-canonical b a k p l =
     let s = sizeAfter b k (size a) in

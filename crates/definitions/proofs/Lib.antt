@@ -1,5 +1,6 @@
 pub mod Fits
 pub mod Cases
+pub mod Suited
 pub mod IsZero
 pub mod Modulo
 pub mod Centre

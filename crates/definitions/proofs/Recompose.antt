@@ -2,7 +2,7 @@
 use mathlib.Core.Path.{_≡_, refl, sym, ap, ap₂, _∙_}
 use mathlib.Core.Bool.{Bool, true, false}
 use mathlib.Core.Logic.{_↔_}
-use Prim.Native.Nat.{ℕ, zero, suc, _+_, _*_, _/_, _%_, _^_, _≤_, _<_}
+use Prim.Native.Nat.{ℕ, zero, suc, _+_, _-_, _*_, _/_, _%_, _^_, _≤_, _<_}
 use native.Mathlib.Nat.{pow-suc, pow-zero, one-le-pow, pow-le-pow-left, mul-le-mul, mul-le-mul-left, lt-of-not-le}
 use native.Mathlib.Decide.{decLt}
 use native.Mathlib.Numerals.{add-one}
@@ -10,7 +10,7 @@ use native.Mathlib.Omega.{arith}
 use lib.ListN.{getD}
 use Rattle.lists.specs.Sum.{Σ}
 use Rattle.lists.proofs.Sum.{Σ-ext, Σ-le, Σ-mono}
-use Rattle.definitions.specs.Zq.{Q, Canonical, isLargerThanHalf, size}
+use Rattle.definitions.specs.Zq.{Q, topQ, halfQ, Canonical, isLargerThanHalf, size}
 use Rattle.definitions.specs.Digits.{signed, digit, digits, sizeAfter, leftover}
 use Rattle.definitions.specs.Answer.{fine, _then_}
 use Rattle.definitions.specs.Leaf.{limitedBy}
@@ -89,10 +89,10 @@ recompose-iff b n a p h = (λ e. none (leftover b n a) refl e, λ e. recompose-d
         let alone = sym (recompose-digits b n a) ∙ e in
         absurd (never-vanishes t (leftover b n a) (b ^ n) (w .0) (w .1) (omega arith))
 
--- parts are enough just where they reach 2147483647, the greatest size
-pub enough-iff : (b n : ℕ) → 0 < b → Enough b n ↔ (2147483647 ≤ reach b n)
+-- parts are enough just where they reach the greatest size
+pub enough-iff : (b n : ℕ) → 0 < b → Enough b n ↔ (halfQ ≤ reach b n)
 unfolding reach
-enough-iff b n p = (λ f. leftover-zero b n 2147483647 p .0 (f 2147483647 (omega arith)), λ l a h. enough-parts b n a p l h)
+enough-iff b n p = (λ f. leftover-zero b n halfQ p .0 (f halfQ (omega arith)), λ l a h. enough-parts b n a p l h)
 
 -- more parts than enough are enough
 pub enough-more : (b m n : ℕ) → 0 < b → m ≤ n → Enough b m → Enough b n
@@ -100,10 +100,10 @@ unfolding reach
 enough-more b m n p l e = enough-iff b n p .1 (omega (arith, enough-iff b m p .0 e, Σ-mono m n (λ k. b / 2 * b ^ k) l))
 
 -- the parts that are needed, by their reach
-pub needed-by-reach : (b n : ℕ) → 0 < b → 2147483647 ≤ reach b n → ((fewer : ℕ) → fewer < n → reach b fewer < 2147483647) → PartsNeeded b n
+pub needed-by-reach : (b n : ℕ) → 0 < b → halfQ ≤ reach b n → ((fewer : ℕ) → fewer < n → reach b fewer < halfQ) → PartsNeeded b n
 needed-by-reach b n p l f = record {
   enough = enough-iff b n p .1 l;
-  least = λ fewer h e. let k : reach b fewer < 2147483647 = f fewer h in let r : 2147483647 ≤ reach b fewer = enough-iff b fewer p .0 e in omega arith;
+  least = λ fewer h e. let k : reach b fewer < halfQ = f fewer h in let r : halfQ ≤ reach b fewer = enough-iff b fewer p .0 e in omega arith;
 }
 
 -- a base needs one number of parts alone
@@ -130,9 +130,9 @@ unfolding reach Σ
 needed-of-3 = needed-by-reach 3 21 (omega arith) (omega arith) (λ fewer l. omega (arith, Σ-mono fewer 20 (λ k. 3 / 2 * 3 ^ k) (omega arith)))
 
 -- one part is enough in the greatest base alone
-pub needed-is-1 : (b : ℕ) → 2 ≤ b → b ≤ 4294967294 → PartsNeeded b 1 ↔ (b ≡ 4294967294)
+pub needed-is-1 : (b : ℕ) → 2 ≤ b → b ≤ topQ → PartsNeeded b 1 ↔ (b ≡ topQ)
 needed-is-1 b p l = (
-  λ x. let r : 2147483647 ≤ reach b 1 = enough-iff b 1 (omega arith) .0 (x .enough) in omega (arith, one),
+  λ x. let r : halfQ ≤ reach b 1 = enough-iff b 1 (omega arith) .0 (x .enough) in omega (arith, one),
   λ e. needed-by-reach b 1 (omega arith) (omega (arith, one)) (λ fewer h. let z : fewer ≡ 0 = omega arith in omega (arith, ap (reach b) z, reach-none b)),
 )
   where
@@ -155,8 +155,8 @@ needed-at-most-31 b n p x = by (decLt 31 n)
     by (no l) = omega arith
 
 -- the digits of a canonical value, in a base and a number of parts within document 01's limits, are not refused
-pub digits-fit : (b n a : ℕ) → 2 ≤ b → b ≤ 4294967294 → 1 ≤ n → n ≤ 32 → Canonical a → recomposeOperands b (digits b n a) ≡ fine
+pub digits-fit : (b n a : ℕ) → 2 ≤ b → b ≤ topQ → 1 ≤ n → n ≤ 32 → Canonical a → recomposeOperands b (digits b n a) ≡ fine
 digits-fit b n a p l q m h =
-    ap₂ _then_ (within-fine 31 2 4294967294 0 b p l)
+    ap₂ _then_ (within-fine 31 2 topQ 0 b p l)
     (ap₂ _then_ (ap (limitedBy 31 1 32 1) (length-digits b n a) ∙ within-fine 31 1 32 1 n q m)
     (below-fine Q 6 2 (digits b n a) (λ i k. let j : i < n = rw (length-digits b n a) at k in rw (getD-digits b n a i j) (digit-canonical b a i (omega arith) l))))

@@ -4,7 +4,7 @@ use mathlib.Core.Bool.{Bool, true, false, cond, xor}
 use Prim.Native.Nat.{ℕ, _+_, _-_, _*_, _/_, _%_, _≤_, _<_}
 use native.Mathlib.Nat.{div-add-mod', mul-le-mul}
 use native.Mathlib.Omega.{arith}
-use Rattle.definitions.specs.Zq.{Canonical, isLargerThanHalf, size}
+use Rattle.definitions.specs.Zq.{topQ, Canonical, isLargerThanHalf, size}
 use Rattle.definitions.specs.Norm.{square}
 use Rattle.definitions.specs.Digits.{remBelow, nextSize, sizeAfter, signed, digit, leftover, rest}
 use Rattle.definitions.proofs.Centre.{size-le, size-signed}
@@ -28,7 +28,7 @@ unfolding rest digit leftover sizeAfter
 rest-is-digit b a e = whole-rem b (nextSize b (size a)) (remBelow b (nextSize b (size a))) e (isLargerThanHalf a)
 
 -- the second digit's square is never larger than the rest's
-pub digit-within-rest : (b a : ℕ) → 0 < b → b ≤ 4294967294 → Canonical a → square (digit b a 1) ≤ square (rest b a)
+pub digit-within-rest : (b a : ℕ) → 0 < b → b ≤ topQ → Canonical a → square (digit b a 1) ≤ square (rest b a)
 digit-within-rest b a p l h =
     let le : size (digit b a 1) ≤ size (rest b a) = omega (arith, size-digit b a 1 p l, size-rest b a h, remSize-self b (sizeAfter b 1 (size a))) in
     mul-le-mul le le

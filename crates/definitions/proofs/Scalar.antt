@@ -6,9 +6,10 @@ use Rattle.algebra.specs.Ops.{sum}
 use Rattle.algebra.proofs.Ring.{double-cancel, add-mul, mul-nil, nil-mul}
 use Rattle.algebra.proofs.Sum.{sum-map}
 use Rattle.algebra.proofs.Antiperiodic.{Anti, constF, const-mulF}
-use Rattle.definitions.specs.Zq.{Q}
+use Rattle.definitions.specs.Zq.{Q, halfQ}
 use Rattle.definitions.specs.Rq.{Element}
 use Rattle.definitions.specs.Ring.{residue, ZqOps, words, scalar, RqOps, scale}
+use Rattle.definitions.proofs.Suited.{half-inverse}
 use Rattle.definitions.proofs.ZqRing.{residue-mod, residue-add, residue-mul, zq-ring}
 use Rattle.definitions.proofs.RqRing.{coefficient, element-path, coefficient-scalar, coefficient-radd, coefficient-rzero, coefficient-rscale, continued, carry, carry-below, carry-mul, carry-scalar, AntiOps, rq-ring}
 
@@ -106,9 +107,9 @@ scale-one a = scale-scalar a 1 ∙ rq-ring .mul-one a
 pub scale-two : (a : Element) → scale a 2 ≡ RqOps .add a a
 scale-two a = scale-plus a 1 1 ∙ ap₂ (RqOps .add) (scale-one a) (scale-one a)
 
--- 2 is cancelled: its inverse is 2147483648
+-- 2 is cancelled: its inverse is (Q + 1)/2
 pub rq-double-cancel : (a b : Element) → RqOps .add a a ≡ RqOps .add b b → a ≡ b
-rq-double-cancel = double-cancel RqOps rq-ring (scalar 2147483648) (ap (RqOps .mul (scalar 2147483648)) (sym (scalar-add 1 1)) ∙ sym (scalar-mul 2147483648 2) ∙ scalar-mod (2147483648 * 2) 1 refl)
+rq-double-cancel = double-cancel RqOps rq-ring (scalar (halfQ + 1)) (ap (RqOps .mul (scalar (halfQ + 1))) (sym (scalar-add 1 1)) ∙ sym (scalar-mul (halfQ + 1) 2) ∙ scalar-mod ((halfQ + 1) * 2) 1 half-inverse)
 
 -- twice a equal to twice b gives a equal to b
 pub scale-two-cancel : (a b : Element) → scale a 2 ≡ scale b 2 → a ≡ b

@@ -8,7 +8,7 @@ use lib.ListN.{length}
 use lib.IntN.{pos, negℤ}
 use Rattle.lists.specs.Table.{table}
 use Rattle.lists.specs.Sum.{Σ}
-use Rattle.definitions.specs.Zq.{zadd, zmul, centre}
+use Rattle.definitions.specs.Zq.{Q, zadd, zmul, centre}
 use Rattle.definitions.specs.Digits.{digits, digit, sizeAfter}
 use Rattle.definitions.specs.Rq.{rmul, rconj, low, high}
 use Rattle.definitions.specs.Challenge.{shuffle, swaps}
@@ -32,7 +32,7 @@ Holds (r ∷ rs) = (r .given ≡ r .said) × Holds rs
 
 -- the canonical value of −n, for n from 1 to Q − 1
 abbrev pub minus : ℕ → ℕ
-minus n = 4294967295 - n
+minus n = Q - n
 
 infix 6 _X^_
 -- c·X^k

@@ -9,8 +9,9 @@ use native.Mathlib.Omega.{arith}
 use Rattle.lists.specs.Sum.{Σ}
 use Rattle.algebra.specs.Ops.{sum}
 use Rattle.algebra.proofs.Ring.{CRing, double-cancel, eq-of-sub-nil}
-use Rattle.definitions.specs.Zq.{Q, Canonical, zadd, zsub, zneg, zmul}
+use Rattle.definitions.specs.Zq.{Q, halfQ, Canonical, zadd, zsub, zneg, zmul}
 use Rattle.definitions.specs.Ring.{Residue, residue, ZqOps}
+use Rattle.definitions.proofs.Suited.{half-inverse}
 use Rattle.definitions.proofs.Modulo.{add-neg-mod, add-sub-mod, sub-add-mod, mul-mod-first, mul-mod-second, mul-mod-both}
 
 -- canonical values with the same number are equal
@@ -99,6 +100,6 @@ unfolding Σ sum
 residue-Σ zero f = refl
 residue-Σ (suc n) f = residue-add (Σ n f) (f n) ∙ ap (λ x. ZqOps .add x (residue (f n))) (residue-Σ n f)
 
--- 2 is cancelled: its inverse is 2147483648
+-- 2 is cancelled: its inverse is (Q + 1)/2
 pub zq-double-cancel : (a b : Residue) → ZqOps .add a a ≡ ZqOps .add b b → a ≡ b
-zq-double-cancel = double-cancel ZqOps zq-ring (residue 2147483648) (residue-path _ _ refl)
+zq-double-cancel = double-cancel ZqOps zq-ring (residue (halfQ + 1)) (sym (residue-mul (halfQ + 1) 2) ∙ residue-path _ _ half-inverse)

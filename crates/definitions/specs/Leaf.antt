@@ -3,7 +3,7 @@ use mathlib.Core.Bool.{cond}
 use mathlib.Core.List.{List}
 use Prim.Native.Nat.{ℕ}
 use lib.Dec.{ltb}
-use Rattle.definitions.specs.Zq.{Q}
+use Rattle.definitions.specs.Zq.{Q, topQ}
 use Rattle.definitions.specs.Answer.{Answer, fine, refused, below, _then_}
 
 -- "A leaf call refuses a non-canonical word with 6 (place in its operands, in order)"
@@ -20,7 +20,7 @@ limited least greatest place x = limitedBy 4 least greatest place x
 
 -- "digits refuse first a base (place 0) or number of parts (place 1) outside limits with 4; the value starts at place 2"
 abbrev pub digitOperands : ℕ → ℕ → List ℕ → Answer
-digitOperands base parts ws = limited 2 4294967294 0 base then limited 1 32 1 parts then below Q 6 2 ws
+digitOperands base parts ws = limited 2 topQ 0 base then limited 1 32 1 parts then below Q 6 2 ws
 
 -- "A challenge refuses a sign word above 1 with 8, the 41 sign words coming first."
 abbrev pub signWords : List ℕ → Answer

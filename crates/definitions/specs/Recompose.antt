@@ -4,7 +4,7 @@ use mathlib.Core.List.{List}
 use Prim.Native.Nat.{ℕ, _*_, _%_, _^_, _<_}
 use lib.ListN.{length, getD}
 use Rattle.lists.specs.Sum.{Σ}
-use Rattle.definitions.specs.Zq.{Q, Canonical}
+use Rattle.definitions.specs.Zq.{Q, topQ, Canonical}
 use Rattle.definitions.specs.Digits.{leftover}
 use Rattle.definitions.specs.Answer.{Answer, below, _then_}
 use Rattle.definitions.specs.Leaf.{limitedBy}
@@ -24,7 +24,7 @@ pub record PartsNeeded (b parts : ℕ) : Type 0 where
 
 -- "Both refuse with 31 a base (place 0) … outside document 01's limits"
 abbrev pub baseFound : ℕ → Answer
-baseFound base = limitedBy 31 2 4294967294 0 base
+baseFound base = limitedBy 31 2 topQ 0 base
 
 -- "or number of parts (place 1, the count of digits handed in)", "and the first call after that with 6 a non-canonical digit (places from 2)"
 abbrev pub digitsFound : List ℕ → Answer

@@ -1,12 +1,20 @@
 -- Numbers modulo Q (document 01, "Leaves").
 use mathlib.Core.Bool.{Bool, cond}
-use Prim.Native.Nat.{ℕ, _+_, _-_, _*_, _%_, _<_}
+use Prim.Native.Nat.{ℕ, _+_, _-_, _*_, _/_, _%_, _<_}
 use lib.Dec.{ltb}
 use lib.IntN.{ℤ, pos, _-ℤ_}
 
--- "Q = 4294967295, which is composite"
+-- the modulus: "Q = 4294967295, which is composite" is document 01's; `src/modulus.rt` has the same number, and `proofs/Suited.antt` says what another must meet
 abbrev pub Q : ℕ
 Q = 4294967295
+
+-- the greatest canonical value
+abbrev pub topQ : ℕ
+topQ = Q - 1
+
+-- what Q lacks of 2^32: 2^32 is that modulo Q
+abbrev pub lackQ : ℕ
+lackQ = 4294967296 - Q
 
 -- "canonical values are 0 to Q−1"
 abbrev pub Canonical : ℕ → Type 0
@@ -28,9 +36,13 @@ zneg a = (Q - a % Q) % Q
 abbrev pub zmul : ℕ → ℕ → ℕ
 zmul a b = (a * b) % Q
 
--- "Above 2147483647 a value centres to itself less Q": whether it does
+-- the greatest size of a centre
+abbrev pub halfQ : ℕ
+halfQ = Q / 2
+
+-- "Above" halfQ, 2147483647 in document 01, "a value centres to itself less Q": whether it does
 abbrev pub isLargerThanHalf : ℕ → Bool
-isLargerThanHalf a = ltb 2147483647 a
+isLargerThanHalf a = ltb halfQ a
 
 -- the centre of a canonical value
 abbrev pub centre : ℕ → ℤ

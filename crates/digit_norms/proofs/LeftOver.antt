@@ -2,23 +2,24 @@
 use mathlib.Core.Path.{_≡_, refl, sym, _∙_, ap}
 use mathlib.Core.Bool.{cond}
 use mathlib.Core.List.{List}
-use Prim.Native.Nat.{ℕ, _%_, _<_, _^_}
+use Prim.Native.Nat.{ℕ, _%_, _≤_}
 use Rattle.lists.proofs.Table.{table-ext}
 use Rattle.definitions.specs.Zq.{Q}
 use Rattle.definitions.specs.Digits.{leftover}
 use Rattle.definitions.specs.Rq.{coeff, isZero, leftRow}
+use Rattle.rq.specs.Words.{AtMostQ}
 use Rattle.definitions.specs.Ring.{words, element}
 use Rattle.protocol.specs.Formulas.{nothing-left}
 use Rattle.protocol.specs.Conditions.{one-if-left}
-use Rattle.rq_vector.proofs.Rows.{AllFit, of-word, coeff-element}
+use Rattle.rq_vector.proofs.Rows.{of-word, coeff-element}
 
 -- what is left of a word
-left-of-word : (b parts a : ℕ) → a < 2 ^ 32 → leftover b parts (a % Q) ≡ leftover b parts a
+left-of-word : (b parts a : ℕ) → a ≤ Q → leftover b parts (a % Q) ≡ leftover b parts a
 unfolding leftover
 left-of-word b parts a h = of-word (λ x y. leftover b parts x ≡ leftover b parts y) a h (λ x l. refl) refl
 
 -- whether a cell counts, by its words
-pub left-of-words : (b parts : ℕ) (a : List ℕ) → AllFit a → cond (isZero (leftRow b parts a)) 0 1 ≡ one-if-left b parts (element a)
+pub left-of-words : (b parts : ℕ) (a : List ℕ) → AtMostQ a → cond (isZero (leftRow b parts a)) 0 1 ≡ one-if-left b parts (element a)
 unfolding nothing-left leftRow
 left-of-words b parts a f =
     ap (λ l. cond (isZero l) 0 1)

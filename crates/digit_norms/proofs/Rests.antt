@@ -10,6 +10,7 @@ use Rattle.definitions.specs.Zq.{Q, Canonical, size}
 use Rattle.definitions.specs.Norm.{square, norm}
 use Rattle.definitions.specs.Digits.{sizeAfter, rest}
 use Rattle.definitions.specs.Rq.{coeff, digitRow, restRow}
+use Rattle.rq.specs.Words.{AtMostQ}
 use Rattle.definitions.specs.Ring.{words, element}
 use Rattle.definitions.proofs.Centre.{size-le, size-signed}
 use Rattle.definitions.proofs.Digits.{sizeAfter-self}
@@ -17,10 +18,10 @@ use Rattle.definitions.proofs.Rest.{size-rest}
 use Rattle.rq_digits.proofs.Sizes.{sizesAfter}
 use Rattle.protocol.specs.Conditions.{two-parts-norm}
 use Rattle.protocol.proofs.Norms.{norm-table}
-use Rattle.rq_vector.proofs.Rows.{AllFit, of-word, coeff-element, row-of-words}
+use Rattle.rq_vector.proofs.Rows.{of-word, coeff-element, row-of-words}
 
 -- the square of a word's rest is that of the size that goes on
-rest-square : (b a : ℕ) → a < 2 ^ 32 → square (rest b (a % Q)) ≡ square (sizeAfter b 1 (size a))
+rest-square : (b a : ℕ) → a ≤ Q → square (rest b (a % Q)) ≡ square (sizeAfter b 1 (size a))
 rest-square b a h = of-word (λ x y. square (rest b x) ≡ square (sizeAfter b 1 (size y))) a h canonical (canonical 0 (omega arith))
   where
     canonical : (x : ℕ) → Canonical x → square (rest b x) ≡ square (sizeAfter b 1 (size x))
@@ -30,7 +31,7 @@ rest-square b a h = of-word (λ x y. square (rest b x) ≡ square (sizeAfter b 1
         ap (λ n. n * n) (size-rest b x l ∙ sym own)
 
 -- the norm of the rest is that of the sizes that go on after digit 0
-rest-norm : (b : ℕ) (a : List ℕ) → AllFit a → norm (sizesAfter b a 1) ≡ norm (restRow b (words (element a)))
+rest-norm : (b : ℕ) (a : List ℕ) → AtMostQ a → norm (sizesAfter b a 1) ≡ norm (restRow b (words (element a)))
 unfolding sizesAfter restRow
 rest-norm b a f =
     norm-table 64 (λ j. sizeAfter b 1 (size (coeff a j)))
@@ -39,5 +40,5 @@ rest-norm b a f =
     ∙ sym (norm-table 64 (λ j. rest b (coeff (words (element a)) j)))
 
 -- the norms of digit 0 and of the sizes that go on are those of the two parts
-pub parts-norm : (b : ℕ) (a row next : List ℕ) → AllFit a → row ≡ digitRow b a 0 → next ≡ sizesAfter b a 1 → norm row + norm next ≡ two-parts-norm b (element a)
+pub parts-norm : (b : ℕ) (a row next : List ℕ) → AtMostQ a → row ≡ digitRow b a 0 → next ≡ sizesAfter b a 1 → norm row + norm next ≡ two-parts-norm b (element a)
 parts-norm b a row next f e g = ap₂ _+_ (ap norm (e ∙ sym (row-of-words b a 0 f))) (ap norm g ∙ rest-norm b a f)

@@ -14,13 +14,14 @@ use Rattle.lists.proofs.Additive.{additive-table}
 use Rattle.definitions.specs.Zq.{Q}
 use Rattle.definitions.specs.Norm.{square, norm}
 use Rattle.definitions.specs.Rq.{Element, coeff, digitRow}
+use Rattle.rq.specs.Words.{AtMostQ}
 use Rattle.definitions.specs.Ring.{words, element}
 use Rattle.inner_product.specs.Run.{run}
 use Rattle.norms.proofs.Part.{norm-part}
 use Rattle.protocol.specs.Formulas.{norm-of}
 use Rattle.protocol.specs.Conditions.{digits-norm}
 use Rattle.protocol.proofs.Norms.{norm-table, norm-of-additive, norm-of-one}
-use Rattle.rq_vector.proofs.Rows.{AllFit, of-word, row-of-words}
+use Rattle.rq_vector.proofs.Rows.{of-word, row-of-words}
 
 -- a sum over n blocks of w terms each
 pub Σ-blocks : (w n : ℕ) (f : ℕ → ℕ) → Σ (w * n) f ≡ Σ n (λ m. Σ w (λ j. f (w * m + j)))
@@ -32,15 +33,20 @@ unfolding Σ
     more w n = omega arith
 
 -- the square of a word
-pub square-of-word : (a : ℕ) → a < 2 ^ 32 → square (a % Q) ≡ square a
+pub square-of-word : (a : ℕ) → a ≤ Q → square (a % Q) ≡ square a
 square-of-word a h = of-word (λ x y. square x ≡ square y) a h (λ x l. refl) refl
 
 -- the norm of the element of 64 words
-pub norm-of-words : (a : List ℕ) → AllFit a → norm (words (element a)) ≡ Σ 64 (λ j. square (coeff a j))
+pub norm-of-words : (a : List ℕ) → AtMostQ a → norm (words (element a)) ≡ Σ 64 (λ j. square (coeff a j))
 unfolding element
 norm-of-words a f =
     norm-table 64 (λ k. coeff a k % Q)
     ∙ Σ-ext 64 (λ j. square (coeff a j % Q)) (λ j. square (coeff a j)) (λ j h. square-of-word (coeff a j) (f j h))
+
+-- the norm of 64 words up to Q is their element's
+pub norm-settled : (a : List ℕ) → length a ≡ 64 → AtMostQ a → norm a ≡ norm (words (element a))
+unfolding norm
+norm-settled a n f = ap (λ k. Σ k (λ j. square (coeff a j))) n ∙ sym (norm-of-words a f)
 
 -- the norm of a table of elements
 pub norm-of-table : (n : ℕ) (f : ℕ → Element) → norm-of (table n f) ≡ Σ n (λ m. norm (words (f m)))
@@ -48,7 +54,7 @@ norm-of-table n f =
     additive-table norm-of norm-of-additive n f ∙ Σ-ext n (λ m. norm-of (f m ∷ [])) (λ m. norm (words (f m))) (λ m h. norm-of-one (f m))
 
 -- the norm of the words of n elements is theirs
-pub norm-of-run : (l : List ℕ) (at n : ℕ) → at + 64 * n ≤ length l → ((i : ℕ) → i < length l → getD l i 0 < 2 ^ 32) → norm (part l at (64 * n)) ≡ norm-of (table n (run l at 64))
+pub norm-of-run : (l : List ℕ) (at n : ℕ) → at + 64 * n ≤ length l → ((i : ℕ) → i < length l → getD l i 0 ≤ Q) → norm (part l at (64 * n)) ≡ norm-of (table n (run l at 64))
 norm-of-run l at n h f =
     norm-part l at (64 * n) h
     ∙ Σ-blocks 64 n (λ i. square (getD l (at + i) 0))
@@ -68,5 +74,5 @@ norm-of-run l at n h f =
         ∙ sym (norm-of-words (part l (at + 64 * m) 64) (λ j q. rw (word m j q) (f (at + 64 * m + j) (omega arith))))
 
 -- the norms of the rows of digits of 64 words
-pub rows-norm : (b parts : ℕ) (a : List ℕ) → AllFit a → Σ parts (λ q. norm (digitRow b a q)) ≡ digits-norm b parts (element a)
+pub rows-norm : (b parts : ℕ) (a : List ℕ) → AtMostQ a → Σ parts (λ q. norm (digitRow b a q)) ≡ digits-norm b parts (element a)
 rows-norm b parts a f = Σ-ext parts (λ q. norm (digitRow b a q)) (λ q. norm (digitRow b (words (element a)) q)) (λ q h. ap norm (sym (row-of-words b a q f)))

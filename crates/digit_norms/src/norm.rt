@@ -1,5 +1,6 @@
 // Squared norms of runs of elements, and of their digits, which are not stored.
 use definitions::answers::U128;
+use definitions::modulus;
 use rq_digits::digits;
 ghost use mathlib.Core.Path.{_≡_};
 ghost use mathlib.Core.Bool.{cond};
@@ -18,7 +19,19 @@ pub fn elements_norm(from: &[u32], at: usize, count: usize) -> U128
     requires { ⌜ at + 64 * count ≤ length (now from) ⌝ }
     ensures { λ r. ⌜ (value128 r ≡ norm-of (table count (run (now (from .entry)) at 64))) × (r .hi ≤ 64 * count) ⌝ }
 {
-    norms::norm_of(from, at, 64 * count)
+    if modulus::LACK == 1 {
+        return norms::norm_of(from, at, 64 * count);
+    }
+    let mut total = U128 { hi: 0, lo: 0 };
+    let mut place = at;
+    let mut m = 0;
+    while m < count {
+        let a = words::load(from, place).settled().coeffs;
+        total = norms::add_norm(total, &a, 0, 64);
+        place += 64;
+        m += 1;
+    }
+    total
 }
 
 // The squared norm of the digits of cells, and how many of the cells have a coefficient with something left (document 02, Item 5).
@@ -57,7 +70,7 @@ pub fn add_digits_norm(sum: DigitsNorm, a: [u32; 64], base: u32, parts: usize) -
 
 // The squared norm of the digits of the `cells` elements from `at` on, and how many of these have something left.
 pub fn digits_norm(from: &[u32], at: usize, cells: usize, base: u32, parts: usize) -> DigitsNorm
-    requires { ⌜ (at + 64 * cells ≤ length (now from)) × (1 < base) × (parts ≤ 32) × (cells ≤ 2 ^ 20) ⌝ }
+    requires { ⌜ (at + 64 * cells ≤ length (now from)) × (1 < base) × (parts ≤ 32) × (cells ≤ 2 ^ 18) ⌝ }
     ensures { λ r. ⌜ (value128 (r .norm) ≡ norm-of (digits-of base parts (table cells (run (now (from .entry)) at 64)))) × (r .norm .hi ≤ 2048 * cells) ⌝ }
     ensures { λ r. ⌜ r .«cells_left» ≡ count-left base parts (table cells (run (now (from .entry)) at 64)) ⌝ }
 {
@@ -68,7 +81,7 @@ pub fn digits_norm(from: &[u32], at: usize, cells: usize, base: u32, parts: usiz
     let mut place = at;
     let mut c = 0;
     while c < cells {
-        let a = words::load(from, place).coeffs;
+        let a = words::load(from, place).settled().coeffs;
         total = add_digits_norm(total, a, base, parts);
         place += 64;
         c += 1;

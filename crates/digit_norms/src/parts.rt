@@ -7,6 +7,7 @@ ghost use Prim.Native.Nat.{_+_, _*_, _≤_, _<_, _^_};
 ghost use lib.ListN.{length};
 ghost use Rattle.lists.specs.Table.{table};
 ghost use Rattle.definitions.specs.Answer.{value128};
+ghost use Rattle.rq.specs.Words.{AtMostQ};
 ghost use Rattle.definitions.specs.Ring.{element};
 ghost use Rattle.inner_product.specs.Run.{run};
 ghost use Rattle.protocol.specs.Formulas.{norm-of, two-parts};
@@ -14,7 +15,7 @@ ghost use Rattle.protocol.specs.Conditions.{two-parts-norm};
 
 // The sum with the squared norms of an element's digit 0 and of its rest added. A rest's size is the one that goes on, and a norm takes sizes alone.
 pub fn add_two_parts_norm(sum: U128, a: [u32; 64], base: u32) -> U128
-    requires { ⌜ (1 < base) × (sum .hi + 128 < 2 ^ 64) ⌝ }
+    requires { ⌜ (1 < base) × (sum .hi + 128 < 2 ^ 64) × AtMostQ a ⌝ }
     ensures { λ r. ⌜ (value128 r ≡ value128 sum + two-parts-norm base (element a)) × (r .hi ≤ sum .hi + 128) ⌝ }
 {
     let taken = digits::take_row(a, base, digits::sizes_of(a));
@@ -26,14 +27,14 @@ pub fn add_two_parts_norm(sum: U128, a: [u32; 64], base: u32) -> U128
 
 // The squared norm of the two parts of the `count` elements from `at` on.
 pub fn two_parts_norm(from: &[u32], at: usize, count: usize, base: u32) -> U128
-    requires { ⌜ (at + 64 * count ≤ length (now from)) × (1 < base) × (count ≤ 2 ^ 20) ⌝ }
+    requires { ⌜ (at + 64 * count ≤ length (now from)) × (1 < base) × (count ≤ 2 ^ 18) ⌝ }
     ensures { λ r. ⌜ (value128 r ≡ norm-of (flatMap (two-parts base) (table count (run (now (from .entry)) at 64)))) × (r .hi ≤ 128 * count) ⌝ }
 {
     let mut total = U128 { hi: 0, lo: 0 };
     let mut place = at;
     let mut m = 0;
     while m < count {
-        let a = words::load(from, place).coeffs;
+        let a = words::load(from, place).settled().coeffs;
         total = add_two_parts_norm(total, a, base);
         place += 64;
         m += 1;

@@ -15,23 +15,25 @@ use Rattle.lists.proofs.Table.{length-table, getD-table, table-suc, table-ext, 
 use Rattle.lists.proofs.Part.{length-flatMap, part-flatMap}
 use Rattle.lists.proofs.Additive.{flatMap-append}
 use Rattle.lists.proofs.Splice.{splice-append, getD-part, part-splice-within, length-splice}
-use Rattle.definitions.specs.Zq.{Q, size}
+use Rattle.definitions.specs.Zq.{Q, halfQ, size}
+use Rattle.zq.specs.Words.{lack}
 use Rattle.definitions.specs.Rq.{coeff}
+use Rattle.zq.proofs.Words.{lack-canonical}
 use Rattle.rq_product.specs.Product.{extendedCoeff}
 use Rattle.digit_products.specs.Forms.{shiftedCoeff, shifted, Formed, SmallDigits}
 use Rattle.digit_products.specs.Small.{SmallFrom}
 
 -- a size is the number or what it lacks of Q
-size-cases : (c h : ℕ) → size c ≤ h → c < Q → Dec (2147483647 < c) → (v : ℕ) → (c ≤ h → v ≤ 2 * h) → (4294967295 - c ≤ h → v ≤ 2 * h) → v ≤ 2 * h
-size-cases c h s l (yes above) v low high = high (rw (lt-ltb 2147483647 c above) at s)
-size-cases c h s l (no below) v low high = let le : c ≤ 2147483647 = omega arith in low (rw (le-ltb 2147483647 c le) at s)
+size-cases : (c h : ℕ) → size c ≤ h → c < Q → Dec (halfQ < c) → (v : ℕ) → (c ≤ h → v ≤ 2 * h) → (Q - c ≤ h → v ≤ 2 * h) → v ≤ 2 * h
+size-cases c h s l (yes above) v low high = high (rw (lt-ltb halfQ c above) at s)
+size-cases c h s l (no below) v low high = let le : c ≤ halfQ = omega arith in low (rw (le-ltb halfQ c le) at s)
 
 -- a negative coefficient with half the base added, and a coefficient
-negative-small : (c h : ℕ) → size c ≤ h → c < Q → h ≤ 2147483648 → (4294967295 - c + h) % 4294967295 ≤ 2 * h
-negative-small c h s l m = size-cases c h s l (decLt 2147483647 c) ((4294967295 - c + h) % 4294967295) (λ g. omega arith) (λ g. omega arith)
+negative-small : (c h : ℕ) → size c ≤ h → c < Q → h ≤ 2147483648 → (Q - c + h) % Q ≤ 2 * h
+negative-small c h s l m = size-cases c h s l (decLt halfQ c) ((Q - c + h) % Q) (λ g. omega arith) (λ g. omega arith)
 
-plain-small : (c h : ℕ) → size c ≤ h → c < Q → h ≤ 2147483648 → (c + h) % 4294967295 ≤ 2 * h
-plain-small c h s l m = size-cases c h s l (decLt 2147483647 c) ((c + h) % 4294967295) (λ g. omega arith) (λ g. omega arith)
+plain-small : (c h : ℕ) → size c ≤ h → c < Q → h ≤ 2147483648 → (c + h) % Q ≤ 2 * h
+plain-small c h s l m = size-cases c h s l (decLt halfQ c) ((c + h) % Q) (λ g. omega arith) (λ g. omega arith)
 
 -- a form has 128 entries
 pub length-shifted : (half : ℕ) (a : List ℕ) → length (shifted half a) ≡ 128
@@ -84,22 +86,22 @@ form-small a y at half e h canonical within j l =
   where
     by : Dec (j < 64) → shiftedCoeff half a j ≤ 2 * half
     by (yes low) =
-        let first : extendedCoeff a j ≡ 4294967295 - coeff a j = ap (λ b. cond b (4294967295 - coeff a j) (coeff a (j - 64))) (lt-ltb j 64 low) in
+        let first : extendedCoeff a j ≡ Q - coeff a j = ap (λ b. cond b (lack (coeff a j)) (coeff a (j - 64))) (lt-ltb j 64 low) ∙ lack-canonical (coeff a j) (canonical j low) in
         rw first (negative-small (coeff a j) half (within j low) (canonical j low) (omega arith))
     by (no high) =
-        let second : extendedCoeff a j ≡ coeff a (j - 64) = ap (λ b. cond b (4294967295 - coeff a j) (coeff a (j - 64))) (le-ltb j 64 (omega arith)) in
+        let second : extendedCoeff a j ≡ coeff a (j - 64) = ap (λ b. cond b (lack (coeff a j)) (coeff a (j - 64))) (le-ltb j 64 (omega arith)) in
         rw second (plain-small (coeff a (j - 64)) half (within (j - 64) (omega arith)) (canonical (j - 64) (omega arith)) (omega arith))
 
 -- the coefficients of −a shifted, and behind them those of a, are the form of a
-pub halves-form : (half : ℕ) (a b forms : List ℕ) (to : ℕ) → b ≡ table 64 (λ m. 4294967295 - getD a m 0)
-    → splice (splice forms to (table 64 (λ m. (getD b m 0 + half) % 4294967295))) (to + 64) (table 64 (λ m. (getD a m 0 + half) % 4294967295)) ≡ splice forms to (shifted half a)
+pub halves-form : (half : ℕ) (a b forms : List ℕ) (to : ℕ) → b ≡ table 64 (λ m. lack (getD a m 0))
+    → splice (splice forms to (table 64 (λ m. (getD b m 0 + half) % Q))) (to + 64) (table 64 (λ m. (getD a m 0 + half) % Q)) ≡ splice forms to (shifted half a)
 unfolding shifted
 halves-form half a b forms to e =
     let f : ℕ → ℕ = shiftedCoeff half a in
-    let lower : List ℕ = table 64 (λ m. (getD b m 0 + half) % 4294967295) in
-    let upper : List ℕ = table 64 (λ m. (getD a m 0 + half) % 4294967295) in
-    let first : lower ≡ table 64 f = table-ext 64 _ f (λ m h. ap (λ v. (v + half) % 4294967295) (ap (λ w. getD w m 0) e ∙ getD-table 64 _ m 0 h ∙ simp (lt-ltb m 64 h))) in
-    let second : upper ≡ table 64 (λ m. f (64 + m)) = table-ext 64 _ _ (λ m h. ap (λ v. (v + half) % 4294967295) (simp (le-ltb (64 + m) 64 (omega arith), add-sub-cancel-left 64 m))) in
+    let lower : List ℕ = table 64 (λ m. (getD b m 0 + half) % Q) in
+    let upper : List ℕ = table 64 (λ m. (getD a m 0 + half) % Q) in
+    let first : lower ≡ table 64 f = table-ext 64 _ f (λ m h. ap (λ v. (v + half) % Q) (ap (λ w. getD w m 0) e ∙ getD-table 64 _ m 0 h ∙ simp (lt-ltb m 64 h))) in
+    let second : upper ≡ table 64 (λ m. f (64 + m)) = table-ext 64 _ _ (λ m h. ap (λ v. (v + half) % Q) (simp (le-ltb (64 + m) 64 (omega arith), add-sub-cancel-left 64 m))) in
     ap (λ n. splice (splice forms to lower) (to + n) upper) (sym (length-table 64 _))
     ∙ splice-append forms to lower upper
     ∙ ap (splice forms to) (ap (λ w. w ++ upper) first ∙ ap (λ w. table 64 f ++ w) second ∙ sym (table-split 64 64 f))

@@ -27,7 +27,7 @@ module _ (v forms : List ℕ) (half n m : ℕ) (f : Formed forms half v n) (d : 
   within i l = rw (getD-part 0 v (64 * m) 64 i l) (d .within (64 * m + i) (omega arith))
 
   -- what the products ask of the factors
-  pub factors : (x : List ℕ) (start : ℕ) → AllWords x → length x ≡ 64 → start ≤ 2 ^ 53 → Factors x forms (128 * m) 128 start
+  pub factors : (x : List ℕ) (start : ℕ) → AllWords x → length x ≡ 64 → start ≤ 2 ^ 54 → Factors x forms (128 * m) 128 start
   factors x start words count first = record {
     words = words;
     count = count;

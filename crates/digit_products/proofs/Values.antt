@@ -12,6 +12,7 @@ use Rattle.lists.proofs.Table.{getD-table}
 use Rattle.lists.proofs.Splice.{getD-part}
 use Rattle.lists.proofs.Sum.{Σ-add, Σ-mul-left, Σ-mod-ext, Σ-bound}
 use Rattle.definitions.specs.Zq.{Q, zsub}
+use Rattle.digit_products.specs.Small.{timesQ, liftQ}
 use Rattle.definitions.specs.Rq.{coeff, low, high, rmul}
 use Rattle.definitions.specs.Ring.{RqOps, words, element}
 use Rattle.definitions.proofs.RqRing.{rq-ring}
@@ -30,21 +31,21 @@ rmul-comm a b =
     ∙ words-element (rmul b a) (rmul-element b a)
 
 -- equal up to multiples of Q
-multiples : (s t u w : ℕ) → s + 4294967295 * u ≡ t + 4294967295 * w → s % 4294967295 ≡ t % 4294967295
+multiples : (s t u w : ℕ) → s + Q * u ≡ t + Q * w → s % Q ≡ t % Q
 multiples s t u w e = omega arith
 
 -- a product with a number of which h was added, and what the word lacks of Q times h, is the product
-shifted-term : (x e h : ℕ) → x ≤ Q → (h * (4294967295 - x) + x * ((e + h) % 4294967295)) % 4294967295 ≡ x * e % 4294967295
+shifted-term : (x e h : ℕ) → x ≤ 4294967295 → (h * (liftQ - x) + x * ((e + h) % Q)) % Q ≡ x * e % Q
 shifted-term x e h l =
-    let q = (e + h) / 4294967295 in
-    let r = (e + h) % 4294967295 in
-    let whole : e + h ≡ 4294967295 * q + r = omega arith in
-    let lack : 4294967295 - x + x ≡ 4294967295 = omega arith in
-    multiples (h * (4294967295 - x) + x * r) (x * e) (x * q) h (omega (arith, ap (λ t. x * t) whole, ap (λ t. h * t) lack))
+    let q = (e + h) / Q in
+    let r = (e + h) % Q in
+    let whole : e + h ≡ Q * q + r = omega arith in
+    let lack : liftQ - x + x ≡ liftQ = omega arith in
+    multiples (h * (liftQ - x) + x * r) (x * e) (x * q) (h * timesQ) (omega (arith, ap (λ t. x * t) whole, ap (λ t. h * t) lack))
 
-module _ (a b x y : List ℕ) (at half : ℕ) (ex : x ≡ reversed b) (ey : part y at 128 ≡ shifted half a) (words-a : (i : ℕ) → i < 64 → coeff a i ≤ Q) (words-x : AllWords x) (n : length x ≡ 64) where
+module _ (a b x y : List ℕ) (at half : ℕ) (ex : x ≡ reversed b) (ey : part y at 128 ≡ shifted half a) (words-a : (i : ℕ) → i < 64 → coeff a i < 2 ^ 32) (words-x : AllWords x) (n : length x ≡ 64) where
   -- entry k + 1 + i of the form
-  form-at : (k i : ℕ) → k < 64 → i < 64 → getD y (at + k + 1 + i) 0 ≡ (getD (extended a) (k + 1 + i) 0 + half) % 4294967295
+  form-at : (k i : ℕ) → k < 64 → i < 64 → getD y (at + k + 1 + i) 0 ≡ (getD (extended a) (k + 1 + i) 0 + half) % Q
   unfolding shifted extended
   form-at k i h l =
       let place : at + k + 1 + i ≡ at + (k + 1 + i) = omega arith in
@@ -52,20 +53,20 @@ module _ (a b x y : List ℕ) (at half : ℕ) (ex : x ≡ reversed b) (ey : part
       ∙ sym (getD-part 0 y at 128 (k + 1 + i) (omega arith))
       ∙ ap (λ f. getD f (k + 1 + i) 0) ey
       ∙ getD-table 128 (shiftedCoeff half a) (k + 1 + i) 0 (omega arith)
-      ∙ ap (λ e. (e + half) % 4294967295) (sym (getD-table 128 (extendedCoeff a) (k + 1 + i) 0 (omega arith)))
+      ∙ ap (λ e. (e + half) % Q) (sym (getD-table 128 (extendedCoeff a) (k + 1 + i) 0 (omega arith)))
 
   -- the sum for coefficient k is the product's
-  sum-at : (k : ℕ) → k < 64 → (complement x half + productsSum x y (at + k + 1)) % 4294967295 ≡ coeff (rmul a b) k
+  sum-at : (k : ℕ) → k < 64 → (complement x half + productsSum x y (at + k + 1)) % Q ≡ coeff (rmul a b) k
   unfolding rmul
   sum-at k h =
-      let lacking : ℕ → ℕ = λ i. half * (4294967295 - getD x i 0) in
+      let lacking : ℕ → ℕ = λ i. half * (liftQ - getD x i 0) in
       let product : ℕ → ℕ = λ i. getD x i 0 * getD y (at + k + 1 + i) 0 in
       let plain : ℕ → ℕ = λ i. getD x i 0 * getD (extended a) (k + 1 + i) 0 in
-      ap (λ s. (s + productsSum x y (at + k + 1)) % 4294967295) (sym (Σ-mul-left 64 half (λ i. 4294967295 - getD x i 0)))
-      ∙ ap (λ s. s % 4294967295) (sym (Σ-add 64 lacking product))
-      ∙ Σ-mod-ext 64 4294967295 (λ i. lacking i + product i) plain
-      (λ i l. ap (λ f. (half * (4294967295 - getD x i 0) + getD x i 0 * f) % 4294967295) (form-at k i h l) ∙ shifted-term (getD x i 0) (getD (extended a) (k + 1 + i) 0) half (omega (arith, words-x i (omega arith))))
-      ∙ ap (λ z. Σ 64 (λ i. getD z i 0 * getD (extended a) (k + 1 + i) 0) % 4294967295) ex
+      ap (λ s. (s + productsSum x y (at + k + 1)) % Q) (sym (Σ-mul-left 64 half (λ i. liftQ - getD x i 0)))
+      ∙ ap (λ s. s % Q) (sym (Σ-add 64 lacking product))
+      ∙ Σ-mod-ext 64 Q (λ i. lacking i + product i) plain
+      (λ i l. ap (λ f. (half * (liftQ - getD x i 0) + getD x i 0 * f) % Q) (form-at k i h l) ∙ shifted-term (getD x i 0) (getD (extended a) (k + 1 + i) 0) half (omega (arith, words-x i (omega arith))))
+      ∙ ap (λ z. Σ 64 (λ i. getD z i 0 * getD (extended a) (k + 1 + i) 0) % Q) ex
       ∙ coefficient a b words-a k h
       ∙ sym (getD-table 64 (λ k. zsub (low a b k) (high a b k)) k 0 h)
 
@@ -79,18 +80,18 @@ sum-small x y at n start place f l h =
     mul-le-mul u v)
 
 -- such sums added to others: the ring product is added
-pub product-added : (sums a b x y result : List ℕ) (at half : ℕ) → x ≡ reversed b → part y at 128 ≡ shifted half a → ((i : ℕ) → i < 64 → coeff a i ≤ Q)
+pub product-added : (sums a b x y result : List ℕ) (at half : ℕ) → x ≡ reversed b → part y at 128 ≡ shifted half a → ((i : ℕ) → i < 64 → coeff a i < 2 ^ 32)
     → Factors x y at 128 (complement x half) → result ≡ table 64 (λ k. getD sums k 0 + (complement x half + productsSum x y (at + k + 1)))
     → Added (2 ^ 55) sums (rmul b a) result
 product-added sums a b x y result at half ex ey wa f e =
     let added : ℕ → ℕ = λ k. getD sums k 0 + (complement x half + productsSum x y (at + k + 1)) in
     let read : (k : ℕ) → k < 64 → getD result k 0 ≡ added k = λ k h. ap (λ r. getD r k 0) e ∙ getD-table 64 added k 0 h in record {
       value = λ k h.
-          ap (λ v. v % 4294967295) (read k h)
+          ap (λ v. v % Q) (read k h)
           ∙ sums-mod (getD sums k 0) (complement x half + productsSum x y (at + k + 1)) (coeff (rmul b a) k)
           (sum-at a b x y at half ex ey wa (f .words) (f .count) k h ∙ ap (λ r. coeff r k) (rmul-comm a b));
       bound = λ k h. omega (arith, read k h, sum-small x y at 128 (complement x half) (at + k + 1) f (omega arith) (omega arith), f .first);
     }
   where
-    sums-mod : (s p v : ℕ) → p % 4294967295 ≡ v → (s + p) % 4294967295 ≡ (s + v) % 4294967295
+    sums-mod : (s p v : ℕ) → p % Q ≡ v → (s + p) % Q ≡ (s + v) % Q
     sums-mod s p v h = omega arith

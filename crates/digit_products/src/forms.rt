@@ -1,33 +1,39 @@
 // The form in which the products take the digits: the coefficients of −a, then those of a, as `rq_product::product` takes them, each with half the base added, so
 // that none is below zero.
+use definitions::modulus;
 use rq_product::product;
 use zq::wide::wide;
-use zq::zq::Zq;
+use zq::zq::lack;
 ghost use mathlib.Core.Path.{_≡_};
 ghost use mathlib.Core.List.{flatMap};
-ghost use Prim.Native.Nat.{_+_, _-_, _*_, _%_, _≤_};
+ghost use Prim.Native.Nat.{_+_, _*_, _%_, _≤_};
 ghost use lib.ListN.{length, getD};
 ghost use Rattle.lists.specs.Table.{table};
 ghost use Rattle.lists.specs.Part.{part, splice};
 ghost use Rattle.definitions.specs.Zq.{Q};
+ghost use Rattle.zq.specs.Words.{lack};
 ghost use Rattle.digit_products.specs.Forms.{shifted};
 
 // A coefficient with half the base added modulo Q, without a choice, so that it runs on several at a time.
 fn shift(x: u64, half: u64) -> u64
-    requires { ⌜ (x ≤ Q) × (half ≤ 2147483648) ⌝ }
+    requires { ⌜ (x ≤ 4294967295) × (half ≤ 2147483648) ⌝ }
     ensures { λ r. ⌜ r ≡ (x + half) % Q ⌝ }
 {
     let sum = x + half;
-    (sum + (sum + 1) / product::RADIX) % product::RADIX
+    if modulus::LACK == 1 {
+        (sum + (sum + 1) / product::RADIX) % product::RADIX
+    } else {
+        sum % modulus::Q_U64
+    }
 }
 
 // What each coefficient lacks of Q.
 fn complements(a: [u32; 64]) -> [u32; 64]
-    ensures { λ r. ⌜ r ≡ table 64 (λ m. Q - getD a m 0) ⌝ }
+    ensures { λ r. ⌜ r ≡ table 64 (λ m. lack (getD a m 0)) ⌝ }
 {
     let mut out = [0u32; 64];
     for m in 0..64 {
-        out[m] = Zq::Q - a[m];
+        out[m] = lack(a[m]);
     }
     out
 }

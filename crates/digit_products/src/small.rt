@@ -1,4 +1,5 @@
 // Sums of products of words with numbers up to 2^16: 64 of them stay below 2^54, so that nothing is folded.
+use definitions::modulus;
 use rq_product::product;
 ghost use mathlib.Core.Path.{_≡_};
 ghost use Prim.Native.Nat.{_+_, _*_, _≤_, _<_, _^_};
@@ -44,14 +45,17 @@ fn four(x: &[u64], y: &[u64], at: usize, start: u64) -> Sums
     Sums { a, b, c, d }
 }
 
-// What 64 words lack of Q, summed, times half the base.
+// A multiple of Q that no word is above.
+const LIFT: u64 = (4294967295 + modulus::Q_U64 - 1) / modulus::Q_U64 * modulus::Q_U64;
+
+// What 64 words lack of it, summed, times half the base.
 pub fn complement(x: &[u64], half: u64) -> u64
     requires { ⌜ (length (now x) ≡ 64) × AllWords (now x) × (half ≤ 2 ^ 15) ⌝ }
-    ensures { λ r. ⌜ (r ≡ complement (now (x .entry)) half) × (r ≤ 2 ^ 53) ⌝ }
+    ensures { λ r. ⌜ (r ≡ complement (now (x .entry)) half) × (r ≤ 2 ^ 54) ⌝ }
 {
     let mut sum: u64 = 0;
     for i in 0..64 {
-        sum += product::MODULUS - x[i];
+        sum += LIFT - x[i];
     }
     half * sum
 }

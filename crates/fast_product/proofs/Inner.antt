@@ -12,7 +12,7 @@ use Rattle.lists.proofs.Table.{getD-table, table-ext, is-table}
 use Rattle.definitions.specs.Zq.{Q, zsub}
 use Rattle.definitions.specs.Rq.{coeff, low, high, rmul}
 use Rattle.fast_product.specs.Join.{joinOf, joinedOf}
-use Rattle.fast_product.specs.Kept.{Room, valuesOf, valuesAdded, sumsOf, scaledOf, backOf}
+use Rattle.fast_product.specs.Kept.{Room, valuesOf, valuesAdded, sumsOf, offsetQ, scaledOf, backOf}
 use Rattle.fast_product.proofs.Joining.{join-is}
 use Rattle.fast_product.proofs.Residue.{Words, value-bound, product-small, sums-bound, scaled-at}
 
@@ -32,12 +32,12 @@ high-bound a b wa wb k h =
     omega (arith, Σ-bound (63 - k) 18446744065119617025 (λ i. coeff a (k + 1 + i) * coeff b (63 - i)) (λ i l. words-product (coeff a (k + 1 + i)) (coeff b (63 - i)) (wa (k + 1 + i) (omega arith)) (wb (63 - i) (omega arith))))
 
 -- l − h modulo Q, by way of a number that is l − h + 4096·Q²
-difference : (l h : ℕ) → h < 75557863690729951334400 → (l + (75557863690729951334400 - h)) % 4294967295 ≡ zsub l h
+difference : (l h : ℕ) → h < offsetQ → (l + (offsetQ - h)) % Q ≡ zsub l h
 difference l h s =
-    ap (λ x. x % 4294967295) (sym (whole (h % 4294967295) (h / 4294967295) (omega arith) (omega arith)))
-    ∙ Nat.add-mul-mod-self-left (l + (4294967295 - h % 4294967295)) 4294967295 (17592186040319 - h / 4294967295)
+    ap (λ x. x % Q) (sym (whole (h % Q) (h / Q) (omega arith) (omega arith)))
+    ∙ Nat.add-mul-mod-self-left (l + (Q - h % Q)) Q ((4096 * Q - 1) - h / Q)
   where
-    whole : (r q : ℕ) → 4294967295 * q + r ≡ h → r < 4294967295 → l + (4294967295 - r) + 4294967295 * (17592186040319 - q) ≡ l + (75557863690729951334400 - h)
+    whole : (r q : ℕ) → Q * q + r ≡ h → r < Q → l + (Q - r) + Q * ((4096 * Q - 1) - q) ≡ l + (offsetQ - h)
     whole r q e b = omega arith
 
 module _ (n : ℕ) (hn : n ≤ 64) (a b : ℕ → List ℕ) (wa : (m : ℕ) → Words (a m)) (wb : (m : ℕ) → Words (b m)) where
@@ -56,15 +56,15 @@ module _ (n : ℕ) (hn : n ≤ 64) (a b : ℕ → List ℕ) (wa : (m : ℕ) → 
           let hh : Σ n (λ m. high (a m) (b m) k) ≤ n * (63 * 18446744065119617025) = Σ-bound n (63 * 18446744065119617025) (λ m. high (a m) (b m) k) (λ m l. high-bound (a m) (b m) (wa m) (wb m) k h) in
           joined k h (Σ n (λ m. low (a m) (b m) k)) (Σ n (λ m. high (a m) (b m) k)) refl refl (omega arith) (omega arith)
         where
-          joined : (k : ℕ) → k < 64 → (L H : ℕ) → L ≡ Σ n (λ m. low (a m) (b m) k) → H ≡ Σ n (λ m. high (a m) (b m) k) → L ≤ 75557863690729951334400 → H < 75557863690729951334400
+          joined : (k : ℕ) → k < 64 → (L H : ℕ) → L ≡ Σ n (λ m. low (a m) (b m) k) → H ≡ Σ n (λ m. high (a m) (b m) k) → L ≤ 75557863690729951334400 → H < offsetQ
               → joinOf (getD (scaledOf 0 (sumsOf 0 n a b)) k 0) (getD (scaledOf 1 (sumsOf 1 n a b)) k 0) (getD (scaledOf 2 (sumsOf 2 n a b)) k 0) ≡ zsub L H
           joined k h L H eL eH bl bh =
-              let e : L + (75557863690729951334400 - H) + Σ n (λ m. high (a m) (b m) k) ≡ Σ n (λ m. low (a m) (b m) k) + 75557863690729951334400 = omega arith in
-              join-is (L + (75557863690729951334400 - H)) (getD (scaledOf 0 (sumsOf 0 n a b)) k 0) (getD (scaledOf 1 (sumsOf 1 n a b)) k 0) (getD (scaledOf 2 (sumsOf 2 n a b)) k 0)
+              let e : L + (offsetQ - H) + Σ n (λ m. high (a m) (b m) k) ≡ Σ n (λ m. low (a m) (b m) k) + offsetQ = omega arith in
+              join-is (L + (offsetQ - H)) (getD (scaledOf 0 (sumsOf 0 n a b)) k 0) (getD (scaledOf 1 (sumsOf 1 n a b)) k 0) (getD (scaledOf 2 (sumsOf 2 n a b)) k 0)
               (omega arith)
-              (scaled-at 0 (omega arith) n hn a b wa wb k (L + (75557863690729951334400 - H)) h e)
-              (scaled-at 1 (omega arith) n hn a b wa wb k (L + (75557863690729951334400 - H)) h e)
-              (scaled-at 2 (omega arith) n hn a b wa wb k (L + (75557863690729951334400 - H)) h e)
+              (scaled-at 0 (omega arith) n hn a b wa wb k (L + (offsetQ - H)) h e)
+              (scaled-at 1 (omega arith) n hn a b wa wb k (L + (offsetQ - H)) h e)
+              (scaled-at 2 (omega arith) n hn a b wa wb k (L + (offsetQ - H)) h e)
               ∙ difference L H bh
 
   -- one more product

@@ -26,7 +26,7 @@ use Rattle.ntt.specs.Roots.{delta, root, opposite, twiddleTable}
 use Rattle.ntt.specs.Transforms.{backwardOf}
 use Rattle.ntt.proofs.Roots.{primeOf, positive, rootIn, root-half, twiddle-pow, back-pow, twiddles-fit, backs-fit}
 use Rattle.ntt.proofs.Laws.{forward-bound, undone-bound, res-forward, res-backward}
-use Rattle.fast_product.specs.Kept.{valuesOf, sumsOf, inverse64, offset, scaledOf}
+use Rattle.fast_product.specs.Kept.{valuesOf, sumsOf, inverse64, offsetQ, offset, scaledOf}
 
 module _ (O : Ops) (R : CRing O) where
   open Ops O using (Carrier, add as _⊕_, mul as _⊗_, neg, one)
@@ -44,7 +44,7 @@ module _ (O : Ops) (R : CRing O) where
   order : (l h o : Carrier) → l ⊕ neg h ⊕ o ≡ l ⊕ o ⊕ neg h
   order l h o = simp (ring, R)
 
--- each word is at most Q
+-- each entry is a word
 abbrev pub Words : List ℕ → Type 0
 Words a = (k : ℕ) → k < 64 → coeff a k ≤ 4294967295
 
@@ -52,8 +52,8 @@ Words a = (k : ℕ) → k < 64 → coeff a k ≤ 4294967295
 inverse-is : (i : ℕ) → i < 3 → 1 + 63 * primeOf i ≡ 64 * inverse64 i
 inverse-is i h = agree 3 (λ i. 1 + 63 * primeOf i) (λ i. 64 * inverse64 i) tt i h
 
-offset-is : (i : ℕ) → i < 3 → offset i ≡ 75557863690729951334400 % primeOf i
-offset-is i h = agree 3 offset (λ i. 75557863690729951334400 % primeOf i) tt i h
+offset-is : (i : ℕ) → i < 3 → offset i ≡ offsetQ % primeOf i
+offset-is i h = agree 3 offset (λ i. offsetQ % primeOf i) tt i h
 
 -- a value is below twice the prime
 pub value-bound : (i : ℕ) → i < 3 → (a : List ℕ) → Words a → (k : ℕ) → k < 64 → getD (valuesOf i a) k 0 ≤ 134285152
@@ -160,7 +160,7 @@ module _ (i : ℕ) (hi : i < 3) (n : ℕ) (hn : n ≤ 64) (a b : ℕ → List �
       (sum-neg O (mod-ring (primeOf i) (positive i)) n (λ m. r (high (a m) (b m) k)) ∙ ap neg (sym (res-Σ (primeOf i) (positive i) n (λ m. high (a m) (b m) k))))
 
   -- the remainder of a coefficient plus 4096·Q², which is x
-  pub scaled-at : (k x : ℕ) → k < 64 → x + Σ n (λ m. high (a m) (b m) k) ≡ Σ n (λ m. low (a m) (b m) k) + 75557863690729951334400
+  pub scaled-at : (k x : ℕ) → k < 64 → x + Σ n (λ m. high (a m) (b m) k) ≡ Σ n (λ m. low (a m) (b m) k) + offsetQ
       → getD (scaledOf i (sumsOf i n a b)) k 0 ≡ x % primeOf i
   unfolding scaledOf remaindersOf
   scaled-at k x h e =
@@ -179,8 +179,8 @@ module _ (i : ℕ) (hi : i < 3) (n : ℕ) (hn : n ≤ 64) (a b : ℕ → List �
       unit : r 64 ⊗ r (inverse64 i) ≡ one
       unit = sym (res-mul (primeOf i) (positive i) 64 (inverse64 i)) ∙ sym (res-less (primeOf i) (positive i) 1 (64 * inverse64 i) 63 (inverse-is i hi))
 
-      same : x + H ≡ L + 75557863690729951334400 + 0 * primeOf i
-      same = e ∙ sym (ap (λ z. L + 75557863690729951334400 + z) (Nat.zero-mul (primeOf i)) ∙ Nat.add-zero (L + 75557863690729951334400))
+      same : x + H ≡ L + offsetQ + 0 * primeOf i
+      same = e ∙ sym (ap (λ z. L + offsetQ + z) (Nat.zero-mul (primeOf i)) ∙ Nat.add-zero (L + offsetQ))
 
       whole : r (back * inverse64 i + offset i) ≡ r x
       whole =
@@ -190,10 +190,10 @@ module _ (i : ℕ) (hi : i < 3) (n : ℕ) (hn : n ≤ 64) (a b : ℕ → List �
           ∙ ap (λ z. z ⊗ r (inverse64 i)) (res-backward (delta i) (opposite i) twiddleTable (576 + 192 * i) (backs-fit i hi) (positive i) (rootIn i) (root-half i hi) (λ j t hj ht. back-pow i j t hi hj ht) (sumsOf i n a b) sums-fit C sums-values k h)
           ∙ cancelled O (mod-ring (primeOf i) (positive i)) (r 64) (C k) (r (inverse64 i)) unit
           ∙ inner-at k h)
-          (ap r (offset-is i hi) ∙ res-reduced (primeOf i) (positive i) 75557863690729951334400)
-          ∙ order O (mod-ring (primeOf i) (positive i)) (r L) (r H) (r 75557863690729951334400)
-          ∙ ap (λ z. z ⊕ neg (r H)) (sym (res-add (primeOf i) (positive i) L 75557863690729951334400))
-          ∙ sym (res-sub (primeOf i) (positive i) (L + 75557863690729951334400) H x 0 same)
+          (ap r (offset-is i hi) ∙ res-reduced (primeOf i) (positive i) offsetQ)
+          ∙ order O (mod-ring (primeOf i) (positive i)) (r L) (r H) (r offsetQ)
+          ∙ ap (λ z. z ⊕ neg (r H)) (sym (res-add (primeOf i) (positive i) L offsetQ))
+          ∙ sym (res-sub (primeOf i) (positive i) (L + offsetQ) H x 0 same)
 
 -- the way back stays below three times the prime
 pub back-small : (i : ℕ) → i < 3 → (s : List ℕ) → ((k : ℕ) → k < 64 → getD s k 0 < 2 ^ 64) → (k : ℕ) → k < 64 → getD (backwardOf (delta i) (opposite i) twiddleTable (576 + 192 * i) s) k 0 ≤ 285600000

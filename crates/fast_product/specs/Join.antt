@@ -3,6 +3,7 @@ use mathlib.Core.List.{List}
 use Prim.Native.Nat.{ℕ, _+_, _-_, _*_, _%_, _<_}
 use lib.ListN.{getD}
 use Rattle.lists.specs.Table.{table}
+use Rattle.definitions.specs.Zq.{Q}
 
 -- the second digit: 36508953 is the inverse of the first prime modulo the second
 abbrev pub middleOf : ℕ → ℕ → ℕ
@@ -12,9 +13,13 @@ middleOf first second = (second + 268431362 - first) * 36508953 % 134215681
 abbrev pub topOf : ℕ → ℕ → ℕ → ℕ
 topOf first middle third = ((third + 268431106 - first) * 32067747 + (268431106 - middle) * 133166994) % 134215553
 
--- the number modulo Q: 273937709 is the product of the first two primes
+-- the product of the first two primes modulo Q
+abbrev pub pairQ : ℕ
+pairQ = 18014038001972609 % Q
+
+-- the number modulo Q
 unfoldable pub joinOf : ℕ → ℕ → ℕ → ℕ
-joinOf first second third = (first + 134217089 * middleOf first second + 273937709 * topOf first (middleOf first second) third) % 4294967295
+joinOf first second third = (first + 134217089 * middleOf first second + pairQ * topOf first (middleOf first second) third) % Q
 
 -- entry by entry
 unfoldable pub joinedOf : List ℕ → List ℕ → List ℕ → List ℕ

@@ -1,10 +1,11 @@
 -- Transforms that are kept (document 02, Item 7): values modulo the three primes, sums of their products, and the way back.
 use mathlib.Core.Path.{_≡_}
 use mathlib.Core.List.{List}
-use Prim.Native.Nat.{ℕ, zero, suc, _+_, _*_, _<_, _^_}
+use Prim.Native.Nat.{ℕ, zero, suc, _+_, _*_, _%_, _<_, _^_}
 use lib.ListN.{getD}
 use Rattle.lists.specs.Table.{table}
 use Rattle.lists.specs.Sum.{Σ}
+use Rattle.definitions.specs.Zq.{Q}
 use Rattle.ntt_layers.specs.Words.{remaindersOf}
 use Rattle.ntt.specs.Roots.{delta, opposite, twiddleTable}
 use Rattle.ntt.specs.Transforms.{forwardOf, backwardOf}
@@ -38,11 +39,15 @@ inverse64 zero = 132119947
 inverse64 (suc zero) = 132118561
 inverse64 (suc (suc i)) = 132118435
 
--- 4096·Q², a multiple of Q above the size of every sum of 64 products, modulo prime i
+-- 4096·Q², a multiple of Q above what is taken off in every sum of 64 products
+abbrev pub offsetQ : ℕ
+offsetQ = 4096 * (Q * Q)
+
+-- and modulo prime i
 abbrev pub offset : ℕ → ℕ
-offset zero = 113276202
-offset (suc zero) = 4063362
-offset (suc (suc i)) = 24000906
+offset zero = offsetQ % 134217089
+offset (suc zero) = offsetQ % 134215681
+offset (suc (suc i)) = offsetQ % 134215553
 
 -- the remainders by prime i of the coefficients plus 4096·Q²
 unfoldable pub scaledOf : ℕ → List ℕ → List ℕ

@@ -1,21 +1,26 @@
 // A number below the product of the three primes, from its remainders, modulo Q.
+use definitions::modulus;
 use ntt_layers::fold;
 use zq::wide::wide;
 ghost use mathlib.Core.Path.{_≡_};
 ghost use Prim.Native.Nat.{_<_};
+ghost use Rattle.definitions.specs.Zq.{Q};
 ghost use Rattle.fast_product.specs.Join.{joinOf, joinedOf, Remainders};
+
+// The product of the first two primes modulo Q.
+const PAIR: u64 = 18014038001972609 % modulus::Q_U64;
 
 // Mixed radix: the digits in base 134217089 and 134215681, then the number modulo Q.
 pub fn join(first: u64, second: u64, third: u64) -> u64
     requires { ⌜ (first < 134217089) × (second < 134215681) × (third < 134215553) ⌝ }
-    ensures { λ r. ⌜ (r ≡ joinOf first second third) × (r < 4294967295) ⌝ }
+    ensures { λ r. ⌜ (r ≡ joinOf first second third) × (r < Q) ⌝ }
 {
     let middle = fold::remainder((second + 268431362 - first) * 36508953, 2047);
     let top = fold::remainder(
         (third + 268431106 - first) * 32067747 + (268431106 - middle) * 133166994,
         2175,
     );
-    (first + 134217089 * middle + 273937709 * top) % 4294967295
+    (first + 134217089 * middle + PAIR * top) % modulus::Q_U64
 }
 
 // Entry by entry.

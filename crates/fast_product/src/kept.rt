@@ -1,5 +1,6 @@
 // Transforms that are kept: an inner product of up to 64 elements is a sum of products of their values, with one way back.
 use crate::join;
+use definitions::modulus::Q_U64;
 use ntt::transforms;
 use ntt_layers::words;
 use zq::wide::wide;
@@ -87,6 +88,13 @@ pub fn add_product(sums: Sums, x: Transformed, y: Transformed) -> Sums
     }
 }
 
+// 4096·Q² modulo the three primes.
+const FIRST_OFFSET: u64 = (Q_U64 % 134217089) * (Q_U64 % 134217089) % 134217089 * 4096 % 134217089;
+
+const SECOND_OFFSET: u64 = (Q_U64 % 134215681) * (Q_U64 % 134215681) % 134215681 * 4096 % 134215681;
+
+const THIRD_OFFSET: u64 = (Q_U64 % 134215553) * (Q_U64 % 134215553) % 134215553 * 4096 % 134215553;
+
 // From sums of products of values to the coefficients of the inner product. The factors are the inverses of 64, and the offsets the remainders of
 // 4096·Q², which makes every sum of 64 products positive.
 pub fn back(sums: Sums, w: &[u32]) -> [u32; 64]
@@ -99,19 +107,19 @@ pub fn back(sums: Sums, w: &[u32]) -> [u32; 64]
     let first = words::remainders(
         transforms::backward(s, w, 576, 639, 3898195327),
         132119947,
-        113276202,
+        FIRST_OFFSET,
         639,
     );
     let second = words::remainders(
         transforms::backward(t, w, 768, 2047, 130021375),
         132118561,
-        4063362,
+        SECOND_OFFSET,
         2047,
     );
     let third = words::remainders(
         transforms::backward(u, w, 960, 2175, 2442639231),
         132118435,
-        24000906,
+        THIRD_OFFSET,
         2175,
     );
     join::join_all(first, second, third)

@@ -11,10 +11,12 @@ use Rattle.lists.proofs.Table.{table-ext}
 use Rattle.lists.proofs.Sum.{Σ-suc, Σ-ext}
 use Rattle.algebra.specs.Ops.{sum, dot}
 use Rattle.algebra.proofs.Sum.{sum-ext}
-use Rattle.definitions.specs.Zq.{Q}
+use Rattle.definitions.specs.Zq.{Q, lackQ}
 use Rattle.definitions.specs.Rq.{coeff, rmul, rscale}
 use Rattle.definitions.specs.Ring.{RqOps, IsElement, words, element, scale}
 use Rattle.definitions.proofs.Bridge.{words-sum, words-element, element-rmul, element-rscale, rmul-element, rscale-element}
+use Rattle.definitions.proofs.Suited.{suited, sums-fit}
+use Rattle.rq_product.specs.Product.{growth}
 use Rattle.rq_product.specs.Sums.{Room, Added}
 use Rattle.inner_product.specs.Run.{run}
 
@@ -27,7 +29,7 @@ pub record Totals (growth : ℕ) (totals : List ℕ) (m : ℕ) (f : ℕ → List
 pub totals-none : (growth : ℕ) (f : ℕ → List ℕ) → Totals growth (replicate 64 0) 0 f
 unfolding Σ
 totals-none growth f = record {
-  value = λ k h. ap (λ v. v % 4294967295) (getD-replicate {A = ℕ} 64 k 0 0 h);
+  value = λ k h. ap (λ v. v % Q) (getD-replicate {A = ℕ} 64 k 0 0 h);
   bound = λ k h. omega (arith, getD-replicate {A = ℕ} 64 k 0 0 h);
 }
 
@@ -35,16 +37,16 @@ totals-none growth f = record {
 pub totals-next : (growth : ℕ) (totals next : List ℕ) (m : ℕ) (f : ℕ → List ℕ) → Totals growth totals m f → Added growth totals (f m) next → Totals growth next (m + 1) f
 totals-next growth totals next m f t a = record {
   value = λ k h.
-      a .value k h ∙ step (getD totals k 0) (Σ m (λ i. coeff (f i) k)) (coeff (f m) k) (t .value k h) ∙ ap (λ v. v % 4294967295) (sym (Σ-suc m (λ i. coeff (f i) k)));
+      a .value k h ∙ step (getD totals k 0) (Σ m (λ i. coeff (f i) k)) (coeff (f m) k) (t .value k h) ∙ ap (λ v. v % Q) (sym (Σ-suc m (λ i. coeff (f i) k)));
   bound = λ k h. omega (arith, a .bound k h, t .bound k h);
 }
   where
-    step : (x y z : ℕ) → x % 4294967295 ≡ y % 4294967295 → (x + z) % 4294967295 ≡ (y + z) % 4294967295
+    step : (x y z : ℕ) → x % Q ≡ y % Q → (x + z) % Q ≡ (y + z) % Q
     step x y z e = omega arith
 
--- there is room while they are few
-pub totals-room : (totals : List ℕ) (m : ℕ) (f : ℕ → List ℕ) → Totals (2 ^ 39) totals m f → m ≤ 2 ^ 20 → Room totals
-totals-room totals m f t few k h = omega (arith, t .bound k h)
+-- there is room while they are few, since Q lacks little of 2^32
+pub totals-room : (totals : List ℕ) (m : ℕ) (f : ℕ → List ℕ) → Totals growth totals m f → m ≤ 2 ^ 18 → Room totals
+totals-room totals m f t few k h = omega (arith, t .bound k h, sums-fit lackQ m suited few)
 
 -- reduced, they are the words of the elements' sum
 pub totals-words : (growth : ℕ) (totals : List ℕ) (n : ℕ) (f : ℕ → List ℕ) → Totals growth totals n f → ((m : ℕ) → IsElement (f m))
@@ -72,9 +74,9 @@ abbrev pub scaled-of : (x : List ℕ) (x-at x-step : ℕ) (factors : List ℕ) (
 scaled-of x x-at x-step factors at m = rscale (part x (x-at + x-step * m) 64) (getD factors (at + m) 0)
 
 -- the totals of scaled elements are the linear combination
-pub totals-combination : (x : List ℕ) (x-at x-step : ℕ) (factors : List ℕ) (at n : ℕ) (totals : List ℕ) → Totals (2 ^ 39) totals n (scaled-of x x-at x-step factors at)
+pub totals-combination : (x : List ℕ) (x-at x-step : ℕ) (factors : List ℕ) (at n : ℕ) (totals : List ℕ) → Totals growth totals n (scaled-of x x-at x-step factors at)
     → table 64 (λ k. getD totals k 0 % Q) ≡ words (sum RqOps n (λ m. scale (run x x-at x-step m) (getD factors (at + m) 0)))
 totals-combination x x-at x-step factors at n totals t =
-    totals-words (2 ^ 39) totals n (scaled-of x x-at x-step factors at) t (λ m. rscale-element (part x (x-at + x-step * m) 64) (getD factors (at + m) 0))
+    totals-words growth totals n (scaled-of x x-at x-step factors at) t (λ m. rscale-element (part x (x-at + x-step * m) 64) (getD factors (at + m) 0))
     ∙ ap words (sum-ext RqOps n (λ m. element (scaled-of x x-at x-step factors at m)) (λ m. scale (run x x-at x-step m) (getD factors (at + m) 0))
     (λ m l. element-rscale (part x (x-at + x-step * m) 64) (getD factors (at + m) 0)))

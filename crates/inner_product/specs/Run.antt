@@ -13,7 +13,7 @@ run words at step m = element (part words (at + step * m) 64)
 -- a run of n elements lies within the slice
 pub record Run (words : List ℕ) (at step n : ℕ) : Type 0 where
   pub within : (m : ℕ) → m < n → at + step * m + 64 ≤ length words
-  pub few : n ≤ 2 ^ 20
+  pub few : n ≤ 2 ^ 18
   pub near : step ≤ 2 ^ 40
   pub first : at ≤ 2 ^ 62
 

@@ -24,4 +24,4 @@ pub record Within (R : List ℕ) (pi : ℕ) (W : List ℕ) (s n end : ℕ) : Typ
   pub matrices : pi + end * 256 * (64 * n) ≤ length R
   pub vectors : s + end * (64 * n) ≤ length W
   pub narrow : n ≤ 1024
-  pub few : end ≤ 65536
+  pub few : end ≤ 32768

@@ -1,40 +1,70 @@
 // p, the projection of the witness: sums of words where the projection's entry is 1 and of their negatives where it is −1.
 // A slice is passed whole, with the place of what is read or written.
-use zq::zq::Zq;
+use definitions::modulus;
+use zq::zq::lack;
 ghost use mathlib.Core.Path.{_≡_};
 ghost use Prim.Native.Nat.{_+_, _*_, _%_, _≤_, _<_};
 ghost use lib.ListN.{length};
 ghost use Rattle.lists.specs.Part.{splice};
 ghost use Rattle.definitions.specs.Zq.{Q};
-ghost use Rattle.jl.specs.Rows.{term, row-sum};
+ghost use Rattle.jl.specs.Rows.{term, flipped, is-negative, row-sum};
 ghost use Rattle.jl.specs.Run.{run-row, run, Within};
 
 // Q as a u64.
-const MODULUS: u64 = Zq::Q as u64;
+const MODULUS: u64 = modulus::Q_U64;
 
-// The word, its negative or 0, as the projection word's entry is 1, −1 or 0. Q less a word is the word with each bit changed.
-pub fn term(code: u32, word: u32) -> u32
-    ensures { λ r. ⌜ r ≡ term code word ⌝ }
+// What a word with each bit changed lacks of the word's negative: nothing where Q is 2^32 − 1.
+const FLIP: u64 = (modulus::Q_U64 - (modulus::LACK as u64 - 1)) % modulus::Q_U64;
+
+// The word, the word with each bit changed, or 0, as the projection word's entry is 1, −1 or 0.
+fn flipped(code: u32, word: u32) -> u32
+    ensures { λ r. ⌜ r ≡ flipped code word ⌝ }
 {
     let mask = if code < 1073741824 { 4294967295 } else { 0 };
     if code < 2147483648 { word ^ mask } else { 0 }
 }
 
-// The sum of `count` terms. Their lower and upper halves are summed in 32 bits.
+// 1 where the projection word's entry is −1.
+fn is_negative(code: u32) -> u32
+    ensures { λ r. ⌜ (r ≡ is-negative code) × (r ≤ 1) ⌝ }
+{
+    if code < 1073741824 { 1 } else { 0 }
+}
+
+// The word, its negative or 0, as the projection word's entry is 1, −1 or 0.
+pub fn term(code: u32, word: u32) -> u32
+    ensures { λ r. ⌜ r ≡ term code word ⌝ }
+{
+    if modulus::LACK == 1 {
+        return flipped(code, word);
+    }
+    if code < 1073741824 {
+        lack(word)
+    } else if code < 2147483648 {
+        word
+    } else {
+        0
+    }
+}
+
+// The sum of `count` words, each with its entry's sign: the lower and the upper halves of the flipped words are summed in 32 bits.
 fn row(randomness: &[u32], at: usize, witness: &[u32], wt: usize, count: usize) -> u64
     requires { ⌜ (at + count ≤ length (now randomness)) × (wt + count ≤ length (now witness)) × (count ≤ 65536) ⌝ }
-    ensures { λ r. ⌜ (r % Q ≡ row-sum (now (randomness .entry)) at (now (witness .entry)) wt count % Q) × (r ≤ Q * count) ⌝ }
+    ensures { λ r. ⌜ (r % Q ≡ row-sum (now (randomness .entry)) at (now (witness .entry)) wt count % Q) × (r ≤ 8589934590 * count) ⌝ }
 {
     let mut low: u32 = 0;
     let mut high: u32 = 0;
+    let mut negatives: u32 = 0;
     let mut m = 0;
     while m < count {
-        let t = term(randomness[at + m], witness[wt + m]);
+        let code = randomness[at + m];
+        let t = flipped(code, witness[wt + m]);
         low += t % 65536;
         high += t / 65536;
+        negatives += is_negative(code);
         m += 1;
     }
-    high as u64 * 65536 + low as u64
+    high as u64 * 65536 + low as u64 + negatives as u64 * FLIP
 }
 
 // Row j of the projection of the vectors from `first` up to `end`.

@@ -15,13 +15,14 @@ use Rattle.lists.proofs.Table.{getD-table}
 use Rattle.definitions.specs.Zq.{Q, zneg}
 use Rattle.definitions.specs.Projection.{entry}
 use Rattle.definitions.proofs.Cases.{ltb-cases}
+use Rattle.zq.proofs.Words.{lowered-le, lowered-mod}
 use Rattle.jl.specs.Rows.{term}
 use Rattle.jl_omega.specs.Omega.{carried, omega-element}
-use Rattle.jl_pairs.specs.Pairs.{pair-number, pair-sum, pair-entry, four-entry, four-place, tables-entry, row-tables, row-term, biased, Added}
+use Rattle.jl_pairs.specs.Pairs.{pair-number, pair-sum, pair-entry, pair-table, lowered-sum, four-entry, four-place, tables-entry, row-tables, row-term, biased, Added}
 use Rattle.jl_fours.specs.Fours.{Summed, summed-element}
 use Rattle.jl.proofs.Places.{add-mod}
-use Rattle.jl.proofs.Terms.{term-mod}
-use Rattle.jl_omega.proofs.Columns.{carried-mod, conjugated-columns}
+use Rattle.jl.proofs.Terms.{term-le, term-mod}
+use Rattle.jl_omega.proofs.Columns.{carried-word, carried-mod, conjugated-columns}
 
 -- the upper two bits of a projection word fix its entry
 entry-number : (u : ℕ) → entry (u / 1073741824 * 1073741824) ≡ entry u
@@ -38,7 +39,7 @@ entry-number u =
     v = u / 1073741824 * 1073741824
 
 -- a term by the entry's number
-number-mod : (u d w : ℕ) → d ≡ u / 1073741824 → w ≤ Q → term (d * 1073741824) w % Q ≡ (entry u * w) % Q
+number-mod : (u d w : ℕ) → d ≡ u / 1073741824 → w ≤ 4294967295 → term (d * 1073741824) w % Q ≡ (entry u * w) % Q
 number-mod u d w e h = ap (λ d. term (d * 1073741824) w % Q) e ∙ term-mod (u / 1073741824 * 1073741824) w h ∙ ap (λ e. (e * w) % Q) (entry-number u)
 
 -- four more terms of a sum
@@ -60,7 +61,10 @@ groups-mod a b f F (suc m) s h =
     four : ℕ
     four = f (4 * (a + m)) + f (4 * (a + m) + 1) + (f (4 * (a + m) + 1 + 1) + f (4 * (a + m) + 1 + 1 + 1))
 
-module _ (R : List ℕ) (h : (i : ℕ) → getD R i 0 ≤ Q) where
+below : (x : ℕ) → x ≤ 4294967295 → x < 4294967296
+below x h = omega arith
+
+module _ (R : List ℕ) (h : (i : ℕ) → getD R i 0 ≤ 4294967295) where
   -- the sum of two rows' terms modulo Q
   pair-mod : (at a step x : ℕ) → x ≡ pair-number R a step → pair-sum R at x % Q ≡ (entry (getD R a 0) * getD R at 0 + entry (getD R (a + step) 0) * getD R (at + 1) 0) % Q
   pair-mod at a step x e =
@@ -126,10 +130,11 @@ module _ (R : List ℕ) (h : (i : ℕ) → getD R i 0 ≤ Q) where
     -- what group g adds to the sum of column c for k
     group-mod : (x : ℕ)
         → x
-        ≡ carried (getD pairs (4 * pair-number R (pi + 4 * g * width + c) width + k) 0) (getD pairs (64 + 4 * pair-number R (pi + 4 * g * width + 2 * width + c) width + k) 0)
+        ≡ lowered-sum (getD pairs (4 * pair-number R (pi + 4 * g * width + c) width + k) 0) (getD pairs (64 + 4 * pair-number R (pi + 4 * g * width + 2 * width + c) width + k) 0)
         → x % Q ≡ (product (4 * g) + product (4 * g + 1) + (product (4 * g + 1 + 1) + product (4 * g + 1 + 1 + 1))) % Q
     group-mod x e =
         ap (λ x. x % Q) e
+        ∙ lowered-mod (carried first second)
         ∙ carried-mod first second
         ∙ add-mod Q first second (product (4 * g) + product (4 * g + 1)) (product (4 * g + 1 + 1) + product (4 * g + 1 + 1 + 1)) first-mod second-mod
       where
@@ -142,7 +147,7 @@ module _ (R : List ℕ) (h : (i : ℕ) → getD R i 0 ≤ Q) where
   -- the entries of table t for a number x + 16·y and k
   table-at : (om t x y k : ℕ) → t < 4 → x < 16 → y < 16 → k < 4
       → getD (row-tables R om) (1024 * t + 4 * (x + 16 * y) + k) 0
-      ≡ carried (getD (table 128 (pair-entry R (om + 4 * t))) (4 * x + k) 0) (getD (table 128 (pair-entry R (om + 4 * t))) (64 + 4 * y + k) 0)
+      ≡ lowered-sum (getD (table 128 (pair-entry R (om + 4 * t))) (4 * x + k) 0) (getD (table 128 (pair-entry R (om + 4 * t))) (64 + 4 * y + k) 0)
   table-at om t x y k ht hx hy hk =
       let which : (1024 * t + 4 * (x + 16 * y) + k) / 1024 ≡ t = omega arith in
       let place : (1024 * t + 4 * (x + 16 * y) + k) % 1024 ≡ 4 * (x + 16 * y) + k = omega arith in
@@ -150,7 +155,19 @@ module _ (R : List ℕ) (h : (i : ℕ) → getD R i 0 ≤ Q) where
       let high : 64 + 4 * ((4 * (x + 16 * y) + k) / 64) + (4 * (x + 16 * y) + k) % 4 ≡ 64 + 4 * y + k = omega arith in
       getD-table 4096 (tables-entry R om) (1024 * t + 4 * (x + 16 * y) + k) 0 (omega arith)
       ∙ ap₂ (λ u v. four-entry (table 128 (pair-entry R (om + 4 * u))) v) which place
-      ∙ ap₂ (λ p q. carried (getD (table 128 (pair-entry R (om + 4 * t))) p 0) (getD (table 128 (pair-entry R (om + 4 * t))) q 0)) low high
+      ∙ ap₂ (λ p q. lowered-sum (getD (table 128 (pair-entry R (om + 4 * t))) p 0) (getD (table 128 (pair-entry R (om + 4 * t))) q 0)) low high
+
+  -- a pair's sum is a word
+  pair-word : (o q : ℕ) → q < 128 → getD (pair-table R o) q 0 < 4294967296
+  pair-word o q l =
+      let at : ℕ = o + q / 64 * 2 + q % 4 * 256 in
+      rw (getD-table 128 (pair-entry R o) q 0 l) (carried-word _ _ (below _ (term-le (q / 4 % 16 % 4 * 1073741824) _ (h at))) (below _ (term-le (q / 4 % 16 / 4 * 1073741824) _ (h (at + 1)))))
+
+  -- what the tables give is at most Q
+  pub tables-small : (om i : ℕ) → i < 4096 → getD (row-tables R om) i 0 ≤ Q
+  tables-small om i l =
+      let o : ℕ = om + 4 * (i / 1024) in
+      rw (getD-table 4096 (tables-entry R om) i 0 l) (lowered-le _ (carried-word _ _ (pair-word o (i % 1024 % 64) (omega arith)) (pair-word o (64 + 4 * (i % 1024 / 64) + i % 1024 % 4) (omega arith))))
 
   -- the number of two words' entries is below 16
   pair-below : (at step : ℕ) → pair-number R at step < 16
@@ -159,7 +176,7 @@ module _ (R : List ℕ) (h : (i : ℕ) → getD R i 0 ≤ Q) where
   -- what table t gives for the sum of column c and k
   row-term-at : (pi om width g c k t : ℕ) → k < 4 → t < 4
       → row-term R (pi + 16 * g * width) width (row-tables R (om + 16 * g)) (4 * c + k) t
-      ≡ carried (getD (table 128 (pair-entry R (om + 4 * (4 * g + t)))) (4 * pair-number R (pi + 4 * (4 * g + t) * width + c) width + k) 0)
+      ≡ lowered-sum (getD (table 128 (pair-entry R (om + 4 * (4 * g + t)))) (4 * pair-number R (pi + 4 * (4 * g + t) * width + c) width + k) 0)
       (getD (table 128 (pair-entry R (om + 4 * (4 * g + t)))) (64 + 4 * pair-number R (pi + 4 * (4 * g + t) * width + 2 * width + c) width + k) 0)
   row-term-at pi om width g c k t few less =
       let column : (4 * c + k) / 4 ≡ c = omega arith in
@@ -172,10 +189,10 @@ module _ (R : List ℕ) (h : (i : ℕ) → getD R i 0 ≤ Q) where
       (pair-below (row + 4 * t * width + c) width)
       (pair-below (row + 4 * t * width + c + 2 * width) width)
       few
-      ∙ ap (λ o. carried (getD (table 128 (pair-entry R o)) (4 * pair-number R (row + 4 * t * width + c) width + k) 0)
+      ∙ ap (λ o. lowered-sum (getD (table 128 (pair-entry R o)) (4 * pair-number R (row + 4 * t * width + c) width + k) 0)
       (getD (table 128 (pair-entry R o)) (64 + 4 * pair-number R (row + 4 * t * width + c + 2 * width) width + k) 0))
       start
-      ∙ ap₂ (λ a b. carried (getD (table 128 (pair-entry R (om + 4 * (4 * g + t)))) (4 * pair-number R a width + k) 0)
+      ∙ ap₂ (λ a b. lowered-sum (getD (table 128 (pair-entry R (om + 4 * (4 * g + t)))) (4 * pair-number R a width + k) 0)
       (getD (table 128 (pair-entry R (om + 4 * (4 * g + t)))) (64 + 4 * pair-number R b width + k) 0))
       first
       second

@@ -16,9 +16,11 @@ use Rattle.lists.proofs.Fill.{getD-splice-table}
 use Rattle.algebra.specs.Ops.{sum}
 use Rattle.algebra.proofs.Sum.{sum-ext}
 use Rattle.definitions.specs.Zq.{Q}
+use Rattle.zq.specs.Words.{lowered}
 use Rattle.definitions.specs.Projection.{entry}
 use Rattle.definitions.specs.Rq.{Element, coeff, rzero, radd, rconj}
 use Rattle.definitions.specs.Ring.{ZqOps, residue, RqOps, words, element, scale, conj}
+use Rattle.zq.proofs.Words.{lowered-le, lowered-add}
 use Rattle.definitions.proofs.Cases.{ltb-cases}
 use Rattle.definitions.proofs.ZqRing.{residue-mod}
 use Rattle.definitions.proofs.RqRing.{coefficient, element-path, coefficient-table, coefficient-rscale, residue-products}
@@ -32,16 +34,20 @@ use Rattle.jl_omega.specs.Omega.{row-element, omega-element, carried, ad
 use Rattle.jl.proofs.Places.{add-mod}
 use Rattle.jl.proofs.Terms.{term-mod}
 
--- a sum of which Q is taken is the same modulo Q
-taken : (x : ℕ) → 4294967296 ≤ x → (x - 4294967295) % 4294967295 ≡ x % 4294967295
-taken x h = omega arith
-
 -- a carried sum is the sum modulo Q
 pub carried-mod : (a b : ℕ) → carried a b % Q ≡ (a + b) % Q
-carried-mod a b = ltb-cases (λ t. cond t (a + b) (a + b - Q) % Q ≡ (a + b) % Q) (a + b) 4294967296 (λ l. refl) (λ l. taken (a + b) l)
+carried-mod a b =
+    ltb-cases (λ t. cond t (a + lowered b) (a + lowered b - Q) % Q ≡ (a + lowered b) % Q) (a + lowered b) 4294967296 (λ l. refl) (λ l. taken (a + lowered b) l) ∙ lowered-add a b
+  where
+    taken : (x : ℕ) → 4294967296 ≤ x → (x - Q) % Q ≡ x % Q
+    taken x h = omega arith
+
+-- a carried sum of words is a word
+pub carried-word : (a b : ℕ) → a < 4294967296 → b < 4294967296 → carried a b < 4294967296
+carried-word a b ha hb = ltb-cases (λ t. cond t (a + lowered b) (a + lowered b - Q) < 4294967296) (a + lowered b) 4294967296 (λ l. l) (λ l. omega (arith, lowered-le b (omega arith)))
 
 -- the sum of a column modulo Q
-added-mod : (R : List ℕ) (pi om width c : ℕ) → ((i : ℕ) → getD R i 0 ≤ Q) → (j : ℕ)
+added-mod : (R : List ℕ) (pi om width c : ℕ) → ((i : ℕ) → getD R i 0 ≤ 4294967295) → (j : ℕ)
     → added R pi om width 0 c j % Q ≡ Σ j (λ i. entry (getD R (pi + i * width + c) 0) * getD R (om + i) 0) % Q
 unfolding added Σ
 added-mod R pi om width c h zero = refl
@@ -127,7 +133,7 @@ module _ (R : List ℕ) (pi om n : ℕ) where
       (λ j. scale (conj (row-element R (pi + j * (64 * n)) m)) (getD R (om + j) 0))
       (λ j _. conj-scale (row-element R (pi + j * (64 * n)) m) (getD R (om + j) 0))
 
-module _ (R : List ℕ) (pi om n : ℕ) (h : (i : ℕ) → getD R i 0 ≤ Q) where
+module _ (R : List ℕ) (pi om n : ℕ) (h : (i : ℕ) → getD R i 0 ≤ 4294967295) where
   -- a region cleared, the rows added to it and its elements conjugated
   module _ (l cleared summed : List ℕ) (at : ℕ) (w : at + 64 * n ≤ length l) (is-cleared : cleared ≡ splice l at (replicate (64 * n) 0))
       (is-summed : summed ≡ splice cleared at (table (64 * n) (λ c. added R pi om (64 * n) (getD cleared (at + c) 0) c 256))) where

@@ -10,6 +10,7 @@ use Rattle.definitions.specs.Zq.{Q}
 use Rattle.definitions.specs.Projection.{entry}
 use Rattle.definitions.specs.Rq.{Element}
 use Rattle.definitions.specs.Ring.{RqOps, element, scale, conj}
+use Rattle.zq.specs.Words.{lowered}
 use Rattle.jl.specs.Rows.{term}
 
 -- element m of the row of projection words from a place on
@@ -20,9 +21,9 @@ row-element R at m = element (table 64 (λ q. entry (getD R (at + (64 * m + q)) 
 unfoldable pub omega-element : List ℕ → ℕ → ℕ → ℕ → ℕ → Element
 omega-element R pi om n m = sum RqOps 256 (λ j. scale (conj (row-element R (pi + j * (64 * n)) m)) (getD R (om + j) 0))
 
--- the sum of two words, less Q where it passes 32 bits
+-- the sum of a word and a lowered one, less Q where it passes 32 bits
 abbrev pub carried : ℕ → ℕ → ℕ
-carried a b = cond (ltb (a + b) (2 ^ 32)) (a + b) (a + b - Q)
+carried a b = cond (ltb (a + lowered b) (2 ^ 32)) (a + lowered b) (a + lowered b - Q)
 
 -- the `width` sums from a place on with a row's entries times a value added
 abbrev pub row-sums : List ℕ → (row value : ℕ) → List ℕ → (at width : ℕ) → List ℕ

@@ -1,7 +1,9 @@
 // The omega part of φ'' (`calculate_agg_phi_double_prime` of core/aggregate.rs) of one vector for one k: row after row of the projection,
 // omega is added to or taken from each column's sum; each finished element is conjugated once.
+use definitions::modulus;
 use jl::projection;
 use rq::rq::Rq;
+use zq::zq::lowered;
 ghost use mathlib.Core.Path.{_≡_};
 ghost use Prim.Native.Nat.{_+_, _*_, _≤_};
 ghost use lib.ListN.{length};
@@ -12,12 +14,13 @@ ghost use Rattle.protocol.specs.Views.{element-at};
 ghost use Rattle.protocol.specs.Formulas.{flat};
 ghost use Rattle.jl_omega.specs.Omega.{carried, row-sums, rows-sums, omega-element};
 
-// The sum, less Q where it passes 32 bits.
+// The sum modulo Q as a word: less Q where it passes 32 bits.
 pub fn carry_add(a: u32, b: u32) -> u32
     ensures { λ r. ⌜ r ≡ carried a b ⌝ }
 {
-    let sum = std::num::wrapping_add_u32(a, b);
-    if sum < b { sum + 1 } else { sum }
+    let term = lowered(b);
+    let sum = std::num::wrapping_add_u32(a, term);
+    if sum < term { sum + modulus::LACK } else { sum }
 }
 
 // A row's entries times `value` added to `width` sums.

@@ -6,6 +6,7 @@ use lib.ListN.{getD}
 use Rattle.lists.specs.Sum.{Σ}
 use Rattle.lists.specs.Table.{table}
 use Rattle.definitions.specs.Zq.{Q}
+use Rattle.zq.specs.Words.{lowered}
 use Rattle.jl.specs.Rows.{term}
 use Rattle.jl_omega.specs.Omega.{carried}
 
@@ -29,17 +30,21 @@ pair-entry R om q = pair-sum R (om + q / 64 * 2 + q % 4 * 256) (q / 4 % 16)
 abbrev pub pair-table : List ℕ → (om : ℕ) → List ℕ
 pair-table R om = table 128 (pair-entry R om)
 
+-- a sum of two words as the tables hold it: at most Q
+abbrev pub lowered-sum : ℕ → ℕ → ℕ
+lowered-sum a b = lowered (carried a b)
+
 -- four entries of the pairs' sums from x on, and four from y on added
 abbrev pub joined-sums : List ℕ → (x y : ℕ) → List ℕ
-joined-sums pairs x y = table 4 (λ k. carried (getD pairs (x + k) 0) (getD pairs (y + k) 0))
+joined-sums pairs x y = table 4 (λ k. lowered-sum (getD pairs (x + k) 0) (getD pairs (y + k) 0))
 
 -- the same for each number of the first two rows' entries
 abbrev pub joined-row : List ℕ → (y : ℕ) → List ℕ
-joined-row pairs y = table 64 (λ q. carried (getD pairs q 0) (getD pairs (y + q % 4) 0))
+joined-row pairs y = table 64 (λ q. lowered-sum (getD pairs q 0) (getD pairs (y + q % 4) 0))
 
 -- entry q of the sums of four rows: the sums for number q / 4 of their entries and k = q % 4
 abbrev pub four-entry : List ℕ → ℕ → ℕ
-four-entry pairs q = carried (getD pairs (q % 64) 0) (getD pairs (64 + 4 * (q / 64) + q % 4) 0)
+four-entry pairs q = lowered-sum (getD pairs (q % 64) 0) (getD pairs (64 + 4 * (q / 64) + q % 4) 0)
 
 -- the sums of four rows
 abbrev pub four-table : List ℕ → List ℕ

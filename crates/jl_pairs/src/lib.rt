@@ -1,10 +1,11 @@
 // Tables of the sums of four rows' terms for four k, for each number of the rows' entries: the sums of two rows are worked out first.
 use jl::projection;
+use zq::zq::lowered;
 ghost use mathlib.Core.Path.{_≡_};
 ghost use Prim.Native.Nat.{_+_, _*_, _≤_, _<_};
 ghost use lib.ListN.{length};
 ghost use Rattle.lists.specs.Part.{splice};
-ghost use Rattle.jl_pairs.specs.Pairs.{pair-sum, pair-entries, pair-table, joined-sums, joined-row, four-table, row-tables};
+ghost use Rattle.jl_pairs.specs.Pairs.{pair-sum, pair-entries, pair-table, lowered-sum, joined-sums, joined-row, four-table, row-tables};
 
 // The sum of the terms of two words of omega and the entries of number x.
 fn pair_sum(randomness: &[u32], at: usize, x: usize) -> u32
@@ -40,13 +41,20 @@ fn pair_sums(randomness: &[u32], omega_at: usize) -> [u32; 128]
     sums
 }
 
+// The sum of two words, at most Q.
+fn lowered_sum(a: u32, b: u32) -> u32
+    ensures { λ r. ⌜ r ≡ lowered-sum a b ⌝ }
+{
+    lowered(jl_omega::carry_add(a, b))
+}
+
 // Four entries of the pairs' sums from x on and four from y on, added and stored from `at` on.
 fn join_four(pairs: &[u32], x: usize, y: usize, tables: &mut [u32], at: usize)
     requires { ⌜ (x + 4 ≤ length (now pairs)) × (y + 4 ≤ length (now pairs)) × (at + 4 ≤ length (now tables)) ⌝ }
     ensures { λ _. ⌜ now (tables .exit) ≡ splice (now (tables .entry)) at (joined-sums (now (pairs .entry)) x y) ⌝ }
 {
     for k in 0..4 {
-        tables[at + k] = jl_omega::carry_add(pairs[x + k], pairs[y + k]);
+        tables[at + k] = lowered_sum(pairs[x + k], pairs[y + k]);
     }
 }
 

@@ -1,17 +1,18 @@
 -- Terms added to a sum that is kept with 2^31 added.
 use mathlib.Core.Path.{_≡_, refl, sym, _∙_, ap, ap₂}
-use mathlib.Core.Bool.{cond}
+use mathlib.Core.Bool.{Bool, true, false, cond}
 use Prim.Native.Nat.{ℕ, zero, suc, _+_, _-_, _%_, _≤_, _<_, _^_}
 use native.Mathlib.Nat.{add-zero, add-assoc}
 use native.Mathlib.Numerals.{add-one}
 use native.Mathlib.Omega.{arith}
 use borrow.Author.Tests.{lt-ltb, le-ltb}
+use lib.Dec.{ltb}
 use Rattle.lists.specs.Sum.{Σ}
-use Rattle.definitions.specs.Zq.{Q}
-use Rattle.definitions.proofs.Cases.{ltb-cases}
+use Rattle.definitions.specs.Zq.{Q, lackQ}
+use Rattle.zq.proofs.Words.{lowered-same}
 use Rattle.jl.proofs.Places.{add-mod}
 use Rattle.jl_omega.specs.Omega.{carried}
-use Rattle.jl_omega.proofs.Columns.{carried-mod}
+use Rattle.jl_omega.proofs.Columns.{carried-word, carried-mod}
 use Rattle.jl_pairs.specs.Pairs.{biased}
 use Rattle.jl_tables.specs.Tables.{biased-sum, terms-added}
 
@@ -30,10 +31,6 @@ unfolding terms-added
 terms-ext f g x zero h = refl
 terms-ext f g x (suc n) h = ap₂ biased-sum (terms-ext f g x n (λ t l. h t (omega arith))) (h n (omega arith))
 
--- a carried sum of words is a word
-carried-word : (a b : ℕ) → a < 4294967296 → b < 4294967296 → carried a b < 4294967296
-carried-word a b ha hb = ltb-cases (λ t. cond t (a + b) (a + b - Q) < 4294967296) (a + b) 4294967296 (λ l. l) (λ l. omega arith)
-
 -- 2^31 added twice
 biased-twice : (x : ℕ) → x < 4294967296 → biased (biased x) ≡ x
 biased-twice x h = omega arith
@@ -42,10 +39,6 @@ biased-twice x h = omega arith
 biased-plus : (x term : ℕ) → x < 4294967296 → term < 4294967296 → biased ((x + term) % 4294967296) ≡ (biased x + term) % 4294967296
 biased-plus x term h l = omega arith
 
--- one more, the same way
-biased-one : (x : ℕ) → x < 4294967296 → (biased x + 1) % 4294967296 ≡ biased (x + 1)
-biased-one x h = omega arith
-
 -- sums less than before have passed 32 bits, and no others
 passes : (a term : ℕ) → a < 4294967296 → term < 4294967296 → (a + term) % 4294967296 < a → 4294967296 ≤ a + term
 passes a term h l less = omega arith
@@ -53,13 +46,17 @@ passes a term h l less = omega arith
 stays : (a term : ℕ) → a < 4294967296 → term < 4294967296 → a ≤ (a + term) % 4294967296 → a + term < 4294967296
 stays a term h l more = omega arith
 
-less-one : (y : ℕ) → 4294967296 ≤ y → y < 8589934592 → y % 4294967296 + 1 ≡ y - 4294967295
-less-one y h l = omega arith
+-- a sum that has passed, and 2^31 added to it less Q
+once-less : (y : ℕ) → 4294967296 ≤ y → y - Q < 4294967296 → y < 8589934592 → (biased (y % 4294967296) + lackQ) % 4294967296 ≡ biased (y - Q)
+once-less y h l m = omega arith
 
 mod-small : (y : ℕ) → y < 4294967296 → y % 4294967296 ≡ y
 mod-small y h = omega arith
 
-module _ (x term next : ℕ) (small : x < 4294967296) (word : term < 4294967296) (e : next ≡ (x + term) % 4294967296) where
+module _ (x term next : ℕ) (small : x < 4294967296) (few : term ≤ Q) (e : next ≡ (x + term) % 4294967296) where
+  word : term < 4294967296
+  word = omega arith
+
   -- what is kept, without the 2^31
   kept : biased next ≡ (biased x + term) % 4294967296
   kept = ap biased e ∙ biased-plus x term small word
@@ -67,20 +64,23 @@ module _ (x term next : ℕ) (small : x < 4294967296) (word : term < 4294967296)
   again : next ≡ biased ((biased x + term) % 4294967296)
   again = sym (biased-twice next (omega arith)) ∙ ap biased kept
 
-  pub sum-passed : biased next < biased x → (next + 1) % 4294967296 ≡ biased-sum x term
+  -- the term is lowered already
+  carried-as : (t : Bool) → ltb (biased x + term) 4294967296 ≡ t → biased-sum x term ≡ biased (cond t (biased x + term) (biased x + term - Q))
+  carried-as t h =
+      ap (λ u. biased (cond (ltb (biased x + u) 4294967296) (biased x + u) (biased x + u - Q))) (lowered-same term few)
+      ∙ ap (λ t. biased (cond t (biased x + term) (biased x + term - Q))) h
+
+  pub sum-passed : biased next < biased x → (next + lackQ) % 4294967296 ≡ biased-sum x term
   sum-passed less =
       let past : 4294967296 ≤ biased x + term = passes (biased x) term (omega arith) word (rw kept at less) in
-      ap (λ n. (n + 1) % 4294967296) again
-      ∙ biased-one ((biased x + term) % 4294967296) (omega arith)
-      ∙ ap biased (less-one (biased x + term) past (omega arith))
-      ∙ sym (ap (λ t. biased (cond t (biased x + term) (biased x + term - Q))) (le-ltb (biased x + term) 4294967296 past))
+      ap (λ n. (n + lackQ) % 4294967296) again
+      ∙ once-less (biased x + term) past (omega arith) (omega arith)
+      ∙ sym (carried-as false (le-ltb (biased x + term) 4294967296 past))
 
   pub sum-stayed : biased x ≤ biased next → next ≡ biased-sum x term
   sum-stayed more =
       let within : biased x + term < 4294967296 = stays (biased x) term (omega arith) word (rw kept at more) in
-      again
-      ∙ ap biased (mod-small (biased x + term) within)
-      ∙ sym (ap (λ t. biased (cond t (biased x + term) (biased x + term - Q))) (lt-ltb (biased x + term) 4294967296 within))
+      again ∙ ap biased (mod-small (biased x + term) within) ∙ sym (carried-as true (lt-ltb (biased x + term) 4294967296 within))
 
 -- modulo Q the terms are added
 pub terms-mod : (f : ℕ → ℕ) (x n : ℕ) → ((t : ℕ) → f t < 2 ^ 32) → biased (terms-added f x n) % Q ≡ (biased x + Σ n f) % Q

@@ -4,6 +4,7 @@ use mathlib.Core.List.{List}
 use Prim.Native.Nat.{ℕ, zero, suc, _+_, _*_, _/_, _%_, _≤_, _<_}
 use lib.ListN.{length, getD}
 use Rattle.lists.specs.Table.{table}
+use Rattle.definitions.specs.Zq.{Q}
 use Rattle.jl_omega.specs.Omega.{carried}
 use Rattle.jl_pairs.specs.Pairs.{four-place, biased}
 
@@ -23,6 +24,10 @@ place-entry R at step q = four-place R (at + 4 * (q / 64) * step + q % 64) step
 -- such places leave room for four sums
 abbrev pub Places : List ℕ → Type 0
 Places places = (length places ≡ 256) × ((q : ℕ) → q < 256 → getD places q 0 ≤ 1020)
+
+-- what the tables give is at most Q
+abbrev pub UpToQ : List ℕ → Type 0
+UpToQ tables = (i : ℕ) → i < 4096 → getD tables i 0 ≤ Q
 
 -- what table t gives for column w and k
 abbrev pub table-term : (tables places : List ℕ) (w k t : ℕ) → ℕ

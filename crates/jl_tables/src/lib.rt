@@ -1,13 +1,15 @@
 // The terms of 16 rows added to the sums of the columns for four k. The places of the rows' entries in the tables are worked out for 64 columns at a time; at a
 // place stand the four sums, one for each k, that are added side by side.
+use definitions::modulus;
 use zq::wide::wide_usize;
 ghost use mathlib.Core.Path.{_≡_};
 ghost use Prim.Native.Nat.{_+_, _*_, _/_, _≤_, _<_};
 ghost use lib.ListN.{length};
 ghost use Rattle.lists.specs.Table.{table};
 ghost use Rattle.lists.specs.Part.{splice};
+ghost use Rattle.definitions.specs.Zq.{Q};
 ghost use Rattle.jl_pairs.specs.Pairs.{pair-number, four-place, biased, Added};
-ghost use Rattle.jl_tables.specs.Tables.{biased-sum, terms-added, place-entry, Places, table-term, column-added, block-added};
+ghost use Rattle.jl_tables.specs.Tables.{biased-sum, terms-added, place-entry, Places, table-term, column-added, block-added, UpToQ};
 
 // 2^31 added, modulo 2^32: the sums of columns are kept so.
 pub fn biased(x: u32) -> u32
@@ -16,13 +18,14 @@ pub fn biased(x: u32) -> u32
     std::num::wrapping_add_u32(x, 2147483648)
 }
 
-// A sum that is kept so, with a term added. Without the 2^31 it has passed 32 bits where it is less than before.
+// A sum that is kept so, with a term added. Without the 2^31 it has passed 32 bits where it is less than before; 2^32 is what Q lacks of it.
 fn biased_add(sum: u32, term: u32) -> u32
+    requires { ⌜ term ≤ Q ⌝ }
     ensures { λ r. ⌜ r ≡ biased-sum sum term ⌝ }
 {
     let next = std::num::wrapping_add_u32(sum, term);
     if biased(next) < biased(sum) {
-        std::num::wrapping_add_u32(next, 1)
+        std::num::wrapping_add_u32(next, modulus::LACK)
     } else {
         next
     }
@@ -77,7 +80,7 @@ fn row_places(randomness: &[u32], at: usize, step: usize, places: &mut [u32])
 
 // A sum with what the four tables give for column w of 64 and one k added.
 fn add_terms(tables: &[u32], places: &[u32], w: usize, k: usize, start: u32) -> u32
-    requires { ⌜ (length (now tables) ≡ 4096) × Places (now places) × (w < 64) × (k < 4) ⌝ }
+    requires { ⌜ (length (now tables) ≡ 4096) × Places (now places) × (w < 64) × (k < 4) × UpToQ (now tables) ⌝ }
     ensures { λ r. ⌜ r ≡ terms-added (table-term (now (tables .entry)) (now (places .entry)) w k) start 4 ⌝ }
 {
     let mut sum = start;
@@ -90,7 +93,7 @@ fn add_terms(tables: &[u32], places: &[u32], w: usize, k: usize, start: u32) -> 
 
 // The four sums of a column, with what the tables give added.
 fn add_column(tables: &[u32], places: &[u32], w: usize, sums: &mut [u32], at: usize)
-    requires { ⌜ (length (now tables) ≡ 4096) × Places (now places) × (w < 64) × (at + 4 ≤ length (now sums)) ⌝ }
+    requires { ⌜ (length (now tables) ≡ 4096) × Places (now places) × (w < 64) × (at + 4 ≤ length (now sums)) × UpToQ (now tables) ⌝ }
     ensures { λ _. ⌜ now (sums .exit) ≡ splice (now (sums .entry)) at (column-added (now (sums .entry)) at (now (tables .entry)) (now (places .entry)) w) ⌝ }
 {
     for k in 0..4 {
@@ -100,7 +103,7 @@ fn add_column(tables: &[u32], places: &[u32], w: usize, sums: &mut [u32], at: us
 
 // The sums of 64 columns, with what the tables give added.
 fn add_block(tables: &[u32], places: &[u32], sums: &mut [u32], at: usize)
-    requires { ⌜ (length (now tables) ≡ 4096) × Places (now places) × (at + 256 ≤ length (now sums)) ⌝ }
+    requires { ⌜ (length (now tables) ≡ 4096) × Places (now places) × (at + 256 ≤ length (now sums)) × UpToQ (now tables) ⌝ }
     ensures { λ _. ⌜ now (sums .exit) ≡ splice (now (sums .entry)) at (block-added (now (sums .entry)) at (now (tables .entry)) (now (places .entry))) ⌝ }
 {
     for w in 0..64 {
@@ -110,7 +113,7 @@ fn add_block(tables: &[u32], places: &[u32], sums: &mut [u32], at: usize)
 
 // What the tables give for 16 rows of n elements from `row_at` on added to the sums of their columns.
 pub fn add_columns(randomness: &[u32], row_at: usize, n: usize, tables: &[u32], sums: &mut [u32])
-    requires { ⌜ («row_at» + 16 * (64 * n) ≤ length (now randomness)) × (length (now tables) ≡ 4096) × (4 * (64 * n) ≤ length (now sums)) ⌝ }
+    requires { ⌜ («row_at» + 16 * (64 * n) ≤ length (now randomness)) × (length (now tables) ≡ 4096) × (4 * (64 * n) ≤ length (now sums)) × UpToQ (now tables) ⌝ }
     ensures { λ _. ⌜ (length (now (sums .exit)) ≡ length (now (sums .entry))) × Added (now (randomness .entry)) «row_at» (64 * n) (now (tables .entry)) (now (sums .entry)) (now (sums .exit)) ⌝ }
 {
     let width = 64 * n;

@@ -167,7 +167,7 @@ pub fn aggregate_kept(
 
 // From four terms and eight elements on the transforms cost less than plain products. There is room for 64 weights.
 pub fn kept_is_faster(width: usize, count: usize, number: usize) -> bool
-    requires { ⌜ (count ≤ 2 ^ 20) × (number ≤ 2 ^ 20) ⌝ }
+    requires { ⌜ (count ≤ 2 ^ 18) × (number ≤ 2 ^ 18) ⌝ }
     ensures { λ r. ⌜ r ≡ kept-faster width count number ⌝ }
 {
     let terms = count + number;

@@ -60,18 +60,18 @@ module _ (x : List ℕ) (x-at : ℕ) (y : List ℕ) (y-at m : ℕ) where
       omega (arith, small m h)
 
 -- two numbers taken off modulo Q, one after the other or together
-taken-off : (c r t : ℕ) → r < 4294967295 → t < 4294967295 → (c + (4294967295 - r) + (4294967295 - t)) % 4294967295 ≡ (c + (4294967295 - (r + t) % 4294967295)) % 4294967295
-taken-off c r t hr ht = go (decLt (r + t) 4294967295)
+taken-off : (c r t : ℕ) → r < Q → t < Q → (c + (Q - r) + (Q - t)) % Q ≡ (c + (Q - (r + t) % Q)) % Q
+taken-off c r t hr ht = go (decLt (r + t) Q)
   where
-    go : Dec (r + t < 4294967295) → (c + (4294967295 - r) + (4294967295 - t)) % 4294967295 ≡ (c + (4294967295 - (r + t) % 4294967295)) % 4294967295
+    go : Dec (r + t < Q) → (c + (Q - r) + (Q - t)) % Q ≡ (c + (Q - (r + t) % Q)) % Q
     go (yes l) =
-        let e : (r + t) % 4294967295 ≡ r + t = omega arith in
-        let f : c + (4294967295 - r) + (4294967295 - t) ≡ c + (4294967295 - (r + t)) + 4294967295 = omega arith in
-        ap (λ x. x % 4294967295) f ∙ Nat.add-mod-right (c + (4294967295 - (r + t))) 4294967295 ∙ ap (λ x. (c + (4294967295 - x)) % 4294967295) (sym e)
+        let e : (r + t) % Q ≡ r + t = omega arith in
+        let f : c + (Q - r) + (Q - t) ≡ c + (Q - (r + t)) + Q = omega arith in
+        ap (λ x. x % Q) f ∙ Nat.add-mod-right (c + (Q - (r + t))) Q ∙ ap (λ x. (c + (Q - x)) % Q) (sym e)
     go (no l) =
-        let e : (r + t) % 4294967295 ≡ r + t - 4294967295 = omega arith in
-        let f : c + (4294967295 - r) + (4294967295 - t) ≡ c + (4294967295 - (r + t - 4294967295)) = omega arith in
-        ap (λ x. x % 4294967295) f ∙ ap (λ x. (c + (4294967295 - x)) % 4294967295) (sym e)
+        let e : (r + t) % Q ≡ r + t - Q = omega arith in
+        let f : c + (Q - r) + (Q - t) ≡ c + (Q - (r + t - Q)) = omega arith in
+        ap (λ x. x % Q) f ∙ ap (λ x. (c + (Q - x)) % Q) (sym e)
 
 -- differences modulo Q add up
 differences : (n : ℕ) (f g : ℕ → ℕ) → Σ n (λ m. zsub (f m) (g m)) % Q ≡ zsub (Σ n f) (Σ n g)
@@ -79,18 +79,18 @@ unfolding Σ
 differences zero f g = refl
 differences (suc n) f g = step (Σ n (λ m. zsub (f m) (g m))) (Σ n f) (Σ n g) (f n) (g n) (differences n f g)
   where
-    joined : (s y x : ℕ) → s % 4294967295 ≡ y % 4294967295 → (s + x % 4294967295) % 4294967295 ≡ (y + x) % 4294967295
+    joined : (s y x : ℕ) → s % Q ≡ y % Q → (s + x % Q) % Q ≡ (y + x) % Q
     joined s y x e = omega arith
 
-    step : (s l h a b : ℕ) → s % 4294967295 ≡ (l + (4294967295 - h % 4294967295)) % 4294967295
-        → (s + (a + (4294967295 - b % 4294967295)) % 4294967295) % 4294967295 ≡ (l + a + (4294967295 - (h + b) % 4294967295)) % 4294967295
+    step : (s l h a b : ℕ) → s % Q ≡ (l + (Q - h % Q)) % Q
+        → (s + (a + (Q - b % Q)) % Q) % Q ≡ (l + a + (Q - (h + b) % Q)) % Q
     step s l h a b e =
-        let order : l + (4294967295 - h % 4294967295) + (a + (4294967295 - b % 4294967295)) ≡ l + a + (4294967295 - h % 4294967295) + (4294967295 - b % 4294967295) = omega arith in
-        let sum : (h % 4294967295 + b % 4294967295) % 4294967295 ≡ (h + b) % 4294967295 = omega arith in
-        joined s (l + (4294967295 - h % 4294967295)) (a + (4294967295 - b % 4294967295)) e
-        ∙ ap (λ x. x % 4294967295) order
-        ∙ taken-off (l + a) (h % 4294967295) (b % 4294967295) (omega arith) (omega arith)
-        ∙ ap (λ x. (l + a + (4294967295 - x)) % 4294967295) sum
+        let order : l + (Q - h % Q) + (a + (Q - b % Q)) ≡ l + a + (Q - h % Q) + (Q - b % Q) = omega arith in
+        let sum : (h % Q + b % Q) % Q ≡ (h + b) % Q = omega arith in
+        joined s (l + (Q - h % Q)) (a + (Q - b % Q)) e
+        ∙ ap (λ x. x % Q) order
+        ∙ taken-off (l + a) (h % Q) (b % Q) (omega arith) (omega arith)
+        ∙ ap (λ x. (l + a + (Q - x)) % Q) sum
 
 -- both sums of each coefficient of n products, reduced once, are the inner product's words
 products-words : (n : ℕ) (a b : ℕ → List ℕ) → table 64 (λ k. zsub (Σ n (λ m. low (a m) (b m) k)) (Σ n (λ m. high (a m) (b m) k))) ≡ words (dot RqOps n (λ m. element (a m)) (λ m. element (b m)))

@@ -1,4 +1,4 @@
--- What the definitions say of document 01's example, of long lines, and of a number that is written and read back.
+-- What the definitions say of long lines, and of a number that is written and read back.
 use mathlib.Core.Path.{_≡_, refl, _∙_}
 use mathlib.Core.Bool.{Bool, true, false, cond}
 use mathlib.Core.List.{List, [], _∷_, _++_}
@@ -9,16 +9,9 @@ use lib.Dec.{ltb, leb, eqb}
 use lib.ListN.{length}
 use borrow.Author.Tests.{leb-true}
 use Rattle.line_reading.specs.Text.{allDigits, valueAfter, value, decimalIn, decimal}
-use Rattle.line_reading.specs.Line.{beforeSpace, afterSpace, oneToTen, isWord, pair, parse, text, answerTo}
+use Rattle.line_reading.specs.Line.{beforeSpace, afterSpace, oneToTen, isWord, pair, parse}
 use Rattle.line_reading.specs.declared.reading.Parsed.the-variants.{Refused}
 use Rattle.line_reading.proofs.Small.{and-true}
-
--- "Input `4294967294 2` prints `4294967294 2 1 4294967293 -1`."
-pub example
-    : answerTo (52 ∷ 50 ∷ 57 ∷ 52 ∷ 57 ∷ 54 ∷ 55 ∷ 50 ∷ 57 ∷ 52 ∷ 32 ∷ 50 ∷ [])
-    ≡ 52 ∷ 50 ∷ 57 ∷ 52 ∷ 57 ∷ 54 ∷ 55 ∷ 50 ∷ 57 ∷ 52 ∷ 32 ∷ 50 ∷ 32 ∷ 49 ∷ 32 ∷ 52 ∷ 50 ∷ 57 ∷ 52 ∷ 57 ∷ 54 ∷ 55 ∷ 50 ∷ 57 ∷ 51 ∷ 32 ∷ 45 ∷ 49 ∷ []
-unfolding parse text beforeSpace afterSpace allDigits valueAfter decimal decimalIn
-example = refl
 
 -- a line is what stands before its first space, the space, and what stands after it
 length-parts : (l : List ℕ) → length l ≤ length (beforeSpace l) + 1 + length (afterSpace l)

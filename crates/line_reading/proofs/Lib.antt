@@ -1,3 +1,4 @@
 pub mod Small
 pub mod Parsing
 pub mod Laws
+pub mod Example

@@ -9,7 +9,7 @@ use lib.Dec.{ltb}
 use lib.ListN.{length, length-append}
 use lib.IntN.{ℤ, pos, negsuc}
 use borrow.Author.Tests.{lt-ltb, le-ltb}
-use Rattle.definitions.specs.Zq.{Q, Canonical, zadd, zmul, centre, size}
+use Rattle.definitions.specs.Zq.{Q, halfQ, Canonical, zadd, zmul, centre, size}
 use Rattle.line_reading.specs.Text.{decimalIn, decimal, signed}
 use Rattle.line_reading.specs.Line.{text}
 use Rattle.line_reading.specs.declared.reading.Parsed.{Parsed}
@@ -77,12 +77,12 @@ length-text (Pair a b) =
 length-text Refused = omega arith
 
 -- the text of a centre that is not below zero
-pub signed-small : (a : ℕ) → a ≤ 2147483647 → signed (centre a) ≡ decimal a
-signed-small a h = rw (le-ltb 2147483647 a h)
+pub signed-small : (a : ℕ) → a ≤ halfQ → signed (centre a) ≡ decimal a
+signed-small a h = rw (le-ltb halfQ a h)
 
 -- the text of a centre below zero
-pub signed-large : (a : ℕ) → 2147483647 < a → Canonical a → signed (centre a) ≡ 45 ∷ decimal (size a)
-signed-large a h c = rw (lt-ltb 2147483647 a h, lt-ltb a Q c) (ap (λ n. 45 ∷ decimal n) less)
+pub signed-large : (a : ℕ) → halfQ < a → Canonical a → signed (centre a) ≡ 45 ∷ decimal (size a)
+signed-large a h c = rw (lt-ltb halfQ a h, lt-ltb a Q c) (ap (λ n. 45 ∷ decimal n) less)
   where
-    less : suc (4294967295 - suc a) ≡ 4294967295 - a
+    less : suc (Q - suc a) ≡ Q - a
     less = omega arith

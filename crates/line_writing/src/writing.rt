@@ -8,6 +8,7 @@ ghost use Rattle.line_reading.specs.Text.{decimal, signed};
 ghost use Rattle.line_reading.specs.Line.{text};
 ghost use Rattle.line_reading.specs.Reading.{answerOf, FirstCanonical};
 ghost use Rattle.line_writing.specs.Written.{Written};
+use definitions::modulus;
 use line_reading::reading::Parsed;
 use line_reading::reading::State;
 use line_reading::reading::parse;
@@ -63,7 +64,7 @@ fn put_centre(out: &mut [u8], at: usize, a: Zq) -> usize
     requires { ⌜ at + 11 ≤ length (now out) ⌝ }
     ensures { λ r. ⌜ Written (now (out .entry)) at (signed (centre (a .0))) (now (out .exit)) r ⌝ }
 {
-    if 2147483647 < a.0 {
+    if modulus::HALF < a.0 {
         let next = put(out, at, b'-');
         let size = a.size();
         put_decimal(out, next, size)

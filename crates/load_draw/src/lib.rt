@@ -1,4 +1,5 @@
 // The words of a test load, drawn one after the other (document 02, Item 1).
+use definitions::modulus;
 use layout::sections::Sections;
 ghost use mathlib.Core.Path.{_≡_};
 ghost use mathlib.Core.List.{_∷_};
@@ -13,7 +14,7 @@ ghost use Rattle.load_draw.specs.Rules.{ruleOf, step, value-by, rules-of
 
 // How the words of a section come about.
 pub enum Rule {
-    // the state, 0 where that is Q
+    // the state, 0 where that is not below Q
     Word,
     // the state's top bit
     Sign,
@@ -46,7 +47,7 @@ fn advance(rule: Rule, state: u32) -> u32
 fn word(state: u32) -> u32
     ensures { λ r. ⌜ r ≡ S.word state ⌝ }
 {
-    if state == 4294967295 { 0 } else { state }
+    if state < modulus::Q { state } else { 0 }
 }
 
 // "sign words take the state's top bit"
@@ -56,11 +57,14 @@ fn sign(state: u32) -> u32
     state / 2147483648
 }
 
+// −1 modulo Q.
+const MINUS_ONE: u64 = modulus::Q_U64 - 1;
+
 // "Witness words are the draw modulo 3, less 1."
 fn ternary(state: u32) -> u32
     ensures { λ r. ⌜ r ≡ S.ternary state ⌝ }
 {
-    (((state % 3) as u64 + 4294967294) % 4294967295) as u32
+    (((state % 3) as u64 + MINUS_ONE) % modulus::Q_U64) as u32
 }
 
 // The word that a state gives.

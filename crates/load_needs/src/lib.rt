@@ -43,7 +43,7 @@ pub struct Needs {
 pub fn section_one_words(g: LabradorParameters) -> [u32; 31]
     ensures { λ r. ⌜ r ≡ one-of (given g) ⌝ }
 {
-    let q = 4294967295;
+    let greatest = 4294967295;
     [
         30,
         g.n,
@@ -58,24 +58,24 @@ pub fn section_one_words(g: LabradorParameters) -> [u32; 31]
         g.t_1,
         g.t_2,
         g.const_agg_length,
-        q,
-        q,
-        q,
-        q,
-        q,
-        q,
-        q,
-        q,
-        q,
-        q,
-        q,
-        q,
-        q,
-        q,
-        q,
-        q,
-        q,
-        q,
+        greatest,
+        greatest,
+        greatest,
+        greatest,
+        greatest,
+        greatest,
+        greatest,
+        greatest,
+        greatest,
+        greatest,
+        greatest,
+        greatest,
+        greatest,
+        greatest,
+        greatest,
+        greatest,
+        greatest,
+        greatest,
     ]
 }
 

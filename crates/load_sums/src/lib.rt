@@ -1,4 +1,5 @@
 // Products of a constraint's elements with a weight, added up where b0 and b stand in a job.
+use definitions::modulus;
 use rq::rq::Rq;
 use zq::zq::Zq;
 ghost use mathlib.Core.Path.{_≡_};
@@ -36,7 +37,7 @@ fn dot(coeffs: [u32; 64], words: &[u32], at: usize) -> u32
     let mut sum: u64 = 0;
     let mut k = 0;
     while k < 64 {
-        sum = (sum + wide(coeffs[k]) * wide(words[at + k])) % 4294967295;
+        sum = (sum + wide(coeffs[k]) * wide(words[at + k])) % modulus::Q_U64;
         k += 1;
     }
     sum as u32

@@ -112,7 +112,7 @@ module _ (S T : List ℕ) (at b : ℕ) (d : Digits) (held : Holds S at (flat (di
       ∙ list-held S at (d .cells) (d .parts) f (λ i. length-table (d .parts) (digit-element b (cell i))) (subst (λ ds. Holds S at (flat ds)) (digits-cat b (d .parts) (d .cells) cell) held) c h
 
   -- they are small where the base is
-  pub stored-small : (half : ℕ) → half ≡ b / 2 → 1 < b → b ≤ 4294967295 → d .cells ≤ 2 ^ 20 → d .parts ≤ 32 → Stored S at (d .cells) (d .parts) half
+  pub stored-small : (half : ℕ) → half ≡ b / 2 → 1 < b → b ≤ 4294967295 → d .cells ≤ 2 ^ 18 → d .parts ≤ 32 → Stored S at (d .cells) (d .parts) half
   stored-small half e large fits few less = record {
     few-cells = few;
     few-parts = less;

@@ -73,7 +73,7 @@ module _ (J X : List ℕ) (p : EnvironmentParameters) (s : Posed J X p) where
   pub a-requires : (at z-at k : ℕ) → length J < 2 ^ 61 → length X < 2 ^ 61 → at ≡ job-at (parametersOf p) 6 → z-at ≡ transcript-at (parametersOf p) 4 → k < p .kappa
       → Run J (at + 64 * (k * p .rank)) 64 (p .rank) × Run X z-at 64 (p .rank)
   a-requires at z-at k j x ea ez h =
-      let few : p .rank ≤ 2 ^ 20 = omega (arith, reckoned s .within .n .1) in
+      let few : p .rank ≤ 2 ^ 18 = omega (arith, reckoned s .within .n .1) in
       (row-run J (at + 64 * (k * p .rank)) (p .rank) (a-end at k ea h) few j, z-run X p (received s) z-at ez x)
 
   -- row k of B, of C and of D lies within the job

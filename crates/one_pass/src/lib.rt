@@ -186,7 +186,7 @@ pub fn phi_and_b_kept(
 
 // The one pass is chosen where kept weights are, of up to eight k.
 pub fn one_pass_is_faster(width: usize, count: usize, number: usize) -> bool
-    requires { ⌜ (count ≤ 2 ^ 20) × (number ≤ 2 ^ 20) ⌝ }
+    requires { ⌜ (count ≤ 2 ^ 18) × (number ≤ 2 ^ 18) ⌝ }
     ensures { λ r. ⌜ r ≡ one-pass-faster width count number ⌝ }
 {
     if number > 8 {

@@ -5,7 +5,7 @@ use mathlib.Core.List.{List}
 use Prim.Native.Nat.{ℕ, _≤_, _<_}
 use native.Mathlib.Omega.{arith}
 use lib.Dec.{ltb}
-use Rattle.definitions.specs.Zq.{Q}
+use Rattle.definitions.specs.Zq.{Q, topQ}
 use Rattle.definitions.specs.Answer.{Answer, fine, accepted, refused, failed, below, _then_}
 use Rattle.definitions.specs.Leaf.{limited, digitOperands}
 use Rattle.definitions.proofs.Cases.{ltb-cases}
@@ -32,6 +32,6 @@ within least greatest place x e = (
 -- where the operands of digits are fine the base and the number of parts are within their limits
 pub digit-limits : (base parts : ℕ) (ws : List ℕ) → digitOperands base parts ws ≡ fine → (1 < base) × (parts ≤ 32)
 digit-limits base parts ws e =
-    let l = both (limited 2 4294967294 0 base then limited 1 32 1 parts) (below Q 6 2 ws) e .0 in
-    let m = both (limited 2 4294967294 0 base) (limited 1 32 1 parts) l in
-    (within 2 4294967294 0 base (m .0) .0, within 1 32 1 parts (m .1) .1)
+    let l = both (limited 2 topQ 0 base then limited 1 32 1 parts) (below Q 6 2 ws) e .0 in
+    let m = both (limited 2 topQ 0 base) (limited 1 32 1 parts) l in
+    (within 2 topQ 0 base (m .0) .0, within 1 32 1 parts (m .1) .1)

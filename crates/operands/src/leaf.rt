@@ -1,5 +1,6 @@
 // What a leaf call finds of its operands (document 01, "Leaves").
 use definitions::answers::Operands;
+use definitions::modulus;
 use operand_scan::scan;
 use rq::rq::Rq;
 ghost use mathlib.Core.Path.{_≡_};
@@ -67,6 +68,6 @@ pub fn digit_operands(base: u32, parts: u32, words: &[u32]) -> Operands
     requires { ⌜ length (now words) ≤ 64 ⌝ }
     ensures { λ r. ⌜ ofOperands r ≡ digitOperands base parts (now (words .entry)) ⌝ }
 {
-    let limits = scan::first(limited(2, 4294967294, 0, base), limited(1, 32, 1, parts));
+    let limits = scan::first(limited(2, modulus::TOP, 0, base), limited(1, 32, 1, parts));
     scan::first(limits, scan::words_from(words, 2))
 }

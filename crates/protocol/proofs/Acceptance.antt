@@ -10,6 +10,7 @@ use lib.ListN.{length, getD, take}
 use borrow.Author.Tests.{ltb-false}
 use Rattle.lists.specs.Part.{part}
 use Rattle.lists.specs.Table.{table}
+use Rattle.definitions.specs.Zq.{topQ}
 use Rattle.definitions.specs.Norm.{norm}
 use Rattle.definitions.specs.Answer.{Answer, fine, accepted, refused, failed, number, below, _then_}
 use Rattle.definitions.specs.Leaf.{limited}
@@ -140,7 +141,7 @@ limits-no P =
     and limited-no 0 64 7 (P .l)
     and require-no (decLe 1 (P .K + P .l)) (refused 4 7) (refused-no 4 7 (omega arith))
     and limited-no 16 32 8 (P .log-q)
-    and limited-no 2 4294967294 9 (P .b)
+    and limited-no 2 topQ 9 (P .b)
     and limited-no 1 32 10 (P .t₁)
     and limited-no 1 32 11 (P .t₂)
     and limited-no 1 32 12 (P .L)
@@ -356,9 +357,9 @@ base-at-least J R X lent cells e =
     then some-constraint P
     then limited 16 32 8 (P .log-q)
     in
-    let base = before then limited 2 4294967294 9 (P .b) in
+    let base = before then limited 2 topQ 9 (P .b) in
     let within = then-fine-each (counted 3 J 0 first-section) (limits P) (enough-aggregations P) (layout 3 J 31 (job-sections P)) (ranged 6 J 31 (job-sections P)) (accepted-job J R X lent cells e) .1 in
-    at-least 2 4294967294 9 (P .b)
-    (then-fine-right before (limited 2 4294967294 9 (P .b))
+    at-least 2 topQ 9 (P .b)
+    (then-fine-right before (limited 2 topQ 9 (P .b))
     (then-fine-left base (limited 1 32 10 (P .t₁))
     (then-fine-left (base then limited 1 32 10 (P .t₁)) (limited 1 32 11 (P .t₂)) (then-fine-left (base then limited 1 32 10 (P .t₁) then limited 1 32 11 (P .t₂)) (limited 1 32 12 (P .L)) within))))

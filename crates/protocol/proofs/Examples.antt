@@ -79,8 +79,8 @@ examples =
     -- L = 0, 33, 3, which is below 128/32, and 32; L = 3 with t₂ = 33, which is named first; κ = 16, which need not be L
     ∷ ((section-one-with 12 0 ∷ section-one-with 12 33 ∷ section-one-with 12 3 ∷ section-one-with 12 32 ∷ job-refusal (set (set section-one 12 3) 11 33) ∷ section-one-with 3 16 ∷ [])
     is (refused 4 12 ∷ refused 4 12 ∷ refused 5 12 ∷ refused 3 31 ∷ refused 4 11 ∷ refused 3 31 ∷ []))
-    -- b = 1, b = 4294967295
-    ∷ ((section-one-with 9 1 ∷ section-one-with 9 4294967295 ∷ []) is (refused 4 9 ∷ refused 4 9 ∷ []))
+    -- b = 1, b = Q
+    ∷ ((section-one-with 9 1 ∷ section-one-with 9 Q ∷ []) is (refused 4 9 ∷ refused 4 9 ∷ []))
     -- a whole job; one that ends early; one with a surplus word; one with a word Q
     ∷ ((job-refusal job ∷ job-refusal (take 500 job) ∷ job-refusal (job ++ (0 ∷ [])) ∷ job-refusal (set job 1000 Q) ∷ [])
     is (fine ∷ refused 3 500 ∷ refused 3 1002 ∷ refused 6 1000 ∷ []))

@@ -8,6 +8,7 @@ use native.Mathlib.Omega.{arith}
 use borrow.Author.Tests.{ltb-false}
 use lib.Dec.{ltb}
 use lib.ListN.{length, take}
+use Rattle.definitions.specs.Zq.{topQ}
 use Rattle.definitions.specs.Answer.{Answer, fine, accepted, refused, _then_}
 use Rattle.definitions.specs.Leaf.{limited}
 use Rattle.protocol.specs.Parameters.{Parameters, parameters, some-constraint, limits, enough-aggregations}
@@ -44,13 +45,13 @@ ample G e =
     let l7 = l6 then limited 0 64 7 (P .l) in
     let some = l7 then some-constraint P in
     let l8 = some then limited 16 32 8 (P .log-q) in
-    let l9 = l8 then limited 2 4294967294 9 (P .b) in
+    let l9 = l8 then limited 2 topQ 9 (P .b) in
     let l10 = l9 then limited 1 32 10 (P .t₁) in
     let l11 = l10 then limited 1 32 11 (P .t₂) in
     let e11 : l11 ≡ fine = then-fine-left l11 (limited 1 32 12 (P .L)) e in
     let e10 : l10 ≡ fine = then-fine-left l10 (limited 1 32 11 (P .t₂)) e11 in
     let e9 : l9 ≡ fine = then-fine-left l9 (limited 1 32 10 (P .t₁)) e10 in
-    let e8 : l8 ≡ fine = then-fine-left l8 (limited 2 4294967294 9 (P .b)) e9 in
+    let e8 : l8 ≡ fine = then-fine-left l8 (limited 2 topQ 9 (P .b)) e9 in
     let e7 : l7 ≡ fine = then-fine-left l7 (some-constraint P) (then-fine-left some (limited 16 32 8 (P .log-q)) e8) in
     let e6 : l6 ≡ fine = then-fine-left l6 (limited 0 64 7 (P .l)) e7 in
     let e5 : l5 ≡ fine = then-fine-left l5 (limited 0 64 6 (P .K)) e6 in

@@ -10,7 +10,7 @@ use Rattle.lists.specs.Table.{table}
 use Rattle.lists.specs.Sum.{Σ}
 use Rattle.lists.proofs.Sum.{Σ-bound}
 use Rattle.lists.proofs.Table.{length-table}
-use Rattle.definitions.specs.Zq.{Canonical}
+use Rattle.definitions.specs.Zq.{halfQ, Canonical}
 use Rattle.definitions.specs.Norm.{square, norm}
 use Rattle.definitions.specs.Answer.{fine, accepted, refused, failed, _then_}
 use Rattle.definitions.specs.Rq.{Element, AllCanonical, rzero, digitRow}
@@ -28,28 +28,32 @@ use Rattle.protocol.proofs.Flat.{length-flat, flat-canonical}
 use Rattle.protocol.proofs.Norms.{words-digit, words-rest, digits-of-rows, digits-of-triangle}
 use Rattle.protocol.proofs.Corollary.{conditions-of-met}
 
+-- the greatest square of a centre
+abbrev most : ℕ
+most = halfQ * halfQ
+
 -- the square of a centre
-pub square-le : (a : ℕ) → Canonical a → square a ≤ 4611686014132420609
+pub square-le : (a : ℕ) → Canonical a → square a ≤ most
 square-le a h = mul-le-mul (size-le a h) (size-le a h)
 
 -- the norm of canonical words
-pub norm-le : (ws : List ℕ) → AllCanonical ws → norm ws ≤ length ws * 4611686014132420609
+pub norm-le : (ws : List ℕ) → AllCanonical ws → norm ws ≤ length ws * most
 unfolding norm
-norm-le ws h = Σ-bound (length ws) 4611686014132420609 _ (λ i l. square-le _ (h i l))
+norm-le ws h = Σ-bound (length ws) most _ (λ i l. square-le _ (h i l))
 
 -- the norm of an element's words: 64 squares
-element-norm-le : (e : Element) → norm (words e) ≤ 295147904904474918976
+element-norm-le : (e : Element) → norm (words e) ≤ 64 * most
 element-norm-le e = let long = e .1 .0 in omega (arith, norm-le (words e) (e .1 .1))
 
 -- the norms of its digits in up to 32 parts
-digits-norm-le : (b parts : ℕ) (e : Element) → parts ≤ 32 → digits-norm b parts e ≤ 9444732956943197407232
+digits-norm-le : (b parts : ℕ) (e : Element) → parts ≤ 32 → digits-norm b parts e ≤ 2048 * most
 digits-norm-le b parts e few =
-    let all : digits-norm b parts e ≤ parts * 295147904904474918976 =
-    Σ-bound parts 295147904904474918976 (λ q. norm (digitRow b (words e) q)) (λ q h. rw (ap norm (words-digit b e q)) at (element-norm-le (digit-element b e q))) in
+    let all : digits-norm b parts e ≤ parts * (64 * most) =
+    Σ-bound parts (64 * most) (λ q. norm (digitRow b (words e) q)) (λ q h. rw (ap norm (words-digit b e q)) at (element-norm-le (digit-element b e q))) in
     omega arith
 
 -- the norms of its two parts
-two-parts-norm-le : (b : ℕ) (e : Element) → two-parts-norm b e ≤ 590295809808949837952
+two-parts-norm-le : (b : ℕ) (e : Element) → two-parts-norm b e ≤ 128 * most
 two-parts-norm-le b e =
     let low = rw (ap norm (words-digit b e 0)) at (element-norm-le (digit-element b e 0)) in
     let high = rw (ap norm (words-rest b e)) at (element-norm-le (rest-element b e)) in
@@ -57,11 +61,11 @@ two-parts-norm-le b e =
 
 -- the norms of the digits of up to 16 rows of up to 16 cells each
 cells-norm-le : (b parts r : ℕ) (w : ℕ → ℕ) (f : ℕ → ℕ → Element) → parts ≤ 32 → r ≤ 16 → ((i : ℕ) → i < r → w i ≤ 16)
-    → Σ r (λ i. Σ (w i) (λ k. digits-norm b parts (f i k))) ≤ 2417851636977458536251392
+    → Σ r (λ i. Σ (w i) (λ k. digits-norm b parts (f i k))) ≤ 524288 * most
 cells-norm-le b parts r w f few many wide =
-    let row : (i : ℕ) → i < r → Σ (w i) (λ k. digits-norm b parts (f i k)) ≤ 151115727311091158515712 =
-    λ i h. omega (arith, wide i h, Σ-bound (w i) 9444732956943197407232 (λ k. digits-norm b parts (f i k)) (λ k l. digits-norm-le b parts (f i k) few)) in
-    omega (arith, Σ-bound r 151115727311091158515712 (λ i. Σ (w i) (λ k. digits-norm b parts (f i k))) row)
+    let row : (i : ℕ) → i < r → Σ (w i) (λ k. digits-norm b parts (f i k)) ≤ 32768 * most =
+    λ i h. omega (arith, wide i h, Σ-bound (w i) (2048 * most) (λ k. digits-norm b parts (f i k)) (λ k l. digits-norm-le b parts (f i k) few)) in
+    omega (arith, Σ-bound r (32768 * most) (λ i. Σ (w i) (λ k. digits-norm b parts (f i k))) row)
 
 -- parameters small enough, and bounds that are the largest three-word number
 pub record Ample (P : Parameters) : Type 0 where
@@ -87,17 +91,17 @@ module _ (X : Public) (s : ℕ → ℕ → Element) (ample : Ample (X .P)) where
       require-holds (decLe (norm-of (table n (s i))) bound-A) (refused 13 i)
       (omega (arith, norm-le (flat (table n (s i))) (flat-canonical (table n (s i))), length-flat (table n (s i)), length-table n (s i))))
 
-  t-norm-le : Σ r (λ i. Σ κ (λ k. digits-norm b t₁ (F.t X s i k))) ≤ 2417851636977458536251392
+  t-norm-le : Σ r (λ i. Σ κ (λ k. digits-norm b t₁ (F.t X s i k))) ≤ 524288 * most
   t-norm-le = cells-norm-le b t₁ r (λ i. κ) (F.t X s) (ample .t₁) (ample .r) (λ i h. ample .κ)
 
-  g-norm-le : Σ r (λ i. Σ (i + 1) (λ j. digits-norm b t₂ (F.g X s i j))) ≤ 2417851636977458536251392
+  g-norm-le : Σ r (λ i. Σ (i + 1) (λ j. digits-norm b t₂ (F.g X s i j))) ≤ 524288 * most
   g-norm-le = cells-norm-le b t₂ r (λ i. i + 1) (F.g X s) (ample .t₂) (ample .r) (λ i h. omega arith)
 
-  h-norm-le : Σ r (λ i. Σ (i + 1) (λ j. digits-norm b t₁ (F.h X s i j))) ≤ 2417851636977458536251392
+  h-norm-le : Σ r (λ i. Σ (i + 1) (λ j. digits-norm b t₁ (F.h X s i j))) ≤ 524288 * most
   h-norm-le = cells-norm-le b t₁ r (λ i. i + 1) (F.h X s) (ample .t₁) (ample .r) (λ i h. omega arith)
 
-  z-norm-le : Σ n (λ m. two-parts-norm b (F.z X s m)) ≤ 604462909244364634062848
-  z-norm-le = omega (arith, Σ-bound n 590295809808949837952 (λ m. two-parts-norm b (F.z X s m)) (λ m h. two-parts-norm-le b (F.z X s m)))
+  z-norm-le : Σ n (λ m. two-parts-norm b (F.z X s m)) ≤ 131072 * most
+  z-norm-le = omega (arith, Σ-bound n (128 * most) (λ m. two-parts-norm b (F.z X s m)) (λ m h. two-parts-norm-le b (F.z X s m)))
 
   -- 13 to 16 can't happen
   pub work-fine : work-refusal X whole s ≡ fine
@@ -112,7 +116,7 @@ module _ (X : Public) (s : ℕ → ℕ → Element) (ample : Ample (X .P)) where
 
   p-norm-le : p-norm X s ≤ 128 * beta-sq
   unfolding p-norm
-  p-norm-le = omega (arith, Σ-bound 256 4611686014132420609 (λ j. square (F.p X s j)) (λ j h. square-le (F.p X s j) (reduced j)))
+  p-norm-le = omega (arith, Σ-bound 256 most (λ j. square (F.p X s j)) (λ j h. square-le (F.p X s j) (reduced j)))
     where
       reduced : (j : ℕ) → Canonical (F.p X s j)
       reduced j = unfold F.p in canonical-mod (Σ r (λ i. F.projection X s i j))

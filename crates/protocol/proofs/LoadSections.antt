@@ -1,17 +1,16 @@
 -- The sections of a load have their counts and ranges.
 use mathlib.Core.Path.{_≡_, refl, sym, ap, _∙_}
+use mathlib.Core.Bool.{cond}
 use mathlib.Core.List.{List, [], _∷_}
 use Prim.Native.Nat.{ℕ, zero, suc, _+_, _-_, _*_, _%_, _≤_, _<_, _^_}
 use native.Mathlib.Nat.{mod-lt, div-lt-iff-lt-mul, add-zero, add-suc}
 use native.Mathlib.Omega.{arith}
-use borrow.Author.Tests.{ne-eqb, eq-eqb}
-use native.Mathlib.Decide.{ℕ-discrete}
-use lib.Dec.{eqb}
 use lib.ListN.{length, getD, set, replicate, length-replicate}
 use Rattle.lists.specs.Table.{table}
 use Rattle.lists.proofs.Table.{length-table, getD-table}
 use Rattle.definitions.specs.Zq.{Q}
 use Rattle.definitions.specs.Ring.{canonical-mod}
+use Rattle.definitions.proofs.Cases.{ltb-cases}
 use Rattle.protocol.specs.Layout.{Range, free, under, Section, canonical}
 use Rattle.protocol.specs.Load.{Rule, by, later, state, word, sign, ternary, drawn, after}
 use Rattle.protocol.proofs.Sections.{InRange, Filled, none, more}
@@ -36,11 +35,7 @@ state-add x a (suc b) = ap (λ y. (y * 1664525 + 1013904223) % 2 ^ 32) (state-ad
 -- what each rule gives of a state
 pub word-canonical : (x : ℕ) → x < 2 ^ 32 → word x < Q
 unfolding word
-word-canonical x h = go (ℕ-discrete x Q)
-  where
-    go : Dec (x ≡ Q) → word x < Q
-    go (yes e) = rw (eq-eqb x Q e) (omega arith)
-    go (no n) = rw (ne-eqb x Q n) (omega arith)
+word-canonical x h = ltb-cases (λ t. cond t x 0 < Q) x Q (λ l. l) (λ l. omega arith)
 
 pub sign-bit : (x : ℕ) → x < 2 ^ 32 → sign x < 2
 unfolding sign

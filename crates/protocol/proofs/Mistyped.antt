@@ -10,7 +10,7 @@ use native.Mathlib.Omega.{arith}
 use lib.Dec.{eqb}
 use Rattle.lists.specs.Sum.{Σ}
 use Rattle.lists.proofs.Sum.{Σ-changed}
-use Rattle.definitions.specs.Zq.{Q, Canonical, zadd, zsub, size}
+use Rattle.definitions.specs.Zq.{Q, halfQ, Canonical, zadd, zsub, size}
 use Rattle.definitions.specs.Rq.{coeff}
 use Rattle.definitions.specs.Ring.{words}
 use Rattle.definitions.specs.Answer.{Answer, fine, failed}
@@ -57,21 +57,21 @@ double-zero d h e = go ((d + d) / Q) (sym (mod-add-div' (d + d) Q) ∙ ap (λ r.
     go zero f = omega arith
     go (suc zero) f = absurd (odd d f)
       where
-        odd : (d : ℕ) → d + d ≡ 0 + 1 * 4294967295 → ⊥
+        odd : (d : ℕ) → d + d ≡ 0 + 1 * Q → ⊥
         odd d f = omega arith
     go (suc (suc q)) f = omega arith
 
 -- words of equal size are equal or opposite
 opposite : (x y : ℕ) → Canonical x → Canonical y → size x ≡ size y → (x ≡ y) ⊎ (x + y ≡ Q)
 opposite x y h k e =
-    ltb-cases (λ t. cond t (Q - x) x ≡ size y → (x ≡ y) ⊎ (x + y ≡ Q)) 2147483647 x
-    (λ g. ltb-cases (λ t. Q - x ≡ cond t (Q - y) y → (x ≡ y) ⊎ (x + y ≡ Q)) 2147483647 y (λ f e. inl (omega arith)) (λ f e. inr (omega arith)))
-    (λ g. ltb-cases (λ t. x ≡ cond t (Q - y) y → (x ≡ y) ⊎ (x + y ≡ Q)) 2147483647 y (λ f e. inr (omega arith)) (λ f e. inl e))
+    ltb-cases (λ t. cond t (Q - x) x ≡ size y → (x ≡ y) ⊎ (x + y ≡ Q)) halfQ x
+    (λ g. ltb-cases (λ t. Q - x ≡ cond t (Q - y) y → (x ≡ y) ⊎ (x + y ≡ Q)) halfQ y (λ f e. inl (omega arith)) (λ f e. inr (omega arith)))
+    (λ g. ltb-cases (λ t. x ≡ cond t (Q - y) y → (x ≡ y) ⊎ (x + y ≡ Q)) halfQ y (λ f e. inr (omega arith)) (λ f e. inl e))
     e
 
 -- a word of size 0 is 0
 size-zero : (x : ℕ) → Canonical x → size x ≤ 0 → x ≡ 0
-size-zero x h e = ltb-cases (λ t. cond t (Q - x) x ≤ 0 → x ≡ 0) 2147483647 x (λ g e. omega arith) (λ g e. omega arith) e
+size-zero x h e = ltb-cases (λ t. cond t (Q - x) x ≤ 0 → x ≡ 0) halfQ x (λ g e. omega arith) (λ g e. omega arith) e
 
 module _ (X : Public) (M : Message) where
   open Public X using (P, b₀, psi)

@@ -7,7 +7,7 @@ use lib.Dec.{ltb}
 use borrow.Author.Tests.{le-ltb}
 use Rattle.lists.specs.Sum.{Σ}
 use Rattle.algebra.specs.Ops as Ops
-use Rattle.definitions.specs.Zq.{Q}
+use Rattle.definitions.specs.Zq.{Q, topQ}
 use Rattle.definitions.specs.Answer.{Answer, fine, refused, _then_}
 use Rattle.definitions.specs.Leaf.{limited}
 use Rattle.definitions.specs.Rq.{Element, rzero}
@@ -42,7 +42,7 @@ first-limits P =
     then limited 1 64 6 (P .K)
     then limited 1 64 7 (P .l)
     then limited 16 32 8 (P .log-q)
-    then limited 2 4294967294 9 (P .b)
+    then limited 2 topQ 9 (P .b)
     then limited 1 32 10 (P .t₁)
     then limited 1 32 11 (P .t₂)
 
@@ -55,7 +55,7 @@ pub as-before : (P : Parameters) → 1 ≤ P .K → 1 ≤ P .l → limits P ≡ 
 unfolding limits
 as-before P k l =
     let head = limited 1 64 1 (P .n) then limited 1 16 2 (P .r) then limited 1 16 3 (P .κ) then limited 1 16 4 (P .κ₁) then limited 1 16 5 (P .κ₂) in
-    ap (λ a. a then limited 16 32 8 (P .log-q) then limited 2 4294967294 9 (P .b) then limited 1 32 10 (P .t₁) then limited 1 32 11 (P .t₂) then limited 1 32 12 (P .L))
+    ap (λ a. a then limited 16 32 8 (P .log-q) then limited 2 topQ 9 (P .b) then limited 1 32 10 (P .t₁) then limited 1 32 11 (P .t₂) then limited 1 32 12 (P .L))
     (ap (λ a. head then limited 0 64 6 (P .K) then limited 0 64 7 (P .l) then a) (require-holds (decLe 1 (P .K + P .l)) (refused 4 7) (omega arith))
     ∙ then-fine (head then limited 0 64 6 (P .K) then limited 0 64 7 (P .l))
     ∙ ap (λ a. head then a then limited 0 64 7 (P .l)) (from-one 64 6 (P .K) k)

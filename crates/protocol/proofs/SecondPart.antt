@@ -6,6 +6,7 @@ use Rattle.lists.specs.Table.{table}
 use Rattle.lists.specs.Sum.{Σ}
 use Rattle.lists.proofs.Sum.{Σ-le}
 use Rattle.lists.proofs.Table.{table-ext}
+use Rattle.definitions.specs.Zq.{topQ}
 use Rattle.definitions.specs.Norm.{square, norm}
 use Rattle.definitions.specs.Digits.{digit, leftover, rest}
 use Rattle.definitions.specs.Rq.{Element, coeff, digitRow, restRow}
@@ -20,7 +21,7 @@ two-rows : (b : ℕ) (e : Element) → digits-norm b 2 e ≡ norm (digitRow b (w
 unfolding Σ
 two-rows b e = ap (λ x. x + norm (digitRow b (words e) 1)) (zero-add (norm (digitRow b (words e) 0)))
 
-module _ (b : ℕ) (p : 0 < b) (l : b ≤ 4294967294) where
+module _ (b : ℕ) (p : 0 < b) (l : b ≤ topQ) where
   -- of the second digits and the rest of one element
   second-within : (e : Element) → norm (digitRow b (words e) 1) ≤ norm (restRow b (words e))
   unfolding digitRow restRow

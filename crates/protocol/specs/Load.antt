@@ -2,7 +2,7 @@
 use mathlib.Core.Bool.{cond}
 use mathlib.Core.List.{List, [], _∷_, _++_}
 use Prim.Native.Nat.{ℕ, zero, suc, _+_, _*_, _/_, _%_, _^_}
-use lib.Dec.{eqb}
+use lib.Dec.{ltb}
 use lib.ListN.{length, drop, set, replicate}
 use Rattle.lists.specs.Table.{table}
 use Rattle.definitions.specs.Zq.{Q, zsub}
@@ -50,9 +50,9 @@ unfoldable pub state : ℕ → ℕ → ℕ
 state seed zero = seed
 state seed (suc k) = next (state seed k)
 
--- "a word equal to Q is written as 0 while the state keeps it"
+-- "a word equal to Q is written as 0 while the state keeps it", and so is one above Q where there are such
 unfoldable pub word : ℕ → ℕ
-word x = cond (eqb x Q) 0 x
+word x = cond (ltb x Q) x 0
 
 -- "sign words take the state's top bit"
 unfoldable pub sign : ℕ → ℕ

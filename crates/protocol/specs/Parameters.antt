@@ -3,6 +3,7 @@ use mathlib.Core.List.{List}
 use Prim.Native.Nat.{ℕ, _+_, _*_, _/_, _^_}
 use native.Mathlib.Decide.{decLe}
 use lib.ListN.{getD}
+use Rattle.definitions.specs.Zq.{topQ}
 use Rattle.definitions.specs.Answer.{Answer, refused, _then_}
 use Rattle.definitions.specs.Leaf.{limited}
 use Rattle.protocol.specs.Checks.{require}
@@ -82,7 +83,7 @@ limits P =
     then limited 0 64 7 (P .l)
     then some-constraint P
     then limited 16 32 8 (P .log-q)
-    then limited 2 4294967294 9 (P .b)
+    then limited 2 topQ 9 (P .b)
     then limited 1 32 10 (P .t₁)
     then limited 1 32 11 (P .t₂)
     then limited 1 32 12 (P .L)

@@ -9,7 +9,7 @@ use lib.Signed.{leZ, _≤ℤ_}
 use lib.ListN.{length, getD}
 use Rattle.lists.specs.Part.{part}
 use Rattle.lists.specs.Sum.{Σ}
-use Rattle.definitions.specs.Zq.{Q}
+use Rattle.definitions.specs.Zq.{Q, halfQ}
 use Rattle.definitions.specs.Answer.{Answer, fine, refused, _then_}
 use Rattle.protocol.specs.Checks.{require, first}
 use Rattle.protocol.specs.Parameters.{Parameters, parameters}
@@ -93,9 +93,9 @@ ranges-count P = 64 * (P .r * P .n)
 abbrev pub length-refusal : (need handed : ℕ) → Answer
 length-refusal need handed = require (ℕ-discrete handed need) (refused 11 (min handed need))
 
--- "37 a number beyond ±2147483647"
+-- "37 a number beyond ±2147483647", which is the greatest centre
 abbrev pub size-refusal : (place : ℕ) → ℤ → Answer
-size-refusal place x = require (decLe (natAbs x) 2147483647) (refused 37 place)
+size-refusal place x = require (decLe (natAbs x) halfQ) (refused 37 place)
 
 -- "tested over all pairs"; "the place is the first such pair, from 0"
 unfoldable pub beyond-refusal : ℕ → (lows highs : List ℤ) → Answer

@@ -110,8 +110,8 @@ module _ (J W : List ℕ) (p : EnvironmentParameters) (q : Regions) (S : List �
   a-room = omega (arith, a-end J p q S (h .ready), g-room)
 
   -- 13: what `check_witness` needs, and what it answers
-  pub witness-checks : (1 + 64 * (p .multiplicity * p .rank) ≤ length W) × (p .rank ≤ 2 ^ 20)
-  witness-checks = subst (λ Q. (1 + 64 * (Q .r * Q .n) ≤ length W) × (Q .n ≤ 2 ^ 20)) (sym (h .ready .same)) (witness-fits, omega (arith, h .ready .sound .within .n .1))
+  pub witness-checks : (1 + 64 * (p .multiplicity * p .rank) ≤ length W) × (p .rank ≤ 2 ^ 18)
+  witness-checks = subst (λ Q. (1 + 64 * (Q .r * Q .n) ≤ length W) × (Q .n ≤ 2 ^ 18)) (sym (h .ready .same)) (witness-fits, omega (arith, h .ready .sound .within .n .1))
 
   abbrev tested : Answer
   tested = first (p .multiplicity) (vector-norm W 1 (p .rank) (value128 (p .«bound_a»)))

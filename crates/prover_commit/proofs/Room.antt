@@ -94,10 +94,10 @@ module _ (p : EnvironmentParameters) (q : Regions) (S : List ℕ) (h : Placed p 
   pub t-cells : Cells S (digits (q .t) (p .multiplicity * p .kappa) (p .«t_1»))
   t-cells = record { within = h .t; few-cells = up (p .multiplicity * p .kappa) (small-product (p .multiplicity) (p .kappa) (h .sized .within .r .1) (h .sized .within .κ .1)); few-parts = h .sized .within .t₁ .1 }
     where
-      up : (n : ℕ) → n ≤ 256 → n ≤ 2 ^ 20
+      up : (n : ℕ) → n ≤ 256 → n ≤ 2 ^ 18
       up n l = omega arith
 
-  few : (n : ℕ) → n ≤ 136 → n ≤ 2 ^ 20
+  few : (n : ℕ) → n ≤ 136 → n ≤ 2 ^ 18
   few n l = omega arith
 
   pub g-cells : (cells : ℕ) → (cells ≡ triangular (p .multiplicity)) × (cells ≤ 136) → Cells S (digits (q .g) cells (p .«t_2»))

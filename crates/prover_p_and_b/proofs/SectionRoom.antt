@@ -83,7 +83,7 @@ p-room p R W h at e =
     up : (n : ℕ) → n ≤ 64 → n ≤ 1024
     up n k = omega arith
 
-    up′ : (n : ℕ) → n ≤ 16 → n ≤ 65536
+    up′ : (n : ℕ) → n ≤ 16 → n ≤ 32768
     up′ n k = omega arith
 
 -- the projection of a call that is handed the first section of randomness

@@ -10,6 +10,7 @@ use lib.Signed.{ltZ, leZ, mag, nonNeg, _≤ℤ_, ≤ℤ-refl, ltZ-no}
 use lib.Dec.{T, ltb, leb, leb→le, le→leb}
 use mir.Syntax.{w64}
 use mir.Val.{SFits}
+use Rattle.definitions.specs.Zq.{halfQ}
 use Rattle.range_norms.specs.Ends.{Centred, nearest, farthest}
 
 -- a number below zero taken from zero is its size
@@ -23,7 +24,7 @@ not-below-zero (pos n) h = tt
 not-below-zero (negsuc n) h = let z : _≡_ {A = Bool} true false = h in absurd (subst (λ b. T b) z tt)
 
 -- a size is an i64
-pub size-fits : (n : ℕ) → n ≤ 2147483647 → SFits w64 (pos n)
+pub size-fits : (n : ℕ) → n ≤ halfQ → SFits w64 (pos n)
 size-fits n h = record { sfits = omega arith }
 
 -- nothing is both true and false

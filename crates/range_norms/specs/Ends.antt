@@ -7,11 +7,12 @@ use lib.Signed.{ltZ}
 use lib.Dec.{ltb}
 use lib.ListN.{length}
 use Rattle.lists.specs.Table.{table}
+use Rattle.definitions.specs.Zq.{halfQ}
 use Rattle.protocol.specs.Ranges.{number-at}
 
--- a number from −2147483647 to 2147483647
+-- a number that is some value's centre
 abbrev pub Centred : ℤ → Type 0
-Centred x = natAbs x ≤ 2147483647
+Centred x = natAbs x ≤ halfQ
 
 -- all pairs are of centred numbers
 pub record AllCentred (lows highs : List ℤ) : Type 0 where

@@ -3,11 +3,12 @@ use mathlib.Core.Bool.{Bool, cond}
 use Prim.Native.Nat.{ℕ}
 use lib.Dec.{ltb}
 use lib.IntN.{ℤ, natAbs}
+use Rattle.definitions.specs.Zq.{halfQ}
 use Rattle.definitions.specs.Answer.{Answer, fine, refused}
 
--- whether a number lies beyond ±2147483647
+-- whether a number is beyond the greatest centre
 abbrev pub is-beyond : ℤ → Bool
-is-beyond x = ltb 2147483647 (natAbs x)
+is-beyond x = ltb halfQ (natAbs x)
 
 -- the refusal of the first pair found, where it is below the count
 abbrev pub found : (number place count : ℕ) → Answer

@@ -1,4 +1,5 @@
 // The pairs of lows and highs: 36 and 37.
+use definitions::modulus;
 use range_norms::number;
 ghost use mathlib.Core.Path.{_≡_};
 ghost use mathlib.Core.Bool.{_||_};
@@ -8,14 +9,14 @@ ghost use lib.ListN.{length};
 ghost use Rattle.protocol.specs.Ranges.{beyond-refusal, crossed-refusal};
 ghost use Rattle.range_pairs.specs.Pairs.{is-beyond, found};
 
-// Whether a number lies beyond ±2147483647.
+// Whether a number is no value's centre.
 fn is_beyond(x: i64) -> bool
     ensures { λ r. ⌜ r ≡ is-beyond x ⌝ }
 {
     if x < 0 {
-        x < -2147483647
+        x < modulus::MINUS_HALF
     } else {
-        2147483647 < x
+        modulus::HALF_I64 < x
     }
 }
 
@@ -36,7 +37,7 @@ fn in_order(low: i64, high: i64) -> bool
     low <= high
 }
 
-// 37: the first pair with a number beyond ±2147483647, or the count where there is none.
+// 37: the first pair with a number that is no centre, or the count where there is none.
 pub fn first_beyond(lows: &[i64], highs: &[i64], count: usize) -> usize
     requires { ⌜ (count ≤ length (now lows)) × (count ≤ length (now highs)) ⌝ }
     ensures { λ r. ⌜ found 37 r count ≡ beyond-refusal count (now (lows .entry)) (now (highs .entry)) ⌝ }

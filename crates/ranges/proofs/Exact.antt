@@ -16,7 +16,7 @@ use Rattle.lists.specs.Sum.{Σ}
 use Rattle.lists.proofs.Sum.{Σ-ext}
 use Rattle.lists.proofs.Table.{table-ext}
 use Rattle.lists.proofs.Splice.{length-part, getD-part}
-use Rattle.definitions.specs.Zq.{Q, size}
+use Rattle.definitions.specs.Zq.{Q, halfQ, size}
 use Rattle.definitions.specs.Norm as Words
 use Rattle.definitions.specs.Answer.{Answer, fine, refused, _then_}
 use Rattle.definitions.specs.Ring.{element}
@@ -47,10 +47,10 @@ word-canonical (negsuc n) h = omega arith
 
 -- and centres to the number's size
 word-size : (x : ℤ) → Centred x → size (word x) ≡ natAbs x
-word-size (pos n) h = ap (λ b. cond b (Q - n) n) (le-ltb 2147483647 n h)
-word-size (negsuc n) h = let l : 2147483647 < Q - suc n = omega arith in ap (λ b. cond b (Q - (Q - suc n)) (Q - suc n)) (lt-ltb 2147483647 (Q - suc n) l) ∙ back n h
+word-size (pos n) h = ap (λ b. cond b (Q - n) n) (le-ltb halfQ n h)
+word-size (negsuc n) h = let l : halfQ < Q - suc n = omega arith in ap (λ b. cond b (Q - (Q - suc n)) (Q - suc n)) (lt-ltb halfQ (Q - suc n) l) ∙ back n h
   where
-    back : (n : ℕ) → suc n ≤ 2147483647 → Q - (Q - suc n) ≡ suc n
+    back : (n : ℕ) → suc n ≤ halfQ → Q - (Q - suc n) ≡ suc n
     back n h = omega arith
 
 module _ (J R : List ℕ) (xs : List ℤ) (a : ℕ → Answered) (ok : ranges-refusal J xs xs ≡ fine) (hold : AllHold (parameters J) xs xs a) where
@@ -92,7 +92,7 @@ module _ (J R : List ℕ) (xs : List ℤ) (a : ℕ → Answered) (ok : ranges-re
   word-at j h =
       section-word filled 0 j (rw (length-map xs word, pairs-ready .lows-count) h) ∙ List·getD-map word xs j (pos 0)
 
-  first-word : getD W 0 0 < 2 ^ 32
+  first-word : getD W 0 0 ≤ Q
   unfolding sections
   first-word =
       let e = length-map xs word in
@@ -100,13 +100,13 @@ module _ (J R : List ℕ) (xs : List ℤ) (a : ℕ → Answered) (ok : ranges-re
       let m : P .r * P .n ≤ 16 * 64 = mul-le-mul (sized .within .r .1) (sized .within .n .1) in
       omega arith
 
-  all-words : (i : ℕ) → i < length W → getD W i 0 < 2 ^ 32
+  all-words : (i : ℕ) → i < length W → getD W i 0 ≤ Q
   all-words zero h = first-word
   all-words (suc k) h =
       let l : k < ranges-count P = omega (arith, length-W) in
       let e = pairs-ready .lows-count in
       let c = word-canonical (number-at xs k) (pairs-ready .centred .low k (omega arith)) in
-      subst (λ m. getD W m 0 < 2 ^ 32) (one-more k) (rw (word-at k l) (omega arith))
+      subst (λ m. getD W m 0 ≤ Q) (one-more k) (rw (word-at k l) (omega arith))
     where
       one-more : (k : ℕ) → 1 + k ≡ suc k
       one-more k = omega arith

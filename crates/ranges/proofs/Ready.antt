@@ -8,6 +8,7 @@ use lib.Dec.{T}
 use lib.IntN.{ℤ, natAbs}
 use lib.Signed.{leZ, _≤ℤ_, leZ-yes}
 use lib.ListN.{length}
+use Rattle.definitions.specs.Zq.{halfQ}
 use Rattle.definitions.specs.Answer.{Answer, fine, refused, _then_}
 use Rattle.protocol.specs.Checks.{require, first}
 use Rattle.protocol.specs.Ranges.{number-at, length-refusal, size-refusal, beyond-refusal, crossed-refusal}
@@ -29,8 +30,8 @@ pub length-is : (need handed : ℕ) → length-refusal need handed ≡ fine → 
 length-is need handed e = required (ℕ-discrete handed need) (refused 11 (min handed need)) (refused-not-fine 11 (min handed need)) e
 
 -- a number that is not refused
-size-is : (j : ℕ) (x : ℤ) → size-refusal j x ≡ fine → natAbs x ≤ 2147483647
-size-is j x e = required (decLe (natAbs x) 2147483647) (refused 37 j) (refused-not-fine 37 j) e
+size-is : (j : ℕ) (x : ℤ) → size-refusal j x ≡ fine → natAbs x ≤ halfQ
+size-is j x e = required (decLe (natAbs x) halfQ) (refused 37 j) (refused-not-fine 37 j) e
 
 -- a pair that is not refused
 order-is : (j : ℕ) (b : Bool) → cond b fine (refused 36 j) ≡ fine → T b

@@ -1,5 +1,6 @@
 // What the two calls find of their operands.
 use definitions::answers::Operands;
+use definitions::modulus;
 use operand_scan::scan;
 ghost use mathlib.Core.Path.{_≡_};
 ghost use Rattle.definitions.specs.Answer.{ofOperands};
@@ -11,7 +12,7 @@ pub fn base_found(base: u32) -> Operands
 {
     if base < 2 {
         Operands::BaseOrParts(0)
-    } else if 4294967294 < base {
+    } else if modulus::TOP < base {
         Operands::BaseOrParts(0)
     } else {
         Operands::Fit

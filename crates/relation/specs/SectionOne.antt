@@ -2,6 +2,7 @@
 use mathlib.Core.List.{List}
 use Prim.Native.Nat.{ℕ, _≤_}
 use lib.ListN.{length}
+use Rattle.definitions.specs.Zq.{topQ}
 use Rattle.protocol.specs.Parameters.{Parameters, parameters, rounded-up}
 
 -- parameters within their limits
@@ -14,7 +15,7 @@ pub record Within (P : Parameters) : Type 0 where
   pub K : (0 ≤ P .K) × (P .K ≤ 64)
   pub l : (0 ≤ P .l) × (P .l ≤ 64)
   pub log-q : (16 ≤ P .log-q) × (P .log-q ≤ 32)
-  pub b : (2 ≤ P .b) × (P .b ≤ 4294967294)
+  pub b : (2 ≤ P .b) × (P .b ≤ topQ)
   pub t₁ : (1 ≤ P .t₁) × (P .t₁ ≤ 32)
   pub t₂ : (1 ≤ P .t₂) × (P .t₂ ≤ 32)
   pub L : (1 ≤ P .L) × (P .L ≤ 32)

@@ -1,6 +1,6 @@
 // Buffers that are filled with a mark before a call, so that each word that it leaves alone is seen.
 
-// The word 4294967295 is Q itself: elements, numbers and counts are below Q, so no call writes it.
+// The greatest word is at least Q: elements, numbers and counts are below Q, so no call writes it.
 pub const MARK: u32 = 4294967295;
 
 // Whether a buffer is zero to a length and has marks behind it.

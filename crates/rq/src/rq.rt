@@ -1,13 +1,17 @@
 // A ring element as 64 words, coefficient of X^0 first. No operation asks for canonical words, and each gives some, except that the conjugate keeps
 // coefficient 0 as it is.
 use definitions::answers::U128;
+use definitions::modulus;
 use rq_product::product;
 use zq::norm;
 use zq::zq::Zq;
+use zq::zq::lowered;
 ghost use mathlib.Core.Path.{_≡_};
 ghost use Rattle.definitions.specs.Answer.{value128};
 ghost use Rattle.definitions.specs.Norm.{norm};
+ghost use Rattle.definitions.specs.Ring.{element};
 ghost use Rattle.definitions.specs.Rq.{rzero, radd, rsub, rmul, rscale, rconj};
+ghost use Rattle.rq.specs.Words.{AtMostQ};
 
 #[repr(C)]
 pub struct Rq {
@@ -35,6 +39,21 @@ impl Rq {
             sum[k] = Zq(a[k]).add(Zq(b[k])).0;
         }
         Rq { coeffs: sum }
+    }
+
+    // The same element with words up to Q. Where Q is 2^32 − 1, every word is.
+    pub fn settled(self) -> Rq
+        ensures { λ r. ⌜ (element (r .coeffs) ≡ element (self .coeffs)) × AtMostQ (r .coeffs) ⌝ }
+    {
+        if modulus::LACK == 1 {
+            return self;
+        }
+        let a = self.coeffs;
+        let mut words = [0u32; Rq::DEGREE];
+        for k in 0..Rq::DEGREE {
+            words[k] = lowered(a[k]);
+        }
+        Rq { coeffs: words }
     }
 
     pub fn sub(self, rhs: Rq) -> Rq

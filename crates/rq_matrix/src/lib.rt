@@ -44,7 +44,7 @@ pub fn matrix_vector(
     out: &mut [u32],
     out_at: usize,
 )
-    requires { ⌜ («m_at» + 64 * (rows * cols) ≤ length (now m)) × («v_at» + 64 * cols ≤ length (now v)) × («out_at» + 64 * rows ≤ length (now out)) × (cols ≤ 2 ^ 20) ⌝ }
+    requires { ⌜ («m_at» + 64 * (rows * cols) ≤ length (now m)) × («v_at» + 64 * cols ≤ length (now v)) × («out_at» + 64 * rows ≤ length (now out)) × (cols ≤ 2 ^ 18) ⌝ }
     ensures { λ _. ⌜ now (out .exit) ≡ splice (now (out .entry)) «out_at» (flat (table rows (λ k. dot cols (vector (now (m .entry)) «m_at» cols k) (run (now (v .entry)) «v_at» 64)))) ⌝ }
 {
     let mut row_at = m_at;

@@ -6,8 +6,9 @@ use native.Mathlib.Omega.{arith}
 use lib.ListN.{length, getD}
 use Rattle.lists.specs.Sum.{Σ}
 use Rattle.lists.proofs.Sum.{Σ-bound, Σ-suc}
+use Rattle.definitions.specs.Zq.{Q, lackQ}
 use Rattle.definitions.proofs.Fits.{product-max}
-use Rattle.rq_product.specs.Product.{AllWords, folded, halvesSum, WithProduct}
+use Rattle.rq_product.specs.Product.{AllWords, folded, growth, halvesSum, WithProduct}
 
 -- the sum is 2^32 times that of the upper halves and that of the lower halves
 pub halves : (n : ℕ) (p : ℕ → ℕ) → Σ n p ≡ 4294967296 * Σ n (λ i. p i / 4294967296) + Σ n (λ i. p i % 4294967296)
@@ -20,14 +21,14 @@ pub lower-small : (p : ℕ → ℕ) → Σ 64 (λ i. p i % 4294967296) ≤ 27487
 lower-small p = Σ-bound 64 4294967296 (λ i. p i % 4294967296) (λ i l. omega arith)
 
 -- what the upper halves' sum leaves of the sum modulo 2^64 is the lower halves' sum
-halves-sum-is : (sum upper lower total : ℕ) → total ≡ 4294967296 * upper + lower → lower ≤ 274877906944 → upper ≤ 274877906944 → sum ≡ total % 2 ^ 64 → halvesSum sum upper ≡ lower + upper
-halves-sum-is sum upper lower total t l u m = rest sum (upper % 4294967296 * 4294967296) lower upper (omega arith) (omega arith) (omega arith)
+halves-sum-is : (sum upper lower total : ℕ) → total ≡ 4294967296 * upper + lower → lower ≤ 274877906944 → upper ≤ 274877906944 → sum ≡ total % 2 ^ 64 → halvesSum sum upper ≡ lower + upper * lackQ
+halves-sum-is sum upper lower total t l u m = rest sum (upper % 4294967296 * 4294967296) lower (upper * lackQ) (omega arith) (omega arith) (omega arith)
   where
-    rest : (sum taken lower upper : ℕ) → sum ≡ (taken + lower) % 2 ^ 64 → taken ≤ 18446744069414584320 → lower + upper ≤ 549755813888 → (sum + (2 ^ 64 - taken) + upper) % 2 ^ 64 ≡ lower + upper
+    rest : (sum taken lower upper : ℕ) → sum ≡ (taken + lower) % 2 ^ 64 → taken ≤ 18446744069414584320 → lower + upper ≤ growth → (sum + (2 ^ 64 - taken) + upper) % 2 ^ 64 ≡ lower + upper
     rest sum taken lower upper e l h = omega arith
 
--- 2^32 is 1 modulo Q
-pub joined : (upper lower total : ℕ) → total ≡ 4294967296 * upper + lower → (lower + upper) % 4294967295 ≡ total % 4294967295
+-- 2^32 is what Q lacks of it modulo Q
+pub joined : (upper lower total : ℕ) → total ≡ 4294967296 * upper + lower → (lower + upper * lackQ) % Q ≡ total % Q
 joined upper lower total t = omega arith
 
 -- product i from a place on
@@ -65,15 +66,15 @@ unfolding Begun folded
 begun-folded x y at sum upper h =
     let p : ℕ → ℕ = term x y at in
     halves-sum-is sum upper (Σ 64 (λ i. p i % 4294967296)) (Σ 64 p) (halves 64 p ∙ ap (λ u. 4294967296 * u + Σ 64 (λ i. p i % 4294967296)) (sym (h .1))) (lower-small p) (omega arith) (h .0)
-    ∙ ap (λ u. Σ 64 (λ i. p i % 4294967296) + u) (h .1)
+    ∙ ap (λ u. Σ 64 (λ i. p i % 4294967296) + u * lackQ) (h .1)
 
 -- the halves' sum is the products' modulo Q
-pub folded-mod : (x y : List ℕ) (at : ℕ) → folded x y at % 4294967295 ≡ Σ 64 (λ i. getD x i 0 * getD y (at + i) 0) % 4294967295
+pub folded-mod : (x y : List ℕ) (at : ℕ) → folded x y at % Q ≡ Σ 64 (λ i. getD x i 0 * getD y (at + i) 0) % Q
 unfolding folded
 folded-mod x y at = let p : ℕ → ℕ = λ i. getD x i 0 * getD y (at + i) 0 in joined (Σ 64 (λ i. p i / 4294967296)) (Σ 64 (λ i. p i % 4294967296)) (Σ 64 p) (halves 64 p)
 
--- the halves of 64 products of words sum to at most 2^39
-pub folded-small : (x y : List ℕ) (at : ℕ) → 64 ≤ length x → at + 64 ≤ length y → AllWords x → AllWords y → folded x y at ≤ 549755813888
+-- the halves of 64 products of words sum to at most that
+pub folded-small : (x y : List ℕ) (at : ℕ) → 64 ≤ length x → at + 64 ≤ length y → AllWords x → AllWords y → folded x y at ≤ growth
 unfolding folded
 folded-small x y at hx hy wx wy =
     let p : ℕ → ℕ = λ i. getD x i 0 * getD y (at + i) 0 in

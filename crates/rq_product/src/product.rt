@@ -2,17 +2,21 @@
 // sum of b's 64 entries times E's from k + 1 on: one run of products without a sign, reduced once.
 use zq::wide::wide;
 use zq::zq::Zq;
+use zq::zq::lack;
 ghost use mathlib.Core.Path.{_≡_};
 ghost use Prim.Native.Nat.{_+_, _^_, _≤_, _<_};
 ghost use lib.ListN.{length};
 ghost use Rattle.lists.specs.Table.{padded};
 ghost use Rattle.definitions.specs.Rq.{rmul};
-ghost use Rattle.rq_product.specs.Product.{AllWords, extended, extendedCoeff, reversed, folded, halvesSum, WithProduct};
+ghost use Rattle.rq_product.specs.Product.{AllWords, extended, extendedCoeff, reversed, folded, growth, halvesSum, WithProduct};
 
 // Q as a u64, and 2^32.
 pub const MODULUS: u64 = Zq::Q as u64;
 
 pub const RADIX: u64 = 4294967296;
+
+// What Q lacks of 2^32: 2^32 is that modulo Q.
+pub const LACK: u64 = RADIX - MODULUS;
 
 // The coefficients of −a, then 64 zeros.
 fn negated(a: [u32; 64]) -> [u64; 128]
@@ -20,7 +24,7 @@ fn negated(a: [u32; 64]) -> [u64; 128]
 {
     let mut out = [0u64; 128];
     for m in 0..64 {
-        out[m] = MODULUS - wide(a[m]);
+        out[m] = wide(lack(a[m]));
     }
     out
 }
@@ -66,16 +70,16 @@ fn add(h: Halves, x: u64, y: u64) -> Halves
     }
 }
 
-// The sum of the lower halves, which is what the upper halves leave of the sum, and that of the upper halves.
+// The sum of the lower halves, which is what the upper halves leave of the sum, and that of the upper halves, each of which counts what Q lacks of 2^32.
 fn join(h: Halves) -> u64
+    requires { ⌜ h .upper ≤ 2 ^ 38 ⌝ }
     ensures { λ r. ⌜ r ≡ halvesSum (h .sum) (h .upper) ⌝ }
 {
     let lower = std::num::wrapping_sub_u64(h.sum, h.upper % RADIX * RADIX);
-    std::num::wrapping_add_u64(lower, h.upper)
+    std::num::wrapping_add_u64(lower, h.upper * LACK)
 }
 
-// The upper and the lower halves of the products of x's 64 entries with y's from `at` on, summed: equal to the products' sum modulo Q, since
-// 2^32 is 1.
+// The upper and the lower halves of the products of x's 64 entries with y's from `at` on, summed: equal to the products' sum modulo Q.
 pub fn dot(x: &[u64], y: &[u64], at: usize) -> u64
     requires { ⌜ (length (now x) ≡ 64) × (at + 64 ≤ length (now y)) × AllWords (now x) × AllWords (now y) ⌝ }
     ensures { λ r. ⌜ r ≡ folded (now (x .entry)) (now (y .entry)) at ⌝ }
@@ -95,12 +99,12 @@ pub struct Sums {
     pub d: u64,
 }
 
-// The same for y from `at` and from the next three places on, at most 2^39 each.
+// The same for y from `at` and from the next three places on.
 pub fn four(x: &[u64], y: &[u64], at: usize) -> Sums
     requires { ⌜ (length (now x) ≡ 64) × (at + 67 ≤ length (now y)) × AllWords (now x) × AllWords (now y) ⌝ }
     ensures { λ r. ⌜ (r .a ≡ folded (now (x .entry)) (now (y .entry)) at) × (r .b ≡ folded (now (x .entry)) (now (y .entry)) (at + 1)) ⌝ }
     ensures { λ r. ⌜ (r .c ≡ folded (now (x .entry)) (now (y .entry)) (at + 2)) × (r .d ≡ folded (now (x .entry)) (now (y .entry)) (at + 3)) ⌝ }
-    ensures { λ r. ⌜ (r .a ≤ 2 ^ 39) × (r .b ≤ 2 ^ 39) × (r .c ≤ 2 ^ 39) × (r .d ≤ 2 ^ 39) ⌝ }
+    ensures { λ r. ⌜ (r .a ≤ growth) × (r .b ≤ growth) × (r .c ≤ growth) × (r .d ≤ growth) ⌝ }
 {
     let mut a = Halves { sum: 0, upper: 0 };
     let mut b = Halves { sum: 0, upper: 0 };

@@ -2,18 +2,19 @@
 use crate::product;
 use zq::wide::wide;
 ghost use mathlib.Core.Path.{_≡_};
-ghost use Prim.Native.Nat.{_+_, _%_, _^_, _≤_};
+ghost use Prim.Native.Nat.{_+_, _%_, _≤_};
 ghost use lib.ListN.{length, getD};
 ghost use Rattle.lists.specs.Table.{table};
 ghost use Rattle.lists.specs.Part.{part};
 ghost use Rattle.definitions.specs.Zq.{Q};
 ghost use Rattle.definitions.specs.Rq.{rmul, rscale};
 ghost use Rattle.rq_product.specs.Sums.{Room, Added};
+ghost use Rattle.rq_product.specs.Product.{growth};
 
 // The product of two elements added to the sums.
 pub fn add_product(sums: [u64; 64], a: [u32; 64], b: [u32; 64]) -> [u64; 64]
     requires { ⌜ Room sums ⌝ }
-    ensures { λ r. ⌜ Added (2 ^ 39) sums (rmul a b) r ⌝ }
+    ensures { λ r. ⌜ Added growth sums (rmul a b) r ⌝ }
 {
     let y = product::extend(a);
     let x = product::reverse(b);
@@ -29,15 +30,15 @@ pub fn add_product(sums: [u64; 64], a: [u32; 64], b: [u32; 64]) -> [u64; 64]
     out
 }
 
-// The product of the element at `at` with a number added to the sums, each product folded once: 2^32 is 1 modulo Q.
+// The product of the element at `at` with a number added to the sums, each product folded once.
 pub fn add_scaled(sums: &mut [u64], words: &[u32], at: usize, factor: u32)
     requires { ⌜ (length (now sums) ≡ 64) × (at + 64 ≤ length (now words)) × Room (now sums) ⌝ }
-    ensures { λ _. ⌜ (length (now (sums .exit)) ≡ 64) × Added (2 ^ 39) (now (sums .entry)) (rscale (part (now (words .entry)) at 64) factor) (now (sums .exit)) ⌝ }
+    ensures { λ _. ⌜ (length (now (sums .exit)) ≡ 64) × Added growth (now (sums .entry)) (rscale (part (now (words .entry)) at 64) factor) (now (sums .exit)) ⌝ }
 {
     let c = wide(factor);
     for k in 0..64 {
         let term = wide(words[at + k]) * c;
-        sums[k] = sums[k] + (term % product::RADIX + term / product::RADIX);
+        sums[k] = sums[k] + (term % product::RADIX + term / product::RADIX * product::LACK);
     }
 }
 

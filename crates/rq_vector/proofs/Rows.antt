@@ -1,7 +1,7 @@
--- Rows of digits of any 64 words: 4294967295, which stands for 0, has the digits of 0.
+-- Rows of digits of 64 words up to Q: Q, which stands for 0, has the digits of 0.
 use mathlib.Core.Path.{_≡_, refl, sym, _∙_, ap}
 use mathlib.Core.List.{List}
-use Prim.Native.Nat.{ℕ, _%_, _<_, _^_}
+use Prim.Native.Nat.{ℕ, _%_, _≤_, _<_}
 use native.Mathlib.Nat.{zero-add, mod-eq-of-lt}
 use native.Mathlib.Decide.{decLt}
 use native.Mathlib.Omega.{arith}
@@ -9,6 +9,7 @@ use Rattle.lists.proofs.Table.{table-ext, getD-table}
 use Rattle.definitions.specs.Zq.{Q, Canonical, size}
 use Rattle.definitions.specs.Digits.{sizeAfter, digit}
 use Rattle.definitions.specs.Rq.{coeff, digitRow}
+use Rattle.rq.specs.Words.{AtMostQ}
 use Rattle.definitions.specs.Ring.{words, element}
 use Rattle.definitions.proofs.Digits.{stays-zero, digit-zero}
 use Rattle.protocol.specs.Formulas.{digit-element}
@@ -19,17 +20,13 @@ pub coeff-element : (a : List ℕ) (j : ℕ) → j < 64 → coeff (words (elemen
 unfolding element
 coeff-element a j h = getD-table 64 (λ k. coeff a k % Q) j 0 h
 
--- the coefficients are words
-abbrev pub AllFit : List ℕ → Type 0
-AllFit a = (j : ℕ) → j < 64 → coeff a j < 2 ^ 32
-
--- what holds of canonical words, and of 4294967295 where 0 is put for it, holds of all
-pub of-word : (P : ℕ → ℕ → Type 0) (a : ℕ) → a < 2 ^ 32 → ((b : ℕ) → Canonical b → P b b) → P 0 4294967295 → P (a % Q) a
+-- what holds of canonical words, and of Q where 0 is put for it, holds of all up to Q
+pub of-word : (P : ℕ → ℕ → Type 0) (a : ℕ) → a ≤ Q → ((b : ℕ) → Canonical b → P b b) → P 0 Q → P (a % Q) a
 of-word P a f canonical other = go (decLt a Q)
   where
     go : Dec (a < Q) → P (a % Q) a
     go (yes h) = rw (mod-eq-of-lt h) (canonical a h)
-    go (no h) = let e : a ≡ 4294967295 = omega arith in rw e other
+    go (no h) = let e : a ≡ Q = omega arith in rw e other
 
 -- from a size of 0 on
 after-zero : (b k : ℕ) → sizeAfter b k 0 ≡ 0
@@ -37,17 +34,17 @@ unfolding sizeAfter
 after-zero b k = rw zero-add at (stays-zero b 0 k 0 refl)
 
 -- a digit of a word
-pub digit-of-word : (b a k : ℕ) → a < 2 ^ 32 → digit b (a % Q) k ≡ digit b a k
+pub digit-of-word : (b a k : ℕ) → a ≤ Q → digit b (a % Q) k ≡ digit b a k
 digit-of-word b a k h =
-    of-word (λ x y. digit b x k ≡ digit b y k) a h (λ x l. refl) (digit-zero b 0 k (after-zero b k) ∙ sym (digit-zero b 4294967295 k (after-zero b k)))
+    of-word (λ x y. digit b x k ≡ digit b y k) a h (λ x l. refl) (digit-zero b 0 k (after-zero b k) ∙ sym (digit-zero b Q k (after-zero b k)))
 
 -- a row of digits of 64 words
-pub row-of-words : (b : ℕ) (a : List ℕ) (k : ℕ) → AllFit a → digitRow b (words (element a)) k ≡ digitRow b a k
+pub row-of-words : (b : ℕ) (a : List ℕ) (k : ℕ) → AtMostQ a → digitRow b (words (element a)) k ≡ digitRow b a k
 unfolding digitRow
 row-of-words b a k f =
     table-ext 64 (λ j. digit b (coeff (words (element a)) j) k) (λ j. digit b (coeff a j) k)
     (λ j h. ap (λ x. digit b x k) (coeff-element a j h) ∙ digit-of-word b (coeff a j) k (f j h))
 
 -- the words of digit k of an element are a row of digits
-pub row-words : (b : ℕ) (a : List ℕ) (k : ℕ) → AllFit a → digitRow b a k ≡ words (digit-element b (element a) k)
+pub row-words : (b : ℕ) (a : List ℕ) (k : ℕ) → AtMostQ a → digitRow b a k ≡ words (digit-element b (element a) k)
 row-words b a k f = sym (words-digit b (element a) k ∙ row-of-words b a k f)

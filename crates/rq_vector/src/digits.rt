@@ -14,7 +14,7 @@ pub fn decompose_to(from: &[u32], at: usize, base: u32, parts: usize, to: &mut [
     requires { ⌜ (at + 64 ≤ length (now from)) × («to_at» + 64 * parts ≤ length (now to)) × (1 < base) ⌝ }
     ensures { λ _. ⌜ now (to .exit) ≡ splice (now (to .entry)) «to_at» (flat (table parts (digit-element base (element (part (now (from .entry)) at 64))))) ⌝ }
 {
-    let a = words::load(from, at).coeffs;
+    let a = words::load(from, at).settled().coeffs;
     let mut sizes = digits::sizes_of(a);
     let mut place = to_at;
     let mut k = 0;

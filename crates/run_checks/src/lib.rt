@@ -1,6 +1,7 @@
 // The slices of the calls on runs, one section each (document 02, Item 10): 7 and 8, 11 and 12, 9 and 10; then the lent buffers, 1 and 2.
 use admission::answers::Checked;
 use definitions::answers::Refusal;
+use definitions::modulus;
 use layout::sections::Sections;
 use layout::slices;
 use layout::slices::Examined;
@@ -22,7 +23,7 @@ fn one_section(count: usize) -> Sections
 {
     Sections {
         counts: [count, 0, 0, 0, 0, 0, 0, 0, 0, 0],
-        greatest: [4294967294; 10],
+        greatest: [modulus::TOP; 10],
         len: 1,
     }
 }

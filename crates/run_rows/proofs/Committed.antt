@@ -97,7 +97,7 @@ module _ (J : List ℕ) (x : Run) (S O : List ℕ) (p : EnvironmentParameters) (
       within k l e = unfold span in omega arith
 
   -- 13: what `check_witness` needs
-  pub norms-room : (1 + 64 * (size x * p .rank) ≤ length S) × (p .rank ≤ 2 ^ 20)
+  pub norms-room : (1 + 64 * (size x * p .rank) ≤ length S) × (p .rank ≤ 2 ^ 18)
   norms-room = (vectors-room, omega (arith, run-sized (h .in-job) .within .n .1))
 
   -- what `commit_all` needs

@@ -8,6 +8,7 @@ use native.Mathlib.Omega.{arith}
 use borrow.Author.Tests.{lt-ltb, le-ltb, ltb-false}
 use lib.Dec.{ltb}
 use lib.ListN.{length, getD}
+use Rattle.definitions.specs.Zq.{topQ}
 use Rattle.definitions.specs.Answer.{Answer, fine, refused, _then_}
 use Rattle.definitions.specs.Leaf.{limited}
 use Rattle.protocol.specs.Checks.{require, first}
@@ -49,7 +50,7 @@ abbrev pub least : ℕ → List ℕ
 least l = 30 ∷ 1 ∷ 1 ∷ 1 ∷ 1 ∷ 1 ∷ 0 ∷ l ∷ 16 ∷ 2 ∷ 1 ∷ 1 ∷ 1 ∷ []
 
 abbrev pub greatest : List ℕ
-greatest = 30 ∷ 64 ∷ 16 ∷ 16 ∷ 16 ∷ 16 ∷ 64 ∷ 64 ∷ 32 ∷ 4294967294 ∷ 32 ∷ 32 ∷ 32 ∷ []
+greatest = 30 ∷ 64 ∷ 16 ∷ 16 ∷ 16 ∷ 16 ∷ 64 ∷ 64 ∷ 32 ∷ topQ ∷ 32 ∷ 32 ∷ 32 ∷ []
 
 -- l from its least value on is l from 0 on, and not both 0
 l-limited : (K l : ℕ) → limited (least-l K) 64 7 l ≡ limited 0 64 7 l then require (decLe 1 (K + l)) (refused 4 7)
@@ -74,7 +75,7 @@ unfolding first limits
 limits-first J =
     let P = parameters J in
     let head = limited 1 64 1 (P .n) then limited 1 16 2 (P .r) then limited 1 16 3 (P .κ) then limited 1 16 4 (P .κ₁) then limited 1 16 5 (P .κ₂) then limited 0 64 6 (P .K) in
-    ap (λ a. a then limited 16 32 8 (P .log-q) then limited 2 4294967294 9 (P .b) then limited 1 32 10 (P .t₁) then limited 1 32 11 (P .t₂) then limited 1 32 12 (P .L))
+    ap (λ a. a then limited 16 32 8 (P .log-q) then limited 2 topQ 9 (P .b) then limited 1 32 10 (P .t₁) then limited 1 32 11 (P .t₂) then limited 1 32 12 (P .L))
     (ap (λ a. head then a) (l-limited (P .K) (P .l)) ∙ sym (then-assoc head (limited 0 64 7 (P .l)) (some-constraint P)))
 
 -- the same of a least l that is worked out
@@ -96,7 +97,7 @@ module _ (J : List ℕ) (e : limits (parameters J) ≡ fine) where
     K = limited-fine 0 64 6 (getD J 6 0) (one 5 (omega arith));
     l = (omega arith, limited-fine (least-l (getD J 6 0)) 64 7 (getD J 7 0) (one 6 (omega arith)) .1);
     log-q = limited-fine 16 32 8 (getD J 8 0) (one 7 (omega arith));
-    b = limited-fine 2 4294967294 9 (getD J 9 0) (one 8 (omega arith));
+    b = limited-fine 2 topQ 9 (getD J 9 0) (one 8 (omega arith));
     t₁ = limited-fine 1 32 10 (getD J 10 0) (one 9 (omega arith));
     t₂ = limited-fine 1 32 11 (getD J 11 0) (one 10 (omega arith));
     L = limited-fine 1 32 12 (getD J 12 0) (one 11 (omega arith));

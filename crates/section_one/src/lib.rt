@@ -1,5 +1,6 @@
 // Section one of the job: its layout (3), its parameters' limits (4), and an L below its least (5).
 use definitions::answers::Refusal;
+use definitions::modulus;
 use layout::counts;
 use layout::counts::Counted;
 use layout::counts::Found;
@@ -79,7 +80,7 @@ fn within_limits(job: &[u32]) -> SectionOne
     ensures { λ r. ⌜ (ofSectionOne r ≡ limits (parameters (now (job .entry))) then enough-aggregations (parameters (now (job .entry)))) × Reads (now (job .entry)) r ⌝ }
 {
     let least = [30, 1, 1, 1, 1, 1, 0, least_l(job), 16, 2, 1, 1, 1];
-    let greatest = [30, 64, 16, 16, 16, 16, 64, 64, 32, 4294967294, 32, 32, 32];
+    let greatest = [30, 64, 16, 16, 16, 16, 64, 64, 32, modulus::TOP, 32, 32, 32];
     match first_out_of_limits(job, least, greatest) {
         Found::At(place) => SectionOne::Refused(Refusal::ParameterOutOfLimits(place)),
         Found::Nowhere => enough_aggregations(job),

@@ -1,4 +1,5 @@
 // The sections of the job after section one, of the randomness, of the witness and of the transcript.
+use definitions::modulus;
 use layout::sections::Sections;
 use relation::env_params::EnvironmentParameters;
 ghost use mathlib.Core.Path.{_≡_};
@@ -46,7 +47,7 @@ pub fn job_sections(p: EnvironmentParameters) -> Sections
             64 * (kappa_1 * (t * t_2)),
             64 * (kappa_2 * (t * t_1)),
         ],
-        greatest: [4294967294; 10],
+        greatest: [modulus::TOP; 10],
         len: 10,
     }
 }
@@ -62,7 +63,7 @@ pub fn randomness_sections(p: EnvironmentParameters, handed: usize) -> Sections
     let l = p.constraint_l;
     let k = p.constraint_k;
     let rows = p.const_agg_length;
-    let q = 4294967294;
+    let q = modulus::TOP;
     Sections {
         counts: [
             16384 * n * r,
@@ -88,7 +89,7 @@ pub fn witness_sections(p: EnvironmentParameters) -> Sections
 {
     Sections {
         counts: [64 * (p.multiplicity * p.rank), 0, 0, 0, 0, 0, 0, 0, 0, 0],
-        greatest: [4294967294; 10],
+        greatest: [modulus::TOP; 10],
         len: 1,
     }
 }
@@ -118,7 +119,7 @@ pub fn transcript_sections(p: EnvironmentParameters) -> Sections
             0,
             0,
         ],
-        greatest: [4294967294; 10],
+        greatest: [modulus::TOP; 10],
         len: 8,
     }
 }

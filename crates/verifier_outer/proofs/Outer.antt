@@ -42,7 +42,7 @@ abbrev pub job-at : Parameters → ℕ → ℕ
 job-at P m = 31 + start (job-sections P) m
 
 -- cells that lie within a slice
-cells-at : (X : List ℕ) (at cells count parts : ℕ) → cells ≡ count → at + 64 * count ≤ length X → cells ≤ 2 ^ 20 → parts ≤ 32 → Cells X (digits at cells parts)
+cells-at : (X : List ℕ) (at cells count parts : ℕ) → cells ≡ count → at + 64 * count ≤ length X → cells ≤ 2 ^ 18 → parts ≤ 32 → Cells X (digits at cells parts)
 cells-at X at cells count parts e h few less = record { within = subst (λ n. at + 64 * n ≤ length X) (sym e) h; few-cells = few; few-parts = less }
 
 -- small counts fit a word of 64 bits

@@ -87,7 +87,7 @@ module _ (J X : List ℕ) (p : EnvironmentParameters) (q : Regions) (S : List �
   pub row-requires : (a-at z-at k : ℕ) → length J < 2 ^ 61 → length X < 2 ^ 61 → a-at ≡ 31 + start (job-sections (parametersOf p)) 6 → z-at ≡ transcript-at (parametersOf p) 4 → k < p .kappa
       → Run J (a-at + 64 * (k * p .rank)) 64 (p .rank) × Run X z-at 64 (p .rank)
   row-requires a-at z-at k j x e f h =
-      let few : p .rank ≤ 2 ^ 20 = omega (arith, reckoned s .within .n .1) in
+      let few : p .rank ≤ 2 ^ 18 = omega (arith, reckoned s .within .n .1) in
       (row-run J (a-at + 64 * (k * p .rank)) (p .rank) (row-end a-at k e h) few j, z-run X p (received s) z-at f x)
 
   -- what Σ t_ik·c_i requires

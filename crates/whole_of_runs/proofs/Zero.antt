@@ -9,6 +9,7 @@ use lib.Dec.{ltb, eqb}
 use lib.ListN.{length, getD}
 use Rattle.lists.specs.Part.{part}
 use Rattle.lists.specs.Table.{table}
+use Rattle.definitions.specs.Zq.{topQ}
 use Rattle.definitions.specs.Answer.{Answer, fine, accepted, refused, failed, number, below, _then_}
 use Rattle.definitions.specs.Leaf.{limited}
 use Rattle.protocol.specs.Checks.{require, first}
@@ -94,7 +95,7 @@ job-zero J =
     and limited-zero 0 64 7 (P .l)
     and test (decLe 1 (P .K + P .l)) 4 7 (omega arith)
     and limited-zero 16 32 8 (P .log-q)
-    and limited-zero 2 4294967294 9 (P .b)
+    and limited-zero 2 topQ 9 (P .b)
     and limited-zero 1 32 10 (P .t₁)
     and limited-zero 1 32 11 (P .t₂)
     and limited-zero 1 32 12 (P .L))

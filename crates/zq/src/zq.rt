@@ -1,9 +1,12 @@
-// An element of Z/(2^32 − 1). Document 01: "An element of Zq is never taken for a plain count."
+// An element of Z/Q. Document 01: "An element of Zq is never taken for a plain count."
+use definitions::modulus;
+use definitions::modulus::LACK;
 ghost use mathlib.Core.Path.{_≡_};
 ghost use mathlib.Core.Bool.{cond};
 ghost use Prim.Native.Nat.{_+_, _-_, _*_, _%_, _<_};
 ghost use lib.Dec.{eqb};
 ghost use Rattle.definitions.specs.Zq.{Q, Canonical, zadd, zsub, zneg, zmul, isLargerThanHalf, centre, size};
+ghost use Rattle.zq.specs.Words.{lack, lowered};
 
 // A word; canonical below Q. No operation asks for a canonical word, and each gives one.
 pub struct Zq(pub u32);
@@ -11,15 +14,40 @@ pub struct Zq(pub u32);
 // 2^32.
 const RADIX: u64 = 4294967296;
 
-// A word modulo Q: Q itself, the largest word, is 0.
+// Q as an i64.
+const SIGNED_Q: i64 = Zq::Q as i64;
+
+// A word modulo Q.
 fn canonical(word: u32) -> Zq
     ensures { λ r. ⌜ r .0 ≡ word % Q ⌝ }
 {
-    if word == Zq::Q { Zq(0) } else { Zq(word) }
+    if word < Zq::Q {
+        Zq(word)
+    } else {
+        Zq(word - Zq::Q)
+    }
+}
+
+// The negative of a word, not reduced: Q less it, or twice Q less it where it is above Q.
+pub fn lack(word: u32) -> u32
+    ensures { λ r. ⌜ r ≡ lack word ⌝ }
+{
+    if word <= Zq::Q {
+        Zq::Q - word
+    } else {
+        Zq::Q - (word - Zq::Q)
+    }
+}
+
+// A word less Q where it is above Q.
+pub fn lowered(word: u32) -> u32
+    ensures { λ r. ⌜ r ≡ lowered word ⌝ }
+{
+    if word <= Zq::Q { word } else { word - Zq::Q }
 }
 
 impl Zq {
-    pub const Q: u32 = 4294967295;
+    pub const Q: u32 = modulus::Q;
 
     pub const ZERO: Zq = Zq(0);
 
@@ -27,15 +55,16 @@ impl Zq {
 
     pub const TWO: Zq = Zq(2);
 
-    pub const NEG_ONE: Zq = Zq(4294967294);
+    pub const NEG_ONE: Zq = Zq(modulus::TOP);
 
     pub fn add(self, rhs: Zq) -> Zq
         ensures { λ r. ⌜ r .0 ≡ zadd (self .0) (rhs .0) ⌝ }
     {
-        let sum = std::num::wrapping_add_u32(self.0, rhs.0);
-        // the carry counts 1, since 2^32 is 1 modulo Q
-        if sum < rhs.0 {
-            canonical(sum + 1)
+        let term = lowered(rhs.0);
+        let sum = std::num::wrapping_add_u32(self.0, term);
+        // a carry counts what Q lacks of 2^32
+        if sum < term {
+            canonical(sum + LACK)
         } else {
             canonical(sum)
         }
@@ -44,20 +73,24 @@ impl Zq {
     pub fn sub(self, rhs: Zq) -> Zq
         ensures { λ r. ⌜ r .0 ≡ zsub (self .0) (rhs .0) ⌝ }
     {
-        self.add(Zq(Zq::Q - rhs.0))
+        self.add(Zq(lack(rhs.0)))
     }
 
     pub fn neg(self) -> Zq
         ensures { λ r. ⌜ r .0 ≡ zneg (self .0) ⌝ }
     {
-        canonical(Zq::Q - self.0)
+        canonical(lack(self.0))
     }
 
     pub fn mul(self, rhs: Zq) -> Zq
         ensures { λ r. ⌜ r .0 ≡ zmul (self .0) (rhs .0) ⌝ }
     {
         let product = self.0 as u64 * rhs.0 as u64;
-        Zq((product % RADIX) as u32).add(Zq((product / RADIX) as u32))
+        if LACK == 1 {
+            Zq((product % RADIX) as u32).add(Zq((product / RADIX) as u32))
+        } else {
+            Zq((product % (Zq::Q as u64)) as u32)
+        }
     }
 
     pub fn is_zero(self) -> bool
@@ -69,7 +102,7 @@ impl Zq {
     pub fn is_larger_than_half(self) -> bool
         ensures { λ r. ⌜ r ≡ isLargerThanHalf (self .0) ⌝ }
     {
-        2147483647 < self.0
+        modulus::HALF < self.0
     }
 
     // The centre, as an i64.
@@ -78,7 +111,7 @@ impl Zq {
     {
         let value = self.0 as i64;
         if self.is_larger_than_half() {
-            value - 4294967295
+            value - SIGNED_Q
         } else {
             value
         }
@@ -89,7 +122,7 @@ impl Zq {
         ensures { λ r. ⌜ r ≡ size (self .0) ⌝ }
     {
         if self.is_larger_than_half() {
-            Zq::Q - self.0
+            if self.0 < Zq::Q { Zq::Q - self.0 } else { 0 }
         } else {
             self.0
         }

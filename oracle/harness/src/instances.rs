@@ -3,11 +3,14 @@
 use crate::random::Random;
 use model::checks::norm_sum;
 use model::formulas::{digits_norms, garbage_g, left_side};
-use model::leaves::{add, canonical, norm, Element};
+use model::leaves::{add, canonical, norm, Element, HALF, Q};
 use model::words::*;
 
 /// A bound that no figure reaches.
 pub const LOOSE: u128 = (1 << 96) - 1;
+
+/// The least and the greatest word that is no number modulo Q.
+pub const ABOVE: &[u32] = if Q == u32::MAX { &[Q] } else { &[Q, u32::MAX] };
 
 /// How large the witness's coefficients are.
 #[derive(Clone, Copy, Debug)]
@@ -31,7 +34,7 @@ pub fn coefficient(random: &mut Random, size: Size) -> u32 {
             canonical(random.below(2 * bound as usize + 1) as i64 - bound)
         }
         Size::Any => random.number(),
-        Size::Ends => random.pick(&[0, 1, 2147483646, 2147483647, 2147483648, 4294967294]),
+        Size::Ends => random.pick(&[0, 1, HALF - 1, HALF, HALF + 1, Q - 1]),
         Size::Sixteens => canonical(16 * (random.below(201) as i64 - 100)),
     }
 }
@@ -128,7 +131,7 @@ impl Instance {
 
     /// Adds errors to the right sides.
     pub fn put_off(&mut self, random: &mut Random, off: Off) {
-        let mut error = || 1 + random.next_u64() as u32 % 4294967294;
+        let mut error = || 1 + random.next_u64() as u32 % (Q - 1);
         let (constant, ring) = (self.parameters.constant, self.parameters.ring);
         let mut constant_off = vec![];
         let mut ring_off = vec![];
@@ -188,7 +191,7 @@ impl Instance {
 
 /// Bases from the least to the greatest, and about the ends of the centred range.
 pub const BASES: [u32; 16] = [
-    2, 3, 4, 5, 7, 10, 16, 255, 256, 65535, 65536, 65537, 2147483647, 2147483648, 4294967293, 4294967294,
+    2, 3, 4, 5, 7, 10, 16, 255, 256, 65535, 65536, 65537, HALF, HALF + 1, Q - 2, Q - 1,
 ];
 
 pub const PARTS: [usize; 10] = [1, 2, 3, 4, 5, 8, 16, 21, 31, 32];

@@ -6,7 +6,7 @@ use crate::record::Recorder;
 use crate::rust;
 use crate::tally::Tally;
 use model::calls::{self, Leaf, LeafAnswer};
-use model::leaves::{left, DEGREE, Q};
+use model::leaves::{left, DEGREE, HALF, Q};
 use model::words::{SHUFFLES, SIGNS};
 
 /// Heading of the tally.
@@ -116,8 +116,8 @@ impl Leaves<'_> {
 
     fn numbers(&mut self, random: &mut Random, count: usize) {
         for leaf in [Leaf::ZqAdd, Leaf::ZqSub, Leaf::ZqMul] {
-            for a in WORDS {
-                for b in WORDS {
+            for a in words() {
+                for b in words() {
                     self.take(leaf, &[a, b]);
                 }
             }
@@ -126,7 +126,7 @@ impl Leaves<'_> {
             }
         }
         for leaf in [Leaf::ZqNeg, Leaf::ZqCentre, Leaf::ProjectionEntry] {
-            for a in WORDS {
+            for a in words() {
                 self.take(leaf, &[a]);
             }
             for _ in 0..count {
@@ -141,13 +141,13 @@ impl Leaves<'_> {
         let mut taken: usize = 0;
         for &base in &bases {
             for part in parts {
-                for a in WORDS {
+                for a in words() {
                     taken += 1;
                     if taken.is_multiple_of(step) {
                         self.take(Leaf::ZqDigits, &[base, part, a]);
                     }
                 }
-                if (taken / WORDS.len()).is_multiple_of(step) {
+                if (taken / words().len()).is_multiple_of(step) {
                     let element = boundary_element(random);
                     self.take(Leaf::RqDigits, &[&[base, part], &element[..]].concat());
                     self.take(Leaf::RqLeft, &[&[base, part], &element[..]].concat());
@@ -158,7 +158,7 @@ impl Leaves<'_> {
             let base = match random.below(3) {
                 0 => random.pick(&BASES),
                 1 => 2 + random.below(100) as u32,
-                _ => (2 + random.next_u64() % 4294967293) as u32,
+                _ => (2 + random.next_u64() % u64::from(Q - 2)) as u32,
             };
             let part = 1 + random.below(32) as u32;
             self.take(Leaf::ZqDigits, &[base, part, random.number()]);
@@ -184,7 +184,7 @@ impl Leaves<'_> {
             for leaf in one {
                 self.take(leaf, a);
             }
-            for c in WORDS.iter().skip(random.below(step)).step_by(step) {
+            for c in words().iter().skip(random.below(step)).step_by(step) {
                 self.take(Leaf::RqScale, &[&a[..], &[*c]].concat());
             }
             for b in special.iter().skip(random.below(step)).step_by(step) {
@@ -229,7 +229,7 @@ impl Leaves<'_> {
         let signs = |random: &mut Random| -> Vec<u32> { (0..SIGNS).map(|_| random.word() & 1).collect() };
         let shuffles = |random: &mut Random| -> Vec<u32> { (0..SHUFFLES).map(|_| random.word()).collect() };
         let still: Vec<u32> = (1..=SHUFFLES as u32).rev().collect();
-        let fixed = [vec![0; SHUFFLES], still, vec![Q; SHUFFLES], vec![1; SHUFFLES]];
+        let fixed = [vec![0; SHUFFLES], still, vec![u32::MAX; SHUFFLES], vec![1; SHUFFLES]];
         for signs in [vec![0; SIGNS], vec![1; SIGNS], signs(random)] {
             for shuffles in &fixed {
                 self.take(Leaf::Challenge, &[&signs[..], shuffles].concat());
@@ -261,18 +261,25 @@ fn row(leaf: Leaf, number: u32) -> String {
 /// Words about the ends of each range that document 01 names.
 const WORDS: [u32; 30] = [
     0, 1, 2, 3, 4, 5, 6, 7, 10, 255, 256, 65535, 65536, 65537, 1073741823, 1073741824, 1073741825, 2147483646,
-    2147483647, 2147483648, 2147483649, 3221225471, 4294901760, 4294967285, 4294967288, 4294967290, 4294967292,
-    4294967293, 4294967294, Q,
+    2147483647, 2147483648, 2147483649, 3221225471, 4294901760, Q - 10, Q - 7, Q - 5, Q - 3, Q - 2, Q - 1, Q,
 ];
+
+/// Those, with the ends of the centred range and of all words where they are others: over 2^32 − 1 none is.
+fn words() -> Vec<u32> {
+    let ends = [HALF - 1, HALF, HALF + 1, HALF + 2, u32::MAX - Q, u32::MAX - Q + 1, Q + (u32::MAX - Q) / 2, u32::MAX];
+    let further = ends.into_iter().filter(|end| !WORDS.contains(end));
+    WORDS.into_iter().chain(further).collect()
+}
 
 /// Places of a word in an element.
 const PLACES: [usize; 4] = [0, 1, 31, 63];
 
-/// Canonical words of `WORDS` and random ones.
+/// Canonical words of `words` and random ones.
 fn boundary_element(random: &mut Random) -> Vec<u32> {
+    let words = words();
     (0..DEGREE)
-        .map(|_| match random.pick(&WORDS) {
-            Q => random.number(),
+        .map(|_| match random.pick(&words) {
+            Q.. => random.number(),
             word => word,
         })
         .collect()
@@ -288,12 +295,12 @@ fn any_element(random: &mut Random) -> Vec<u32> {
 
 /// Zero, constants at the ends of the range, powers of X with either sign, and one random element.
 fn special_elements(random: &mut Random) -> Vec<Vec<u32>> {
-    let mut elements: Vec<Vec<u32>> = [0, 1, 2147483647, 2147483648, 4294967294]
+    let mut elements: Vec<Vec<u32>> = [0, 1, HALF, HALF + 1, Q - 1]
         .iter()
         .map(|&word| vec![word; DEGREE])
         .collect();
     for k in [0, 1, 31, 32, 63] {
-        for word in [1, 65536, 4294967294] {
+        for word in [1, 65536, Q - 1] {
             let mut power = vec![0; DEGREE];
             power[k] = word;
             elements.push(power);

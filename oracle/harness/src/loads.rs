@@ -88,7 +88,7 @@ pub fn print_sums() {
         let words = twelve(&mut random, i as usize);
         let words = [words[0].min(2), words[1].min(2)].iter().chain(&words[2..]).copied().collect::<Vec<_>>();
         let words: [u32; 12] = words.try_into().expect("twelve words");
-        let seed = [0, 1, 4294967295, random.word()][i as usize % 4];
+        let seed = [0, 1, u32::MAX, random.word()][i as usize % 4];
         let lengths = needs(words).expect("parameters within their limits");
         let Ok(made) = load(words, seed, lengths) else {
             panic!("the buffers are long enough");
@@ -108,7 +108,7 @@ pub fn all(context: &mut Context, random: &mut Random, count: usize) {
     for i in 0..count {
         let words = twelve(random, i);
         let word = random.word();
-        let seed = random.pick(&[0, 1, 4294967295, word]);
+        let seed = random.pick(&[0, 1, u32::MAX, word]);
         let exact = needs(words).expect("parameters within their limits");
         lengths_of(context, words);
         one(context, words, seed, exact);
@@ -119,7 +119,7 @@ pub fn all(context: &mut Context, random: &mut Random, count: usize) {
         one(context, words, seed, exact.map(|n| n - 1));
         let mut wrong = words;
         let k = i % 12;
-        wrong[k] = random.pick(&[LIMITS[k].0.wrapping_sub(1), LIMITS[k].1.wrapping_add(1), 4294967295]);
+        wrong[k] = random.pick(&[LIMITS[k].0.wrapping_sub(1), LIMITS[k].1.wrapping_add(1), u32::MAX]);
         lengths_of(context, wrong);
         one(context, wrong, seed, exact);
         wrong = words;

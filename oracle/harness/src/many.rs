@@ -4,7 +4,7 @@ use crate::instances::{apart, one_kind, small, Instance, Size, LOOSE};
 use crate::random::Random;
 use crate::tally::Tally;
 use crate::whole::modelled;
-use model::leaves::{add, Q};
+use model::leaves::{add, HALF, Q};
 use model::many::{part, verify_many, Many, UNUSED};
 use model::words::{join, Parameters, Transcript, PARAMETERS};
 use model::{Answer, Call};
@@ -234,11 +234,11 @@ fn damage(random: &mut Random, desk: &Desk, given: &mut Given, m: usize, number:
             place
         }
         21 => {
-            transcript[written[1] + 1..written[2]].fill(2147483647);
+            transcript[written[1] + 1..written[2]].fill(HALF);
             0
         }
         23 => {
-            transcript[written[4] + 1..written[5]].fill(2147483647);
+            transcript[written[4] + 1..written[5]].fill(HALF);
             0
         }
         // the constant coefficient of any row of b'', then any other one
@@ -372,7 +372,7 @@ fn whole_call(tally: &mut Tally, random: &mut Random, desk: &Desk) {
         given
     };
     let mut faults = vec![];
-    for count in [0, 9, 10, 4294967295] {
+    for count in [0, 9, 10, u32::MAX] {
         faults.push((changed(&|g| g.count = count), (35, 0)));
     }
     faults.extend([

@@ -25,7 +25,7 @@ pub const ORDERED: &str = "model: which of two entries of a list comes first, fr
 const SPARE: usize = 7;
 const MARK: u32 = 0xc0de_c0de;
 
-/// Divisors of Q: its primes and products of them.
+/// Divisors of 2^32 − 1: its primes and products of them.
 const DIVISORS: [u32; 10] = [3, 5, 17, 257, 65537, 15, 51, 255, 65535, 1431655765];
 
 /// What is handed to the call.
@@ -165,7 +165,7 @@ fn planted(tally: &mut Tally, purpose: &str, given: &Given, aim: (u32, usize)) {
 #[derive(Clone, Copy, Debug)]
 enum Weights {
     Drawn,
-    /// Multiples of a divisor of Q.
+    /// Multiples of one of the divisors.
     Multiples,
     /// The first index's column at every index, as it is or negated.
     Alike,
@@ -173,7 +173,7 @@ enum Weights {
     AlikeMultiples,
     /// Zero in some rows.
     SomeZero,
-    /// Each index a divisor of Q times the first.
+    /// Each index one of the divisors times the first.
     Multiplied,
     /// Each index the first one's column times 1, 3 or 5, as it is or negated: several sizes, each with both signs.
     Tied,

@@ -1,5 +1,7 @@
 //! SplitMix64, so that a seed names its cases.
 
+use model::leaves::Q;
+
 pub struct Random(u64);
 
 impl Random {
@@ -25,7 +27,7 @@ impl Random {
 
     /// A number below Q.
     pub fn number(&mut self) -> u32 {
-        (self.next_u64() % 4294967295) as u32
+        (self.next_u64() % u64::from(Q)) as u32
     }
 
     pub fn pick<T: Copy>(&mut self, from: &[T]) -> T {

@@ -37,13 +37,13 @@ const WIDTHS: [Width; 6] = [
     Width::AnyOrder,
 ];
 
-/// A number from 0 to 2147483647, small ones and the ends more often.
+/// A number from 0 to the largest, small ones and the ends more often.
 fn size(random: &mut Random) -> i64 {
     match random.below(4) {
         0 => random.below(5) as i64,
         1 => random.pick(&[0, 1, LARGEST - 1, LARGEST]),
         2 => random.below(1 << 16) as i64,
-        _ => random.below(1 << 31) as i64,
+        _ => random.below(LARGEST as usize + 1) as i64,
     }
 }
 

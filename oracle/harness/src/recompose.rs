@@ -3,7 +3,7 @@
 
 use crate::random::Random;
 use crate::tally::Tally;
-use model::leaves::{digits, left, Q};
+use model::leaves::{digits, left, HALF, Q};
 use model::recompose::{base_operand, operands, parts_needed, recompose};
 use model::Answer;
 
@@ -17,13 +17,13 @@ const BACK: &str = "model: a value is back with nothing left";
 
 /// The values about the ends of the sizes.
 const EDGES: [u32; 10] = [
-    0, 1, 2, 2147483646, 2147483647, 2147483648, 2147483649, 4294967292, 4294967293, 4294967294,
+    0, 1, 2, HALF - 1, HALF, HALF + 1, HALF + 2, Q - 3, Q - 2, Q - 1,
 ];
 
 /// Every base of 2 to 300, the powers of two with their neighbours, the largest ones, and those that are refused.
 fn bases() -> Vec<u32> {
-    let powers = (0..33).flat_map(|k| [-1, 0, 1].map(|d| ((1i64 << k) + d).clamp(0, i64::from(Q)) as u32));
-    (0..=300).chain(powers).chain(4294967280..=Q).collect()
+    let powers = (0..33).flat_map(|k| [-1, 0, 1].map(|d| ((1i64 << k) + d).clamp(0, i64::from(u32::MAX)) as u32));
+    (0..=300).chain(powers).chain(Q - 15..=u32::MAX).collect()
 }
 
 struct Cases<'a>(&'a mut Tally);
@@ -83,7 +83,7 @@ impl Cases<'_> {
 
     /// Each refusal alone and before a later one.
     fn refused(&mut self, random: &mut Random) {
-        for base in [0, 1, 2, 3, 4294967294, Q] {
+        for base in [0, 1, 2, 3, Q - 1, Q] {
             for length in [0, 1, 2, 31, 32, 33, 64, 1_000_000] {
                 self.digits(base, &random.numbers(length));
                 self.digits(base, &vec![Q; length]);

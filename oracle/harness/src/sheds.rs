@@ -4,7 +4,7 @@ use crate::instances::{apart, one_kind, small, Instance, Size};
 use crate::random::Random;
 use crate::tally::Tally;
 use crate::whole::modelled;
-use model::leaves::Q;
+use model::leaves::{HALF, Q};
 use model::sheds::{add_projections, shed_projection, shed_rows, Made, Run};
 use model::words::{join, split, Parameters, PARAMETERS};
 use model::{Answer, Call};
@@ -413,7 +413,7 @@ fn unfit_sums(tally: &mut Tally, random: &mut Random) {
         planted(&p, &other, length, (2, 257));
     }
     planted(&p, &p, 257, (0, 0));
-    let ends = join(&[[Q - 1, 0, 1, 2147483648].repeat(64)]);
+    let ends = join(&[[Q - 1, 0, 1, HALF + 1].repeat(64)]);
     planted(&ends, &ends, 260, (0, 0));
 }
 

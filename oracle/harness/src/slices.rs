@@ -18,6 +18,7 @@ use labrador::ring::zq::Zq;
 use labrador::transcript::sponges::shake::{Playback, Tape};
 use labrador::transcript::LabradorTranscript;
 use library::slices::{slice_call, SliceCall};
+use model::leaves::Q;
 use model::words::Parameters;
 
 /// Heading of the tally.
@@ -358,7 +359,7 @@ pub fn all(tally: &mut Tally, random: &mut Random, count: usize) {
         let base = match random.below(3) {
             0 => 2 + random.below(15) as u32,
             1 => 1 << (1 + random.below(31)),
-            _ => (2 + random.next_u64() % 4294967293) as u32,
+            _ => (2 + random.next_u64() % u64::from(Q - 2)) as u32,
         };
         let (kappa1, kappa) = (small(random), small(random));
         let (t1, t2) = (1 + random.below(8), 1 + random.below(8));

@@ -1,10 +1,9 @@
 //! Inputs that are refused before the work: each fault alone and in pairs.
 
 use crate::cases::{Case, Context, Expected};
-use crate::instances::Instance;
+use crate::instances::{Instance, ABOVE};
 use crate::random::Random;
 use crate::whole::modelled;
-use model::leaves::Q;
 use model::refusals::{output_need, LIMITS};
 use model::words::{join, Parameters, PARAMETERS};
 use model::{Answer, Call};
@@ -115,18 +114,18 @@ fn layout_faults(slice: Slice, stage: usize, number: u32, counts: &[usize], from
 }
 
 /// The first and the last word of a section out of range.
-fn word_faults(slice: Slice, stage: usize, number: u32, start: usize, count: usize, word: u32) -> Vec<Fault> {
+fn word_faults(slice: Slice, stage: usize, number: u32, start: usize, count: usize, words: &[u32]) -> Vec<Fault> {
     let ends = if count > 0 {
         vec![start + 1, start + count]
     } else {
         vec![]
     };
-    let fault = |at: usize| Fault {
+    let fault = |at: usize, word: u32| Fault {
         stage,
         aim: (number, at),
         kind: Kind::Word(slice, at, word),
     };
-    ends.into_iter().map(fault).collect()
+    words.iter().flat_map(|&word| ends.iter().map(move |&at| fault(at, word))).collect()
 }
 
 /// The stage of a fault that is made alone.
@@ -138,7 +137,7 @@ fn faults(p: &Parameters, call: Call) -> Vec<Fault> {
     // 0: section one's layout; 1: a parameter outside its limits; 2: L below the least
     faults.extend(layout_faults(Slice::Job, 0, 3, &[PARAMETERS], 0).into_iter().skip(1));
     for (k, (least, greatest)) in LIMITS.iter().enumerate() {
-        for word in [least.wrapping_sub(1), greatest + 1, 0, Q] {
+        for word in [least.wrapping_sub(1), greatest + 1, 0, u32::MAX] {
             if (least..=greatest).contains(&&word) {
                 // 0 constraints of one kind: not refused where there are some of the other
                 continue;
@@ -168,19 +167,17 @@ fn faults(p: &Parameters, call: Call) -> Vec<Fault> {
     faults.extend(layout_faults(Slice::Job, 3, 3, &counts, 1));
     let (at, _) = starts(&counts);
     for k in 1..counts.len() {
-        faults.extend(word_faults(Slice::Job, 4, 6, at[k], counts[k], Q));
+        faults.extend(word_faults(Slice::Job, 4, 6, at[k], counts[k], ABOVE));
     }
     // 5: the randomness's layout; 6: its words
     let counts = &p.randomness_counts()[..call.randomness_sections()];
     faults.extend(layout_faults(Slice::Randomness, 5, 7, counts, 0));
     let (at, _) = starts(counts);
     for k in 0..counts.len().min(5) {
-        faults.extend(word_faults(Slice::Randomness, 6, 8, at[k], counts[k], Q));
+        faults.extend(word_faults(Slice::Randomness, 6, 8, at[k], counts[k], ABOVE));
     }
-    for word in [2, Q] {
-        if counts.len() > 5 {
-            faults.extend(word_faults(Slice::Randomness, 6, 8, at[5], counts[5], word));
-        }
+    if counts.len() > 5 {
+        faults.extend(word_faults(Slice::Randomness, 6, 8, at[5], counts[5], &[2, u32::MAX]));
     }
     // 7: the third slice's layout; 8: its words
     let (number, counts) = match call {
@@ -190,7 +187,7 @@ fn faults(p: &Parameters, call: Call) -> Vec<Fault> {
     faults.extend(layout_faults(Slice::Third, 7, number, &counts, 0));
     let (at, _) = starts(&counts);
     for k in 0..counts.len() {
-        faults.extend(word_faults(Slice::Third, 8, number + 1, at[k], counts[k], Q));
+        faults.extend(word_faults(Slice::Third, 8, number + 1, at[k], counts[k], ABOVE));
     }
     // 9: scratch; 10: output
     let need = p.scratch_need();

@@ -5,7 +5,7 @@ use crate::instances::*;
 use crate::random::Random;
 use crate::unfit::unfit;
 use model::formulas::{cell_digits, digits_norms, elements_norm, outer_u1, outer_u2};
-use model::leaves::{add, Q};
+use model::leaves::{add, mul, HALF, Q};
 use model::recompose::parts_needed;
 use model::words::*;
 use model::Call;
@@ -204,7 +204,7 @@ pub fn limits(context: &mut Context, random: &mut Random) {
                 ..base
             },
         ),
-        ("b at its limit", Parameters { b: 4294967294, ..base }),
+        ("b at its limit", Parameters { b: Q - 1, ..base }),
         (
             "t1 and t2 at their least",
             Parameters {
@@ -307,11 +307,11 @@ pub fn few(context: &mut Context, random: &mut Random) {
     };
     let all = [
         (with(1, 1, 16, 2, 4, 32), Size::Any),
-        (with(1, 1, 19, 4294967294, 1, 1), Size::Ends),
+        (with(1, 1, 19, Q - 1, 1, 1), Size::Ends),
         (with(1, 1, 22, 3, 2, 3), Size::Bits(16)),
         (with(1, 1, 25, 10, 3, 2), Size::Any),
         (with(1, 1, 26, 65537, 2, 2), Size::Ends),
-        (with(1, 1, 31, 2147483648, 1, 2), Size::Zero),
+        (with(1, 1, 31, HALF + 1, 1, 2), Size::Zero),
         (with(2, 1, 32, 256, 4, 4), Size::Bits(8)),
         (with(1, 3, 32, 16, 2, 8), Size::Bits(0)),
     ];
@@ -522,18 +522,20 @@ pub fn statements(context: &mut Context, random: &mut Random, instance: &Instanc
     zero.witness.fill(0);
     context.prover("a witness of zeros for another's statement", &zero, 0);
 
-    // 65537·65535 = 0 modulo Q
-    let mut divisors = instance.clone();
-    let right_sides = [(2, 0), (5, 0)];
-    for (section, at) in right_sides {
-        divisors.job[section][at] = add(divisors.job[section][at], 65537);
+    // two numbers whose product is 0 modulo 2^32 − 1; a prime has none
+    if mul(65537, 65535) == 0 {
+        let mut divisors = instance.clone();
+        let right_sides = [(2, 0), (5, 0)];
+        for (section, at) in right_sides {
+            divisors.job[section][at] = add(divisors.job[section][at], 65537);
+        }
+        for row in 0..rows {
+            divisors.randomness[1][row * l] = 65535;
+        }
+        divisors.randomness[3][..64].fill(0);
+        divisors.randomness[3][0] = 65535;
+        context.prover("errors that are zero under their weights", &divisors, 0);
     }
-    for row in 0..rows {
-        divisors.randomness[1][row * l] = 65535;
-    }
-    divisors.randomness[3][..64].fill(0);
-    divisors.randomness[3][0] = 65535;
-    context.prover("errors that are zero under their weights", &divisors, 0);
 
     // opposite errors under equal weights
     if l > 1 && p.ring > 1 {
@@ -550,7 +552,7 @@ pub fn statements(context: &mut Context, random: &mut Random, instance: &Instanc
 
     // check 27 doubles, which loses nothing modulo an odd Q
     let mut half = instance.clone();
-    half.job[5][3] = add(half.job[5][3], 2147483648);
+    half.job[5][3] = add(half.job[5][3], HALF + 1);
     context.prover("a ring error of half of Q + 1", &half, 0);
 }
 
@@ -649,9 +651,9 @@ pub fn damaged_sections(context: &mut Context, instance: &Instance) {
     context.verifier("a transcript of zeros", instance, &join(&zeros), 0);
 }
 
-/// Words that are free: shuffle words and the bounds' words, all 4294967295.
+/// Words that are free: shuffle words and the bounds' words, all 2^32 − 1.
 pub fn free_words(context: &mut Context, instance: &Instance) {
     let mut instance = instance.clone();
-    instance.randomness[6].fill(4294967295);
-    context.prover("free words of 4294967295", &instance, 0);
+    instance.randomness[6].fill(u32::MAX);
+    context.prover("free words of 2^32 - 1", &instance, 0);
 }

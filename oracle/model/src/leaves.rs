@@ -2,7 +2,12 @@
 
 use crate::Answer;
 
-pub const Q: u32 = 4294967295;
+// Q of the tree: build.rs reads it where the engine has it
+include!(concat!(env!("OUT_DIR"), "/modulus.rs"));
+
+/// The greatest size of a centre.
+pub const HALF: u32 = Q / 2;
+
 pub const DEGREE: usize = 64;
 
 pub type Element = [u32; DEGREE];
@@ -32,7 +37,7 @@ pub fn neg(a: u32) -> u32 {
 }
 
 pub fn centre(a: u32) -> i64 {
-    if a > 2147483647 {
+    if a > HALF {
         i64::from(a) - i64::from(Q)
     } else {
         i64::from(a)
@@ -170,7 +175,7 @@ pub fn operands(words: &[u32]) -> Answer {
 
 /// The operands of a leaf call for digits.
 pub fn digit_operands(base: u32, parts: u32, words: &[u32]) -> Answer {
-    if !(2..=4294967294).contains(&base) {
+    if !(2..Q).contains(&base) {
         Answer::refused(4, 0)
     } else if !(1..=32).contains(&parts) {
         Answer::refused(4, 1)

@@ -15,9 +15,9 @@ impl State {
         self.0
     }
 
-    /// "a word equal to Q is written as 0 while the state keeps it"
+    /// "a word equal to Q is written as 0 while the state keeps it"; so is one above Q
     fn words(&mut self, count: usize) -> Vec<u32> {
-        (0..count).map(|_| Some(self.next()).filter(|&w| w != Q).unwrap_or(0)).collect()
+        (0..count).map(|_| Some(self.next()).filter(|&w| w < Q).unwrap_or(0)).collect()
     }
 
     /// "sign words take the state's top bit"
@@ -39,7 +39,7 @@ pub struct Load {
 
 /// The parameters of twelve words; "The six bounds are the largest three-word number."
 fn parameters(twelve: [u32; 12]) -> Result<Parameters, Answer> {
-    refusals::parameters(&[&twelve[..], &[4294967295; 18]].concat())
+    refusals::parameters(&[&twelve[..], &[u32::MAX; 18]].concat())
 }
 
 fn need(counts: &[usize]) -> usize {

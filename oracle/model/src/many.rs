@@ -5,7 +5,7 @@ use crate::refusals::{job, Handed};
 use crate::{whole, Answer, Call};
 
 /// The number of a verdict past the number of transcripts.
-pub const UNUSED: u32 = 4294967295;
+pub const UNUSED: u32 = u32::MAX;
 
 /// What the call answers: eight verdicts where the number is 0, else the refusal of the whole call with zeros. Scratch is zero to
 /// the length needed where eight verdicts are given, and is not touched by a refusal.

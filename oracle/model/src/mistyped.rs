@@ -7,9 +7,6 @@ use crate::refusals::{fit, Handed};
 use crate::words::{Job, Randomness, Transcript};
 use crate::{Answer, Call};
 
-/// The primes of Q, each once.
-pub const PRIMES: [u32; 5] = [3, 5, 17, 257, 65537];
-
 /// An entry of the list: an index and the number to be added there, a word below Q.
 #[derive(Clone, Copy, Debug, PartialEq, Eq)]
 pub struct Entry {
@@ -34,34 +31,36 @@ pub struct Mistyped {
     pub list: Option<Vec<u32>>,
 }
 
-/// The numbers x with weight·x = error in every row modulo a prime: none, one remainder, or all (None).
-fn remainder(rows: &[(u32, u32)], prime: u32) -> Result<Option<u32>, ()> {
-    let fits = |x: &u32| {
-        let product = |weight: u32| u64::from(weight % prime) * u64::from(*x) % u64::from(prime);
-        rows.iter()
-            .all(|&(weight, error)| product(weight) == u64::from(error % prime))
-    };
-    let found: Vec<u32> = (0..prime).filter(fits).collect();
-    match found[..] {
-        [] => Err(()),
-        [x] => Ok(Some(x)),
-        _ => Ok(None),
+/// gcd(a, m) = g, and s below m with a·s = g modulo m.
+fn gcd(a: i128, m: i128) -> (i128, i128) {
+    let (mut g, mut next) = (m, a % m);
+    let (mut s, mut of_next) = (0, 1);
+    while next != 0 {
+        let times = g / next;
+        (g, next) = (next, g - times * next);
+        (s, of_next) = (of_next, s - times * of_next);
     }
+    (g, s.rem_euclid(m))
 }
 
 /// The number of smallest centred size with weight·x = error modulo Q in every row.
 pub fn smallest(rows: &[(u32, u32)]) -> Option<u32> {
-    // the numbers x, x + modulus, x + 2·modulus, …
-    let (mut x, mut modulus) = (0_u64, 1_u64);
-    for prime in PRIMES {
-        if let Some(wanted) = remainder(rows, prime).ok()? {
-            while x % u64::from(prime) != u64::from(wanted) {
-                x += modulus;
-            }
-            modulus *= u64::from(prime);
+    // the numbers x, x + modulus, x + 2·modulus, …; modulus divides Q
+    let q = i128::from(Q);
+    let (mut x, mut modulus) = (0_i128, 1_i128);
+    for &(weight, error) in rows {
+        // weight·modulus·t = short modulo Q, for the numbers x + t·modulus
+        let weight = i128::from(weight);
+        let short = (i128::from(error) - weight * x).rem_euclid(q);
+        let (g, s) = gcd(weight * modulus, q);
+        if short % g != 0 {
+            return None;
         }
+        x += modulus * (short / g * s % (q / g));
+        modulus *= q / g;
+        x %= modulus;
     }
-    let last = x + (u64::from(Q) - modulus);
+    let last = x + (q - modulus);
     [x, last]
         .map(|x| x as u32)
         .into_iter()

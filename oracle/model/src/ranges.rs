@@ -1,11 +1,12 @@
 //! Document 02, Item 14: a witness known within ranges. Each coefficient is known "only from a lowest to a highest centred
 //! number".
 
+use crate::leaves::HALF;
 use crate::refusals;
 use crate::Answer;
 
 /// The largest size of a centred number.
-pub const LARGEST: i64 = 2147483647;
+pub const LARGEST: i64 = HALF as i64;
 
 /// What is told of one witness vector. `meets` is 1 for every choice, 2 for some but not every, 3 for none, 0 unused.
 #[derive(Clone, Copy, Debug, Default, PartialEq, Eq)]

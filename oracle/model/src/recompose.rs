@@ -1,6 +1,6 @@
 //! Document 02, Item 2: digits put together again, and the number of parts that a base needs.
 
-use crate::leaves::{below, left, Q};
+use crate::leaves::{below, left, HALF, Q};
 use crate::Answer;
 
 /// "Σ digit·b^i modulo Q", from the highest digit down.
@@ -12,13 +12,13 @@ pub fn recompose(base: u32, digits: &[u32]) -> u32 {
 /// "for a base, the smallest number of parts that leaves nothing of any value". A larger size leaves no less, so the two
 /// values of the largest size tell.
 pub fn parts_needed(base: u32) -> u32 {
-    let enough = |parts: &u32| [2147483647, 2147483648].map(|a| left(base, *parts as usize, a)) == [0, 0];
+    let enough = |parts: &u32| [HALF, HALF + 1].map(|a| left(base, *parts as usize, a)) == [0, 0];
     (1..=32).find(enough).expect("32 parts are enough")
 }
 
 /// "Both refuse with 31 a base (place 0)".
 pub fn base_operand(base: u32) -> Answer {
-    if (2..=4294967294).contains(&base) {
+    if (2..Q).contains(&base) {
         Answer::FINE
     } else {
         Answer::refused(31, 0)

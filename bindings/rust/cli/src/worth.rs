@@ -91,6 +91,7 @@ pub fn chance_sentence(worth: &Worth) -> String {
 /// How many transcripts that the desk draws give 64 bits.
 pub fn drawn_sentence(worth: &Worth) -> String {
     match worth.drawn_needed(64) {
+        Some(1) => "64 bits need at least 1 transcript of this job, with randomness that the desk draws round after round, and no retry".to_string(),
         Some(needed) => format!(
             "64 bits need at least {needed} transcripts of this job, each with randomness of its own that the desk draws round after round, all \
              accepted, no retry"
@@ -102,6 +103,11 @@ pub fn drawn_sentence(worth: &Worth) -> String {
 /// How many transcripts under one joint hash give 64 bits.
 pub fn joint_sentence(worth: &Worth) -> Option<String> {
     let needed = worth.joint_needed(64)?;
+    if needed == 1 {
+        let hashed =
+            "64 bits need at least 1 transcript where a hash of what was sent before draws the randomness of each round";
+        return Some(hashed.to_string());
+    }
     Some(format!(
         "64 bits need at least {needed} transcripts where one joint hash of all of them draws the randomness; no number is enough where each has a hash \
          of its own"

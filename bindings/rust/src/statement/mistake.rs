@@ -5,7 +5,7 @@ use std::fmt;
 
 use super::parse::names;
 use super::{GREATEST_BOUND, MOST_TOTALS};
-use crate::number::GREATEST;
+use crate::number::HALF;
 
 /// A mistake at a place of a text.
 #[derive(Clone, Debug, PartialEq, Eq)]
@@ -155,10 +155,10 @@ impl fmt::Display for Fault {
             Fault::Bound { name } => write!(f, "{name} is a number from 0 to {GREATEST_BOUND}"),
             Fault::Seed => f.write_str("a seed is 64 hex digits"),
             Fault::Behind => f.write_str("the line ends here"),
-            Fault::Right => write!(f, "a total is a number from -{GREATEST} to {GREATEST}"),
+            Fault::Right => write!(f, "a total is a number from -{HALF} to {HALF}"),
             Fault::Equals => f.write_str("behind the total stands ="),
             Fault::Term => f.write_str("a term is sI, sI[J] or sI[J..E], or NUMBER * and one of these"),
-            Fault::Factor => write!(f, "a factor is a number from 0 to {GREATEST}"),
+            Fault::Factor => write!(f, "a factor is a number from 0 to {HALF}"),
             Fault::Times => f.write_str("behind a factor stands *"),
             Fault::Run => f.write_str("a run of lines is sI, sI[J] or sI[J..E]"),
             Fault::Sign => f.write_str("before each further term stands + or -"),
@@ -170,7 +170,7 @@ impl fmt::Display for Fault {
             }
             Fault::NoTotal => write!(f, "a statement has 1 to {MOST_TOTALS} totals"),
             Fault::ManyTotals => write!(f, "a statement has at most {MOST_TOTALS} totals"),
-            Fault::Number => write!(f, "a line of stock has a number from -{GREATEST} to {GREATEST}"),
+            Fault::Number => write!(f, "a line of stock has a number from -{HALF} to {HALF}"),
             Fault::Alone { line } => write!(f, "a number alone stands in every line, as in line {line}"),
             Fault::Three { line } => write!(f, "I,J,NUMBER stands in every line, as in line {line}"),
             Fault::Comma => f.write_str("vector, line and number are parted by commas"),

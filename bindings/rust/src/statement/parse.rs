@@ -4,7 +4,7 @@ use super::mistake::{Fault, Mistake};
 use super::text::{at_end, lines, number, Cursor, Word};
 use super::total::{lines_of, Lines, Term, Total};
 use super::{Said, Seed, Statement, GREATEST_BOUND, MOST_TOTALS};
-use crate::number::GREATEST;
+use crate::number::HALF;
 use crate::section_one::{Parameters, BOUNDS, PARAMETERS};
 
 const SYMBOLS: [char; 4] = ['+', '-', '*', '='];
@@ -141,7 +141,7 @@ impl Draft {
         }
         let before = line.clone();
         let sign = if line.takes('-') { -1 } else { 1 };
-        let right = limited(line, 0, GREATEST.into(), Fault::Right);
+        let right = limited(line, 0, HALF.into(), Fault::Right);
         let right = sign * right.map_err(|_| before.mistake(Fault::Right))? as i64;
         if !line.takes('=') {
             return Err(line.mistake(Fault::Equals));
@@ -180,7 +180,7 @@ fn term(line: &mut Cursor, p: &Parameters) -> Result<Term, Mistake> {
     let mut word = line.word().ok_or_else(|| before.mistake(Fault::Term))?;
     let mut factor = 1;
     if word.text.starts_with(|c: char| c.is_ascii_digit()) {
-        let value = number(word.text).filter(|value| *value <= GREATEST.into());
+        let value = number(word.text).filter(|value| *value <= HALF.into());
         factor = value.ok_or_else(|| line.mistake_at(word, Fault::Factor))? as i64;
         if !line.takes('*') {
             return Err(line.mistake(Fault::Times));

@@ -3,7 +3,7 @@
 use super::mistake::{Fault, Mistake};
 use super::text::{lines, number, Cursor, Word};
 use super::total::{centred, lines_of, word};
-use crate::number::GREATEST;
+use crate::number::HALF;
 use crate::section_one::Parameters;
 use crate::sections::{words_of, Slice};
 
@@ -69,7 +69,7 @@ fn signed(text: &str) -> Option<i64> {
         Some(digits) => (-1, digits),
         None => (1, text.strip_prefix('+').unwrap_or(text)),
     };
-    let size = number(digits).filter(|size| *size <= GREATEST.into())?;
+    let size = number(digits).filter(|size| *size <= HALF.into())?;
     Some(sign * size as i64)
 }
 

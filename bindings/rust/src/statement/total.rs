@@ -2,7 +2,7 @@
 
 use std::fmt;
 
-use crate::number::{GREATEST, Q};
+use crate::number::{HALF, Q};
 use crate::section_one::Parameters;
 
 /// Lines of one witness vector, counted from 0.
@@ -40,7 +40,7 @@ pub(super) fn word(number: i64) -> u32 {
 
 /// The number of a word, within ±(Q - 1)/2.
 pub(super) fn centred(word: u32) -> i64 {
-    if word > GREATEST {
+    if word > HALF {
         i64::from(word) - i64::from(Q)
     } else {
         i64::from(word)

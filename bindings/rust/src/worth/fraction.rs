@@ -113,13 +113,17 @@ fn plain(number: u128) -> String {
     }
 }
 
-/// `1 in 81`.
+/// `1 in 81`, `1 in 2^160.0`.
 impl fmt::Display for Fraction {
     fn fmt(&self, f: &mut fmt::Formatter<'_>) -> fmt::Result {
         if self.numerator.is_zero() {
             return f.write_str("0");
         }
-        write!(f, "1 in {}", plain(self.one_in()))
+        // beyond the numbers of 128 bits the power of two alone
+        match self.is_at_most_2_to_minus(127) {
+            true => write!(f, "1 in 2^{:.1}", self.bits()),
+            false => write!(f, "1 in {}", plain(self.one_in())),
+        }
     }
 }
 
@@ -153,6 +157,9 @@ mod tests {
         assert_eq!(Fraction::new(4, 9).one_in(), 2);
         assert_eq!(Fraction::new(1, 1).to_string(), "1 in 1");
         assert_eq!(Fraction::zero().to_string(), "0");
+        assert_eq!(Fraction::new(1, 2).pow(126).to_string(), "1 in 8.5·10^37");
+        assert_eq!(Fraction::new(1, 2).pow(127).to_string(), "1 in 2^127.0");
+        assert_eq!(Fraction::new(1, 3).pow(200).to_string(), "1 in 2^317.0");
     }
 
     #[test]

@@ -42,7 +42,8 @@ pub(super) fn tries(worth: &Worth, count: u32) -> Option<Fraction> {
     for a in 0..=most_psi {
         let psi = ground(a, Fraction::new(least_prime.into(), 1).pow(worth.rows * a));
         let Some(&slot) = slots.first() else {
-            all.extend((a == count).then_some(psi));
+            // beta and the challenges of each that does not rest on psi
+            all.push(psi.add(&ground(count - a, worth.in_one_field().inverse().pow(count - a))));
             continue;
         };
         let zeros = linear_factors(worth.vectors);

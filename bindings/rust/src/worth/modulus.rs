@@ -16,7 +16,15 @@ pub struct Modulus {
 }
 
 /// 4294967295 = 3·5·17·257·65537.
-pub const MODULUS: Modulus = Modulus { q: Q, least_prime: 3, slots: &[257, 65537] };
+pub const DEFAULT: Modulus = Modulus { q: 4294967295, least_prime: 3, slots: &[257, 65537] };
+
+/// 2^32 - 99 is a prime and 5 modulo 8: X^64 + 1 has two factors of degree 32, so that there are no slots, and the difference of two unlike
+/// challenges is a unit.
+pub const PRIME: Modulus = Modulus { q: 4294967197, least_prime: 4294967197, slots: &[] };
+
+/// That of the archive.
+pub const MODULUS: Modulus = if Q == PRIME.q { PRIME } else { DEFAULT };
+const _: () = assert!(MODULUS.q == Q, "the facts of the archive's modulus are not known");
 
 /// A number whose multiples are not zero in these slots alone, so that an error of that size has to slip through only there.
 #[derive(Clone, Debug, PartialEq, Eq)]
@@ -43,6 +51,16 @@ impl Modulus {
         Fraction::new(1, self.least_prime.into()).pow(rows)
     }
 
+    /// An error in one factor of degree 32, where there are no slots: beta weighs it to 0, one of q^32, or of several vectors the form
+    /// c_1² - c_2² of the challenges is 0 there, which it is only where c_1 = c_2 or c_1 = -c_2. Of one vector c_1² is a unit.
+    pub(super) fn slips_through_wide(&self, vectors: u32) -> Fraction {
+        let beta = Fraction::new(1, self.q.into()).pow(32);
+        match vectors {
+            1 => beta,
+            _ => beta.add(&one_challenge().mul(&Fraction::new(2, 1))),
+        }
+    }
+
     /// An error in one slot of p elements: beta weighs it to 0, or a linear factor of the form of the challenges is 0 there, each in
     /// one of p draws. Together 1 - (1 - 1/p)^3, or of one vector 1 - (1 - 1/p)^2.
     pub(super) fn slips_through(slot: u32, vectors: u32) -> Fraction {
@@ -60,16 +78,37 @@ pub(super) fn linear_factors(vectors: u32) -> u32 {
     }
 }
 
+/// One of all challenges: which 31 of 64 coefficients are of size 1, which 10 of the others of size 2, and 41 signs.
+fn one_challenge() -> Fraction {
+    let choose = |n: u128, k: u128| (0..k).fold(1, |ways, i| ways * (n - i) / (i + 1));
+    Fraction::new(1, choose(64, 31) * choose(33, 10)).mul(&Fraction::new(1, 1 << 41))
+}
+
 #[cfg(test)]
 mod tests {
-    use super::{Modulus, MODULUS};
+    use super::{one_challenge, Fraction, Modulus, DEFAULT, PRIME};
+
+    fn is_prime(n: u32) -> bool {
+        (2..).take_while(|d| d * d <= u64::from(n)).all(|d| u64::from(n) % d != 0)
+    }
 
     #[test]
-    fn the_facts_of_the_modulus() {
-        let Modulus { q, least_prime, slots } = MODULUS;
+    fn the_prime() {
+        let Modulus { q, least_prime, slots } = PRIME;
+        assert!(is_prime(q) && q == least_prime && q % 8 == 5 && slots.is_empty());
+        assert_eq!(PRIME.weighed_to_zero(4).to_string(), "1 in 2^128.0");
+        let half_of_all = 180857904167729203298370297515149885440;
+        assert_eq!(one_challenge().mul(&Fraction::new(2, 1)), Fraction::new(1, half_of_all));
+        assert_eq!(PRIME.slips_through_wide(2).to_string(), "1 in 2^127.1");
+        assert_eq!(PRIME.slips_through_wide(1), Fraction::new(1, 4294967197).pow(32));
+    }
+
+    #[test]
+    fn the_default() {
+        let Modulus { q, least_prime, slots } = DEFAULT;
         assert!((2..least_prime).all(|p| q % p != 0) && q % least_prime == 0);
         for slot in slots {
-            assert!((2..*slot).all(|d| slot % d != 0), "{slot} is prime");
+            assert!(is_prime(*slot), "{slot} is prime");
             assert_eq!((q % slot, slot % 128), (0, 1));
         }
         // the other primes of q are not 1 modulo 128
@@ -79,13 +118,13 @@ mod tests {
 
     #[test]
     fn the_divisors() {
-        let all = MODULUS.divisors();
+        let all = DEFAULT.divisors();
         let numbers: Vec<u32> = all.iter().map(|divisor| divisor.number).collect();
         assert_eq!(numbers, [255, 65535, 16711935]);
         assert_eq!(
             (&all[0].slots[..], &all[1].slots[..], &all[2].slots[..]),
             (&[257, 65537][..], &[65537][..], &[257][..])
         );
-        assert!(Modulus { slots: &[], ..MODULUS }.divisors().is_empty());
+        assert!(PRIME.divisors().is_empty());
     }
 }

@@ -4,6 +4,28 @@ use labrador::section_one::{BOUNDS, PARAMETERS};
 use labrador::sections::placed;
 use labrador::{load, prove, Parameters, Slice, Q};
 
+/// What is expected over 2^32 - 1, or over the prime.
+#[allow(dead_code)]
+pub const fn over<T: Copy>(default: T, prime: T) -> T {
+    if Q == u32::MAX {
+        default
+    } else {
+        prime
+    }
+}
+
+/// What is left to a false statement by one transcript of a small job.
+#[allow(dead_code)]
+pub const ONE: &str = over("1 in 81", "1 in 2^127.1");
+
+/// The things that a small load does not force; over the prime totals and norms by divisors of Q are not among them.
+#[allow(dead_code)]
+pub const THINGS: u32 = over(10, 8);
+
+/// What is said of the word Q. Where it is below 2^32 - 1 it could be a number modulo that.
+#[allow(dead_code)]
+pub const NOT_BELOW: &str = over("not below Q", "not below Q; a number of the modulus 4294967295?");
+
 /// What the verifier is handed.
 #[derive(Clone)]
 pub struct Case {

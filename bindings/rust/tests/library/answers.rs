@@ -3,7 +3,7 @@
 use labrador::meaning::{meaning, CHECKS, MEANINGS};
 use labrador::{prove, verify, Parameters, Refusal, Slice, Verdict, Q};
 
-use crate::common::{begin, set_bound, with_answer, Case};
+use crate::common::{begin, set_bound, with_answer, Case, NOT_BELOW};
 
 fn verdict(case: &Case) -> Verdict {
     verify(&case.job, &case.randomness, &case.transcript)
@@ -46,13 +46,13 @@ fn refusals_are_told_with_their_place() {
     told(4, "refusal 4: the job's word 1 is 65: n is from 1 to 64".into());
     told(5, "refusal 5: the job's word 12 is 3: L is at least 4 where log_q is 32".into());
     let phi = "section phi', constraint 0, vector 0, element 0, coefficient 17";
-    told(6, format!("refusal 6: the job's word {} is 4294967295, not below Q ({phi})", job("phi'", 17)));
+    told(6, format!("refusal 6: the job's word {} is {Q}, {NOT_BELOW} ({phi})", job("phi'", 17)));
     told(7, format!("refusal 7: the randomness goes on at word {drawn}, behind its last section, shuffle"));
     let signs = "section signs, challenge 1, sign 1";
     told(8, format!("refusal 8: the randomness's word {sign} is 2, neither 0 nor 1 ({signs})"));
     told(9, "refusal 9: the transcript's word 0 is 257, and the count of section u1 is 256".into());
     let coefficient = "section z, element 1, coefficient 1";
-    told(10, format!("refusal 10: the transcript's word {z} is 4294967295, not below Q ({coefficient})"));
+    told(10, format!("refusal 10: the transcript's word {z} is {Q}, {NOT_BELOW} ({coefficient})"));
     told(14, "refusal 14: the norm of the digits of t is above B's bound".into());
 }
 
@@ -91,7 +91,7 @@ fn the_witness_is_refused_with_its_place() {
     case.witness[1 + 64 * 5 + 3] = Q;
     assert_eq!(
         told(&case),
-        "refusal 12: the witness's word 324 is 4294967295, not below Q (section witness, vector 1, element 1, coefficient 3)"
+        format!("refusal 12: the witness's word 324 is {Q}, {NOT_BELOW} (section witness, vector 1, element 1, coefficient 3)")
     );
     case.witness.pop();
     assert_eq!(told(&case), "refusal 11: the witness ends after 768 words, within section witness");
@@ -99,6 +99,27 @@ fn the_witness_is_refused_with_its_place() {
     set_bound(&mut case.job, "bound_A", 0);
     let refusal = prove(&case.job, &case.randomness, &case.witness).unwrap_err();
     assert!(matches!(refusal, Refusal::WitnessNorm { vector: 0, norm: 1.., bound: 0 }), "{refusal}");
+}
+
+/// The greatest word is a number of neither modulus.
+#[test]
+fn a_word_of_the_other_modulus_is_asked_for() {
+    let mut case = with_answer(0);
+    let place = begin(Slice::Job, &Parameters::SMALL, "A");
+    for word in [u32::MAX, u32::MAX - 1, Q] {
+        case.job[place] = word;
+        let told = verdict(&case).to_string();
+        assert_eq!(
+            told.starts_with(&format!("refusal 6: the job's word {place} is {word}, not below Q")),
+            word >= Q,
+            "{told}"
+        );
+        assert_eq!(
+            told.contains("; a number of the modulus 4294967295? (section A"),
+            (Q..u32::MAX).contains(&word),
+            "{told}"
+        );
+    }
 }
 
 #[test]

@@ -1,16 +1,20 @@
 //! The leaf calls as methods: document 01's table, and their refusals in words.
 
-use labrador::{parts_needed, projection_entry, ranges, recompose, ChallengeWords, Element, Meets, Parameters, Zq, Q};
+use labrador::{
+    parts_needed, projection_entry, ranges, recompose, ChallengeWords, Element, Meets, Parameters, Zq, HALF, Q,
+};
 
-use crate::common::{made, set_bound};
+use crate::common::{made, set_bound, NOT_BELOW};
 
 #[test]
 fn numbers() {
-    assert_eq!(Zq(4294967294).add(Zq(1)), Ok(Zq(0)));
+    assert_eq!(Zq(Q - 1).add(Zq(1)), Ok(Zq(0)));
     assert_eq!(Zq(0).sub(Zq(1)), Ok(Zq(Q - 1)));
-    assert_eq!(Zq(65537).mul(Zq(65535)), Ok(Zq(0)));
+    // 2^32 and 2^32 - 1, modulo Q
+    assert_eq!(Zq(65536).mul(Zq(65536)), Ok(Zq(u32::MAX - Q + 1)));
+    assert_eq!(Zq(65537).mul(Zq(65535)), Ok(Zq(u32::MAX - Q)));
     assert_eq!(Zq(1).neg(), Ok(Zq(Q - 1)));
-    assert_eq!(Zq(4294967294).centre(), Ok(-1));
+    assert_eq!(Zq(Q - 1).centre(), Ok(-1));
     assert_eq!(Zq(7).digits(4, 2).unwrap().digits[..3], [Q - 1, 2, 0]);
     assert_eq!(projection_entry(1073741823), Ok(Zq(Q - 1)));
     assert_eq!(recompose(4, &[Q - 1, 2]), Ok(Zq(7)));
@@ -20,10 +24,10 @@ fn numbers() {
 #[test]
 fn refusals_of_numbers() {
     let told = |refusal: Result<Zq, labrador::Refusal>| refusal.unwrap_err().to_string();
-    assert_eq!(told(Zq(1).add(Zq(Q))), "refusal 6: word 1 of the operands is 4294967295, not below Q");
-    assert_eq!(told(recompose(1, &[1])), "refusal 31: the base is 1, not from 2 to 4294967294");
+    assert_eq!(told(Zq(1).add(Zq(Q))), format!("refusal 6: word 1 of the operands is {Q}, {NOT_BELOW}"));
+    assert_eq!(told(recompose(1, &[1])), format!("refusal 31: the base is 1, not from 2 to {}", Q - 1));
     assert_eq!(told(recompose(2, &[0; 33])), "refusal 31: the number of digits is 33, not from 1 to 32");
-    assert_eq!(told(recompose(2, &[0, Q])), "refusal 6: word 3 of the operands is 4294967295, not below Q");
+    assert_eq!(told(recompose(2, &[0, Q])), format!("refusal 6: word 3 of the operands is {Q}, {NOT_BELOW}"));
     let refusal = Zq(1).digits(2, 33).unwrap_err();
     assert_eq!(refusal.to_string(), "refusal 4: the number of parts is 33, not from 1 to 32");
     assert_eq!(parts_needed(0).unwrap_err().number(), 31);
@@ -46,8 +50,8 @@ fn elements() {
 fn refusals_of_elements() {
     let (x, bad) = (Element::monomial(1, 1), Element::monomial(Q, 3));
     let told = |refusal: labrador::Refusal| refusal.to_string();
-    assert_eq!(told(x.mul(&bad).unwrap_err()), "refusal 6: word 67 of the operands is 4294967295, not below Q");
-    assert_eq!(told(x.digits(1, 1).unwrap_err()), "refusal 4: the base is 1, not from 2 to 4294967294");
+    assert_eq!(told(x.mul(&bad).unwrap_err()), format!("refusal 6: word 67 of the operands is {Q}, {NOT_BELOW}"));
+    assert_eq!(told(x.digits(1, 1).unwrap_err()), format!("refusal 4: the base is 1, not from 2 to {}", Q - 1));
     let short = x.digits_into(2, 1, &mut [0; 5]).unwrap_err();
     assert_eq!(told(short), "refusal 2: the output has 5 words, and 2048 are needed");
     let mut words = ChallengeWords { words: [0; 104] };
@@ -81,5 +85,5 @@ fn refusals_of_ranges() {
     lows[3] = 1;
     assert_eq!(told(&lows, &zeros), "refusal 36: pair 3 goes from 1 to 0, which is below");
     lows[2] = i64::MIN;
-    assert_eq!(told(&lows, &zeros), "refusal 37: pair 2 goes from -9223372036854775808 to 0, beyond ±2147483647");
+    assert_eq!(told(&lows, &zeros), format!("refusal 37: pair 2 goes from {} to 0, beyond ±{HALF}", i64::MIN));
 }

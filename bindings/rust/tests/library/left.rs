@@ -2,9 +2,9 @@
 
 use labrador::norms::elements;
 use labrador::sections::words_of;
-use labrador::{parts_needed, verify, Element, Parameters, Slice, Verdict, Zq, Q};
+use labrador::{parts_needed, verify, Element, Parameters, Slice, Verdict, Zq, HALF, Q};
 
-use crate::common::{made, with_answer, Case};
+use crate::common::{made, with_answer, Case, NOT_BELOW};
 
 #[test]
 fn of_numbers() {
@@ -12,10 +12,10 @@ fn of_numbers() {
     // 7 is -1 + 2·4
     assert_eq!((left(7, 4, 1), left(7, 4, 2)), (2, 0));
     assert_eq!((left(1234, 10, 2), left(Q - 1234, 10, 2)), (12, 12));
-    for base in [2, 3, 256, 4294967294] {
+    for base in [2, 3, 256, Q - 1] {
         let needed = parts_needed(base).unwrap();
-        assert_eq!(left(2147483647, base, needed), 0);
-        assert!(needed == 1 || left(2147483647, base, needed - 1) > 0, "{base}");
+        assert_eq!(left(HALF, base, needed), 0);
+        assert!(needed == 1 || left(HALF, base, needed - 1) > 0, "{base}");
     }
 }
 
@@ -35,9 +35,9 @@ fn of_elements() {
 fn refusals_are_those_of_digits() {
     let bad = Element::monomial(Q, 63);
     let told = |base, parts| bad.left(base, parts).unwrap_err().to_string();
-    assert_eq!(told(1, 33), "refusal 4: the base is 1, not from 2 to 4294967294");
+    assert_eq!(told(1, 33), format!("refusal 4: the base is 1, not from 2 to {}", Q - 1));
     assert_eq!(told(4, 33), "refusal 4: the number of parts is 33, not from 1 to 32");
-    assert_eq!(told(4, 2), "refusal 6: word 65 of the operands is 4294967295, not below Q");
+    assert_eq!(told(4, 2), format!("refusal 6: word 65 of the operands is {Q}, {NOT_BELOW}"));
 }
 
 fn verdict(case: &Case) -> Verdict {
@@ -65,7 +65,7 @@ fn an_acceptance_counts_its_cells() {
     assert!(stated(2, 31, 1) > 0);
     // 8 cells of t, 3 of g and 3 of h
     assert_eq!(stated(2, 1, 1), 14);
-    for (base, parts) in [(2, 31), (256, 4), (65536, 2), (4294967294, 1)] {
+    for (base, parts) in [(2, 31), (256, 4), (65536, 2), (Q - 1, 1)] {
         assert_eq!(stated(base, parts, parts), 0, "{base}");
     }
 }

@@ -2,9 +2,9 @@
 
 use labrador::review::{review, Finding, Kind, Severity};
 use labrador::section_one::BOUNDS;
-use labrador::{Element, Parameters, Slice, Q};
+use labrador::{Element, Parameters, Slice, HALF, Q};
 
-use crate::common::{begin, made, set_bound};
+use crate::common::{begin, made, over, set_bound};
 
 /// A shape whose digits lose nothing.
 const P: Parameters = Parameters { n: 2, r: 2, ..Parameters::SMALL };
@@ -46,7 +46,7 @@ fn something_is_found_of_every_job() {
     );
     let prover =
         "bound_A is tested by the prover alone: no check of the verifier holds a witness vector to it (from word 19)";
-    assert_eq!(told, [&totals, prover]);
+    assert_eq!(told, over(&[&totals, prover][..], &[prover]));
     assert_eq!(findings(&job), Vec::<String>::new());
     // without constant-term constraints there is no total
     let p = Parameters { l: 0, ..P };
@@ -62,7 +62,8 @@ fn totals_under_one_vector() {
     let told: Vec<String> = review(&job).unwrap().iter().map(|finding| finding.to_string()).collect();
     let totals = "by a multiple of 255 passes one transcript with at least 1 in 4.2 million (2^-22.0), by a multiple of 65535 with \
                   1 in 32,769 (2^-15.0), by a multiple of 16711935 with 1 in 129 (from";
-    assert_eq!(told.iter().filter(|line| line.contains(totals)).count(), 1, "{told:?}");
+    assert_eq!(told.iter().filter(|line| line.contains(totals)).count(), over(1, 0), "{told:?}");
+    assert_eq!(told.iter().filter(|line| line.contains("totals")).count(), over(1, 0), "{told:?}");
 }
 
 #[test]
@@ -78,7 +79,7 @@ fn the_worst_comes_first() {
     let expected = [
         vec![Severity::Anything],
         vec![Severity::NeverFails; 5],
-        vec![Severity::Chance; 3],
+        vec![Severity::Chance; over(3, 1)],
         vec![Severity::Digits],
         vec![Severity::Prover; 2],
     ];
@@ -139,6 +140,11 @@ fn norms_that_21_does_not_force() {
         (715806037, 65535, "1 in 21,846 (2^-14.4)"),
         (46548128574037, 16711935, "1 in 86"),
     ];
+    if over(false, true) {
+        // the prime has no divisors
+        assert!(steps.iter().all(|step| told(step.0).is_empty()));
+        return;
+    }
     for (k, (beta_sq, divisor, chance)) in steps.into_iter().enumerate() {
         let line = format!(
             "norms are not forced by check 21: p can be sent modulo {divisor}, since beta_sq reaches a sixth of its square, and a witness beyond \
@@ -158,10 +164,14 @@ fn beta_above_q_over_125() {
         set_bound(&mut job, "beta_sq", beta_sq);
         findings(&job)
     };
-    // (q/125)² is 1180591620167655.5
-    assert_eq!(told(1180591620167655).len(), 1);
-    let line = "beta is above q/125, the paper's condition on check 21: beta_sq is then at most 1180591620167655 (from word 13)";
-    assert_eq!(told(1180591620167656)[1], line);
+    // (q/125)² is 1180591620167655.5, or over the prime 1180591566291586.4
+    let most = over(1180591620167655, 1180591566291586);
+    let line = format!(
+        "beta is above q/125, the paper's condition on check 21: beta_sq is then at most {most} (from word 13)"
+    );
+    // over 2^32 - 1 norms are not forced there either
+    assert_eq!((told(most).len(), told(most + 1).len()), over((1, 2), (0, 1)));
+    assert_eq!(told(most + 1).last(), Some(&line));
 }
 
 #[test]
@@ -318,7 +328,7 @@ fn zero_columns_and_rows() {
 
 #[test]
 fn limits_that_no_norm_passes() {
-    let half_q: u128 = 2147483647;
+    let half_q = u128::from(HALF);
     let projection = 256 * half_q * half_q;
     let mut job = sound();
     set_bound(&mut job, "beta_sq", projection.div_ceil(128) - 1);
@@ -338,7 +348,7 @@ fn limits_that_no_norm_passes() {
     let limits_nothing = "can never fail: this limit limits nothing, since no norm is above";
     let line = format!("the test of refusal 13 {limits_nothing} {vector}, and bound_A is {vector} (from word 19)");
     assert_eq!(findings(&job), [line]);
-    // base 256, sizes up to 2^31 - 1: digits up to 128, 128, 128 and the last up to 128
+    // base 256, sizes up to (Q - 1)/2: digits up to 128, 128, 128 and the last up to 128
     let cells = 4 * 128 * 128;
     let mut job = sound();
     set_bound(&mut job, "bound_C", 64 * 3 * cells - 1);

@@ -5,7 +5,7 @@ use labrador::{
     shed_rows_into, Parameters, Refusal, Run, RunParts, Slice, Q,
 };
 
-use crate::common::{begin, made, set_bound, Case};
+use crate::common::{begin, made, set_bound, Case, NOT_BELOW};
 
 const MARK: u32 = 0xc0de_c0de;
 const FIVE: Parameters = Parameters { r: 5, kappa: 3, n: 2, ..Parameters::SMALL };
@@ -81,15 +81,19 @@ fn refusals_come_in_their_order() {
     parts.vectors[200] = Q;
     assert_eq!(
         told(&parts).to_string(),
-        "refusal 12: the witness's word 200 is 4294967295, not below Q (section witness, vector of the run 1, element 1, coefficient 7)"
+        format!(
+            "refusal 12: the witness's word 200 is {Q}, {NOT_BELOW} (section witness, vector of the run 1, element 1, coefficient 7)"
+        )
     );
     parts.vectors.pop();
     assert_eq!(told(&parts).to_string(), "refusal 11: the witness ends after 256 words, within section witness");
     parts.projection[32770] = Q;
     assert_eq!(
         told(&parts).to_string(),
-        "refusal 8: the randomness's word 32770 is 4294967295, not below Q \
-         (section projection, vector of the run 1, row 0, element 0, coefficient 1)"
+        format!(
+            "refusal 8: the randomness's word 32770 is {Q}, {NOT_BELOW} \
+             (section projection, vector of the run 1, row 0, element 0, coefficient 1)"
+        )
     );
     parts.projection[0] = 7;
     assert_eq!(
@@ -149,8 +153,11 @@ fn an_unfit_p_is_told_by_which_it_is() {
     assert_eq!(told(&fit, &fit[..256]), "refusal 9: the second p ends after 256 words, and has 257 with its count");
     assert_eq!(told(&with(0, 255), &[]), "refusal 9: word 0 of the first p is 255, and its count is 256");
     assert_eq!(told(&fit, &long), "refusal 9: the second p goes on at word 257, behind its 256 entries");
-    assert_eq!(told(&with(256, Q), &[]), "refusal 10: word 256 of the first p is 4294967295, not below Q (entry 255)");
-    assert_eq!(told(&fit, &with(1, Q)), "refusal 10: word 1 of the second p is 4294967295, not below Q (entry 0)");
+    assert_eq!(
+        told(&with(256, Q), &[]),
+        format!("refusal 10: word 256 of the first p is {Q}, {NOT_BELOW} (entry 255)")
+    );
+    assert_eq!(told(&fit, &with(1, Q)), format!("refusal 10: word 1 of the second p is {Q}, {NOT_BELOW} (entry 0)"));
     let refusal = add_projections_into(&fit, &fit, &mut [0; 256]).unwrap_err();
     assert_eq!(refusal, Refusal::Output { buffer: "output", needed: 257, lent: 256 });
     let sum = add_projections(&with(1, Q - 1), &with(1, 2)).unwrap();

@@ -1,14 +1,16 @@
 //! What an acceptance is worth, against exact fractions.
 
 use labrador::section_one::SectionOne;
-use labrador::worth::{passes_without_witness, repeats, zero_sections, Fraction, Repeat, Shared, Worth, MODULUS};
-use labrador::{load, prove, Parameters, Sent, Slice};
+use labrador::worth::{
+    passes_without_witness, repeats, zero_sections, Fraction, Repeat, Shared, Worth, DEFAULT, MODULUS, PRIME,
+};
+use labrador::{load, prove, Parameters, Sent, Slice, Q};
 
-use crate::common::{begin, made, set_bound};
+use crate::common::{begin, made, set_bound, ONE};
 
-/// With L rows and several vectors.
+/// Over 2^32 - 1 with L rows and several vectors.
 fn with(rows: u32) -> Worth {
-    Worth { modulus: &MODULUS, rows, constant_terms: true, vectors: 2, certain: false }
+    Worth { modulus: &DEFAULT, rows, constant_terms: true, vectors: 2, certain: false }
 }
 
 fn whole(number: u128) -> Fraction {
@@ -37,7 +39,7 @@ fn one_transcript() {
 fn errors_by_the_divisors_of_the_modulus() {
     let wide = Fraction::new(65537u128.pow(3) - 65536u128.pow(3), 65537u128.pow(3));
     let expected = [Fraction::new(197377, 16974593).mul(&wide), wide, Fraction::new(197377, 16974593)];
-    let chances: Vec<Fraction> = MODULUS.divisors().iter().map(|divisor| with(4).in_slots(&divisor.slots)).collect();
+    let chances: Vec<Fraction> = DEFAULT.divisors().iter().map(|divisor| with(4).in_slots(&divisor.slots)).collect();
     assert_eq!(chances, expected);
     let told: Vec<String> = chances.iter().map(|chance| format!("{chance} {:.1}", chance.bits())).collect();
     assert_eq!(told, ["1 in 1.9 million 20.8", "1 in 21,846 14.4", "1 in 86 6.4"]);
@@ -131,6 +133,34 @@ fn hashed_alone_is_never_enough() {
 }
 
 #[test]
+fn over_the_prime() {
+    let [psi, beta] = [4, 32].map(|power| Fraction::new(1, 4294967197).pow(power));
+    let challenges = Fraction::new(1, 180857904167729203298370297515149885440).add(&beta);
+    let prime = |rows| Worth { modulus: &PRIME, ..with(rows) };
+    // the challenges are fewer than q^L
+    assert!(psi < challenges);
+    for rows in [4, 5, 32] {
+        assert_eq!(prime(rows).one(), challenges);
+        assert_eq!(Worth { constant_terms: false, ..prime(rows) }.one(), challenges);
+        let [one, two] = [1, 2].map(|count| prime(rows).joint(count).unwrap());
+        assert!(one.mul(&challenges) == whole(1) && two > one);
+    }
+    assert_eq!(Worth { vectors: 1, ..prime(4) }.one(), psi);
+    assert_eq!(Worth { vectors: 1, ..prime(4) }.joint(3).unwrap().mul(&psi.pow(3)), whole(1));
+    assert_eq!(Worth { vectors: 1, constant_terms: false, ..prime(4) }.one(), beta);
+    let needed = |worth: Worth| [64, 100, 128].map(|bits| (worth.drawn_needed(bits), worth.joint_needed(bits)));
+    assert_eq!(needed(prime(4)), [(Some(1), Some(1)), (Some(1), Some(1)), (Some(2), Some(2))]);
+    // what passes for certain does so over the prime too
+    assert_eq!(Worth { certain: true, ..prime(4) }.one(), whole(1));
+}
+
+#[test]
+fn the_archive_has_its_facts() {
+    assert_eq!(MODULUS.q, Q);
+    assert!([DEFAULT, PRIME].contains(&MODULUS));
+}
+
+#[test]
 fn without_a_witness() {
     let p = Parameters { n: 4, r: 2, kappa: 1, ..Parameters::SMALL };
     let mut job = made(&p, 3).job;
@@ -141,8 +171,8 @@ fn without_a_witness() {
     };
     assert_eq!(certain(&job), "1 in 1");
     set_bound(&mut job, "beta_prime_sq", 1 << 30);
-    assert_eq!(certain(&job), "1 in 81");
-    assert_eq!(certain(&made(&Parameters { n: 3, ..p }, 3).job), "1 in 81");
+    assert_eq!(certain(&job), ONE);
+    assert_eq!(certain(&made(&Parameters { n: 3, ..p }, 3).job), ONE);
 }
 
 #[test]

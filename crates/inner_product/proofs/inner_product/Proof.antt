@@ -6,6 +6,7 @@ use borrow.Author.Needs.{needs}
 use lib.ListN.{length}
 use Rattle.lists.specs.Part.{part}
 use Rattle.definitions.specs.Rq.{rmul}
+use Rattle.rq_product.specs.Product.{growth}
 use Rattle.rq_product.specs.Sums.{Added}
 use Rattle.inner_product.proofs.Totals.{Totals, totals-none, totals-next, totals-room, totals-dot, product-of}
 use Rattle.inner_product.proofs.inner_product.Statement.{statement}
@@ -13,7 +14,7 @@ use Rattle.inner_product.proofs.inner_product.Tie as tie
 
 abbrev Inv-loop : tie.InvT-loop
 Inv-loop x x-at x-step y y-at y-step n totals₀ i₀ j₀ m₀ totals i j m =
-    (m ≤ n) × (i ≡ x-at + x-step * m) × (j ≡ y-at + y-step * m) × Totals (2 ^ 39) totals m (product-of x x-at x-step y y-at y-step)
+    (m ≤ n) × (i ≡ x-at + x-step * m) × (j ≡ y-at + y-step * m) × Totals growth totals m (product-of x x-at x-step y y-at y-step)
 
 abbrev μ-loop : tie.MeasureT-loop
 μ-loop x x-at x-step y y-at y-step n totals₀ i₀ j₀ m₀ totals i j m = n - m
@@ -49,14 +50,14 @@ loop-again c =
     let s = c .before .before .before .before .before .before .before .before .before .args in
     let a = c .before .before .before .before .load .ensures ∙ ap (λ at. part (s .x .now) at 64) (l .inv .1) in
     let b = c .before .before .load2 .ensures ∙ ap (λ at. part (s .y .now) at 64) (l .inv .2) in
-    (omega arith, omega arith, omega arith, totals-next _ _ _ (l .m) _ (l .inv .3) (subst (λ e. Added (2 ^ 39) (l .totals) e (c .add-product .result)) (ap₂ rmul a b) (c .add-product .ensures)))
+    (omega arith, omega arith, omega arith, totals-next _ _ _ (l .m) _ (l .inv .3) (subst (λ e. Added growth (l .totals) e (c .add-product .result)) (ap₂ rmul a b) (c .add-product .ensures)))
 
 returns : tie.Need-returns Inv-loop μ-loop
 returns c =
     let s = c .before .before .before .before .before .args in
     let l = c .before .before .loop in
     let n : l .m ≡ s .n = omega arith in
-    c .reduce .ensures ∙ totals-dot (2 ^ 39) (s .x .now) (s .x-at) (s .x-step) (s .y .now) (s .y-at) (s .y-step) (s .n) (l .totals) (rw n at (l .inv .3))
+    c .reduce .ensures ∙ totals-dot growth (s .x .now) (s .x-at) (s .x-step) (s .y .now) (s .y-at) (s .y-step) (s .n) (l .totals) (rw n at (l .inv .3))
 
 pub inner-product-spec : {M : Type 1} → statement M
 inner-product-spec =

@@ -7,6 +7,7 @@ use borrow.Author.Needs.{needs}
 use lib.ListN.{length, getD, length-replicate}
 use Rattle.lists.specs.Part.{part}
 use Rattle.definitions.specs.Rq.{rscale}
+use Rattle.rq_product.specs.Product.{growth}
 use Rattle.rq_product.specs.Sums.{Added}
 use Rattle.inner_product.proofs.Totals.{Totals, totals-none, totals-next, totals-room, totals-combination, scaled-of}
 use Rattle.inner_product.proofs.linear_combination.Statement.{statement}
@@ -14,7 +15,7 @@ use Rattle.inner_product.proofs.linear_combination.Tie as tie
 
 abbrev Inv-loop : tie.InvT-loop
 Inv-loop x x-at x-step factors at n totals₀ i₀ m₀ totals i m =
-    (m ≤ n) × (i ≡ x-at + x-step * m) × Totals (2 ^ 39) totals m (scaled-of x x-at x-step factors at) × (length totals ≡ 64)
+    (m ≤ n) × (i ≡ x-at + x-step * m) × Totals growth totals m (scaled-of x x-at x-step factors at) × (length totals ≡ 64)
 
 abbrev μ-loop : tie.MeasureT-loop
 μ-loop x x-at x-step factors at n totals₀ i₀ m₀ totals i m = n - m
@@ -36,7 +37,7 @@ loop-again c =
     let scaled : ℕ → List ℕ = λ at. rscale (part (s .x .now) at 64) (getD (s .factors .now) (s .at + l .m) 0) in (
       omega arith,
       omega arith,
-      totals-next _ _ _ (l .m) _ (l .inv .2) (subst (λ at. Added (2 ^ 39) (l .totals) (scaled at) (c .before .add-scaled .last .0)) (l .inv .1) (c .before .add-scaled .ensures .1)),
+      totals-next _ _ _ (l .m) _ (l .inv .2) (subst (λ at. Added growth (l .totals) (scaled at) (c .before .add-scaled .last .0)) (l .inv .1) (c .before .add-scaled .ensures .1)),
       c .before .add-scaled .ensures .0,
     )
 

@@ -1,11 +1,12 @@
 -- `add_rows` meets its contract. The invariant: the first 16·g rows are summed.
-use mathlib.Core.Path.{_≡_, sym, _∙_, ap}
-use Prim.Native.Nat.{ℕ, _-_, _*_, _≤_}
+use mathlib.Core.Path.{_≡_, sym, subst, _∙_, ap}
+use Prim.Native.Nat.{ℕ, _+_, _-_, _*_, _≤_}
 use native.Mathlib.Omega.{arith}
 use lib.ListN.{length, length-replicate}
 use Rattle.lists.proofs.Table.{length-table}
+use Rattle.jl_tables.specs.Tables.{UpToQ}
 use Rattle.jl_fours.specs.Fours.{Summed}
-use Rattle.jl_fours.proofs.Groups.{group-within, group-summed, none-summed, all-summed}
+use Rattle.jl_fours.proofs.Groups.{tables-small, group-within, group-summed, none-summed, all-summed}
 use Rattle.jl_fours.proofs.add_rows.Statement.{statement}
 use Rattle.jl_fours.proofs.add_rows.Tie as tie
 
@@ -37,6 +38,7 @@ add-columns-requires c κs =
       omega (arith, group-within (l .g) (64 * s .n) (omega arith)),
       ap length (c .before .before .before .fill-tables .ensures) ∙ length-table 4096 _,
       omega arith,
+      subst UpToQ (sym (c .before .before .before .fill-tables .ensures)) (tables-small (s .randomness .now) (λ i. omega (arith, c .before .before .before .before .before .before .before .before .shared-slice-known .given i)) (s .omega-at + 16 * l .g)),
     )
 
 loop-again : tie.Need-loop-again Inv-loop μ-loop

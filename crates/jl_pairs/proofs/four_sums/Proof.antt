@@ -7,8 +7,7 @@ use lib.ListN.{length, getD}
 use Rattle.lists.specs.Table.{table}
 use Rattle.lists.specs.Part.{splice}
 use Rattle.lists.proofs.Splice.{splice-nil, length-splice}
-use Rattle.jl_omega.specs.Omega.{carried}
-use Rattle.jl_pairs.specs.Pairs.{joined-row, four-entry}
+use Rattle.jl_pairs.specs.Pairs.{lowered-sum, joined-row, four-entry}
 use Rattle.jl_pairs.proofs.Column.{table-more}
 use Rattle.jl_pairs.proofs.four_sums.Statement.{statement}
 use Rattle.jl_pairs.proofs.four_sums.Tie as tie
@@ -17,13 +16,13 @@ use Rattle.jl_pairs.proofs.four_sums.Tie as tie
 joined : (pairs l before : List ℕ) (at y : ℕ) → before ≡ splice l at (table (64 * y) (four-entry pairs))
     → splice before (at + 64 * y) (joined-row pairs (64 + 4 * y)) ≡ splice l at (table (64 * (y + 1)) (four-entry pairs))
 joined pairs l before at y e =
-    let g : ℕ → ℕ = λ q. carried (getD pairs q 0) (getD pairs (64 + 4 * y + q % 4) 0) in
+    let g : ℕ → ℕ = λ q. lowered-sum (getD pairs q 0) (getD pairs (64 + 4 * y + q % 4) 0) in
     let next : 64 * y + 64 ≡ 64 * (y + 1) = omega arith in
     ap (λ b. splice b (at + 64 * y) (table 64 g)) e
     ∙ table-more l at (64 * y) 64 (four-entry pairs) g (λ q h.
     let low : q ≡ (64 * y + q) % 64 = omega arith in
     let high : 64 + 4 * y + q % 4 ≡ 64 + 4 * ((64 * y + q) / 64) + (64 * y + q) % 4 = omega arith in
-    ap₂ (λ p r. carried (getD pairs p 0) (getD pairs r 0)) low high)
+    ap₂ (λ p r. lowered-sum (getD pairs p 0) (getD pairs r 0)) low high)
     ∙ ap (λ n. splice l at (table n (four-entry pairs))) next
 
 abbrev Inv-loop : tie.InvT-loop

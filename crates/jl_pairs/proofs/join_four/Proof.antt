@@ -7,14 +7,14 @@ use lib.ListN.{length, getD}
 use Rattle.lists.specs.Table.{table}
 use Rattle.lists.specs.Part.{splice}
 use Rattle.lists.proofs.Splice.{splice-nil, length-splice}
-use Rattle.jl_omega.specs.Omega.{carried}
+use Rattle.jl_pairs.specs.Pairs.{lowered-sum}
 use Rattle.jl_pairs.proofs.Column.{entry-stored}
 use Rattle.jl_pairs.proofs.join_four.Statement.{statement}
 use Rattle.jl_pairs.proofs.join_four.Tie as tie
 
 abbrev Inv-loop : tie.InvT-loop
 Inv-loop pairs x y tables₀ at k₀ tables k =
-    (k ≤ 4) × (tables ≡ splice tables₀ at (table k (λ k. carried (getD pairs (x + k) 0) (getD pairs (y + k) 0)))) × (length tables ≡ length tables₀)
+    (k ≤ 4) × (tables ≡ splice tables₀ at (table k (λ k. lowered-sum (getD pairs (x + k) 0) (getD pairs (y + k) 0)))) × (length tables ≡ length tables₀)
 
 abbrev μ-loop : tie.MeasureT-loop
 μ-loop pairs x y tables₀ at k₀ tables k = 4 - k
@@ -27,7 +27,7 @@ loop-again : tie.Need-loop-again Inv-loop μ-loop
 loop-again c =
     let l = c .before .before .before .before .loop in
     let s = c .before .before .before .before .before .before .before .args in
-    let stored = entry-stored (s .tables .now) (l .tables) (s .at) (l .k) (λ k. carried (getD (s .pairs .now) (s .x + k) 0) (getD (s .pairs .now) (s .y + k) 0)) (c .carry-add .result) (l .inv .1) (c .carry-add .ensures) in
+    let stored = entry-stored (s .tables .now) (l .tables) (s .at) (l .k) (λ k. lowered-sum (getD (s .pairs .now) (s .x + k) 0) (getD (s .pairs .now) (s .y + k) 0)) (c .lowered-sum .result) (l .inv .1) (c .lowered-sum .ensures) in
     (omega arith, stored, ap length stored ∙ length-splice _ _ _)
 
 returns : tie.Need-returns Inv-loop μ-loop
@@ -35,7 +35,7 @@ returns c =
     let l = c .before .loop in
     let s = c .before .before .before .before .args in
     let n : l .k ≡ 4 = omega arith in
-    l .inv .1 ∙ ap (λ n. splice (s .tables .now) (s .at) (table n (λ k. carried (getD (s .pairs .now) (s .x + k) 0) (getD (s .pairs .now) (s .y + k) 0)))) n
+    l .inv .1 ∙ ap (λ n. splice (s .tables .now) (s .at) (table n (λ k. lowered-sum (getD (s .pairs .now) (s .x + k) 0) (getD (s .pairs .now) (s .y + k) 0)))) n
 
 pub join-four-spec : {M : Type 1} → statement M
 join-four-spec =

@@ -7,28 +7,27 @@ use lib.ListN.{length, getD}
 use Rattle.lists.specs.Table.{table}
 use Rattle.lists.specs.Part.{splice}
 use Rattle.lists.proofs.Splice.{splice-nil, length-splice}
-use Rattle.jl_omega.specs.Omega.{carried}
-use Rattle.jl_pairs.specs.Pairs.{joined-sums}
+use Rattle.jl_pairs.specs.Pairs.{lowered-sum, joined-sums}
 use Rattle.jl_pairs.proofs.Column.{table-more}
 use Rattle.jl_pairs.proofs.join_row.Statement.{statement}
 use Rattle.jl_pairs.proofs.join_row.Tie as tie
 
 -- the entries for one more number
-joined : (pairs l before : List ℕ) (y at x : ℕ) → before ≡ splice l at (table (4 * x) (λ q. carried (getD pairs q 0) (getD pairs (y + q % 4) 0)))
-    → splice before (at + 4 * x) (joined-sums pairs (4 * x) y) ≡ splice l at (table (4 * (x + 1)) (λ q. carried (getD pairs q 0) (getD pairs (y + q % 4) 0)))
+joined : (pairs l before : List ℕ) (y at x : ℕ) → before ≡ splice l at (table (4 * x) (λ q. lowered-sum (getD pairs q 0) (getD pairs (y + q % 4) 0)))
+    → splice before (at + 4 * x) (joined-sums pairs (4 * x) y) ≡ splice l at (table (4 * (x + 1)) (λ q. lowered-sum (getD pairs q 0) (getD pairs (y + q % 4) 0)))
 joined pairs l before y at x e =
-    let f : ℕ → ℕ = λ q. carried (getD pairs q 0) (getD pairs (y + q % 4) 0) in
-    let g : ℕ → ℕ = λ k. carried (getD pairs (4 * x + k) 0) (getD pairs (y + k) 0) in
+    let f : ℕ → ℕ = λ q. lowered-sum (getD pairs q 0) (getD pairs (y + q % 4) 0) in
+    let g : ℕ → ℕ = λ k. lowered-sum (getD pairs (4 * x + k) 0) (getD pairs (y + k) 0) in
     let next : 4 * x + 4 ≡ 4 * (x + 1) = omega arith in
     ap (λ b. splice b (at + 4 * x) (table 4 g)) e
     ∙ table-more l at (4 * x) 4 f g (λ k h.
     let rest : k ≡ (4 * x + k) % 4 = omega arith in
-    ap (λ q. carried (getD pairs (4 * x + k) 0) (getD pairs (y + q) 0)) rest)
+    ap (λ q. lowered-sum (getD pairs (4 * x + k) 0) (getD pairs (y + q) 0)) rest)
     ∙ ap (λ n. splice l at (table n f)) next
 
 abbrev Inv-loop : tie.InvT-loop
 Inv-loop pairs y tables₀ at x₀ tables x =
-    (x ≤ 16) × (tables ≡ splice tables₀ at (table (4 * x) (λ q. carried (getD pairs q 0) (getD pairs (y + q % 4) 0)))) × (length tables ≡ length tables₀)
+    (x ≤ 16) × (tables ≡ splice tables₀ at (table (4 * x) (λ q. lowered-sum (getD pairs q 0) (getD pairs (y + q % 4) 0)))) × (length tables ≡ length tables₀)
 
 abbrev μ-loop : tie.MeasureT-loop
 μ-loop pairs y tables₀ at x₀ tables x = 16 - x
@@ -49,7 +48,7 @@ returns c =
     let l = c .before .loop in
     let s = c .before .before .before .before .args in
     let n : 4 * l .x ≡ 64 = omega arith in
-    l .inv .1 ∙ ap (λ n. splice (s .tables .now) (s .at) (table n (λ q. carried (getD (s .pairs .now) q 0) (getD (s .pairs .now) (s .y + q % 4) 0)))) n
+    l .inv .1 ∙ ap (λ n. splice (s .tables .now) (s .at) (table n (λ q. lowered-sum (getD (s .pairs .now) q 0) (getD (s .pairs .now) (s .y + q % 4) 0)))) n
 
 pub join-row-spec : {M : Type 1} → statement M
 join-row-spec =

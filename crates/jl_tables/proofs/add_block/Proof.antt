@@ -25,7 +25,7 @@ loop-holds c = (omega arith, sym (splice-nil _ _), refl)
 add-column-requires : tie.Need-add-column-requires Inv-loop μ-loop
 add-column-requires c κs =
     let h = c .before .before .before .before .before .before .pre in
-    (h .0, h .1, omega arith, omega arith)
+    (h .0, h .1, omega arith, omega arith, h .3)
 
 loop-again : tie.Need-loop-again Inv-loop μ-loop
 loop-again c =

@@ -25,7 +25,7 @@ loop-holds c = (omega arith, sym (splice-nil _ _), refl)
 add-terms-requires : tie.Need-add-terms-requires Inv-loop μ-loop
 add-terms-requires c κs =
     let h = c .before .before .before .before .before .before .pre in
-    (h .0, h .1, h .2, omega arith)
+    (h .0, h .1, h .2, omega arith, h .4)
 
 loop-again : tie.Need-loop-again Inv-loop μ-loop
 loop-again c =

@@ -34,6 +34,7 @@ add-block-requires c κs =
       c .before .before .before .before .before .before .before .before .before .before .pre .1,
       places-below (s .randomness .now) _ (s .row-at + 64 * c .before .before .before .before .before .before .loop .m) (64 * s .n) words (c .before .before .before .row-places .ensures),
       omega arith,
+      c .before .before .before .before .before .before .before .before .before .before .pre .3,
     )
 
 loop-again : tie.Need-loop-again Inv-loop μ-loop

@@ -50,7 +50,7 @@ add-terms-spec =
     (λ c. omega (arith, c .wide-usize .ensures, c .before .before .before .before .before .before .pre .1 .1 (64 * c .before .before .before .loop .t + c .before .before .before .before .before .before .args .w) (omega arith)))
     (λ c. omega (arith, c .wide-usize .ensures, c .before .before .before .before .before .before .pre .1 .1 (64 * c .before .before .before .loop .t + c .before .before .before .before .before .before .args .w) (omega arith)))
     (λ c. omega (arith, c .before .wide-usize .ensures, c .before .before .before .before .before .before .before .pre .1 .1 (64 * c .before .before .before .before .loop .t + c .before .before .before .before .before .before .before .args .w) (omega arith)))
-    (λ c κs. search needs)
+    (λ c κs. c .before .before .before .before .before .before .before .pre .4 _ (omega (arith, c .before .wide-usize .ensures, c .before .before .before .before .before .before .before .pre .1 .1 (64 * c .before .before .before .before .loop .t + c .before .before .before .before .before .before .before .args .w) (omega arith))))
     (λ c. omega arith)
     (λ c. omega arith)
     loop-again

@@ -79,7 +79,7 @@ inner-product-requires c κs =
     let n = s .args .parts in
     let v = s .args .v .now in
     let digits = part v (l .from) (l .from + 64 * n - l .from) in
-    let few : n ≤ 2 ^ 20 = omega (arith, within i .2) in
+    let few : n ≤ 2 ^ 18 = omega (arith, within i .2) in
     let small : s .args .half ≤ 2 ^ 15 → SmallDigits (s .args .half) digits n =
     λ h. subst (λ x. SmallDigits (s .args .half) x n) (sym (lent i ∙ ap (λ a. part v a (64 * n)) (l .inv .2))) (s .pre .2 .small h (l .c) (i .loop-test .taken)) in (
       row-run (s .args .matrix .now) (l .column) n (within i .1) few (omega arith),

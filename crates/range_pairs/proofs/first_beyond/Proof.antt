@@ -1,4 +1,4 @@
--- `first_beyond` meets its contract. The invariant: no number of the first j pairs is beyond ±2147483647.
+-- `first_beyond` meets its contract. The invariant: each number of the first j pairs is a centre.
 use mathlib.Core.Path.{_≡_, refl, sym, _∙_, ap, ap₂}
 use mathlib.Core.Bool.{Bool, cond, _||_}
 use mathlib.Core.List.{List}

@@ -1,7 +1,7 @@
 //! The verdict on top of the page, and what the page rests on at its end.
 
 use labrador::section_one::SectionOne;
-use labrador::Verdict;
+use labrador::{Verdict, Q};
 
 use super::html::escape;
 use super::{Report, SLICES};
@@ -90,10 +90,11 @@ fn sentence(text: &str) -> String {
 }
 
 pub fn footer() -> String {
-    "<footer>\n<p>The verdict is the answer of the proved call labrador_verify, and the norms are taken of the transcript's words \
+    format!(
+        "<footer>\n<p>The verdict is the answer of the proved call labrador_verify, and the norms are taken of the transcript's words \
      by the proved calls labrador_rq_norm, labrador_rq_digits and labrador_rq_left. The layout of this page, its sentences and the review of the \
      job are made by a program that is not proved. The randomness is taken as it was handed in: a verdict forces nothing \
      where the sender could choose it. Rows, vectors, cells, elements, coefficients and words count from 0. \
-     Q is 4294967295.</p>\n</footer>\n"
-        .to_string()
+     Q is {Q}.</p>\n</footer>\n"
+    )
 }

@@ -2,7 +2,7 @@
 
 use labrador::{prove, Parameters, Slice};
 
-use crate::common::{begin, made, with_answer};
+use crate::common::{begin, made, over, with_answer, ONE, THINGS};
 use crate::desk::Desk;
 use crate::run::run;
 
@@ -18,21 +18,28 @@ fn three(name: &str) -> Desk {
     desk
 }
 
+/// What two transcripts are worth together.
+const TWO: &str = over("1 in 6,561 (12.7 bits)", "1 in 2^254.2 (254.2 bits)");
+
 const THREE: &str = "verify-many --job job r1 t1 r2 t2 r3 t3";
 
 #[test]
 fn all_accepted_is_0() {
     let desk = three("many_accepted");
     let told = run(&desk, THREE);
-    let drawn = "if the desk drew the randomness and nothing was tried again; 10 things that the job does not force\n";
-    let line = format!("labrador: 3 of 3 transcripts accepted; together: 1 in 531,441 (19.0 bits), {drawn}");
+    let drawn = format!(
+        "if the desk drew the randomness and nothing was tried again; {THINGS} things that the job does not force\n"
+    );
+    let three = over("1 in 531,441 (19.0 bits)", "1 in 2^381.3 (381.3 bits)");
+    let line = format!("labrador: 3 of 3 transcripts accepted; together: {three}, {drawn}");
     assert_eq!((told.status, told.line), (0, line));
-    let good = "accepted; one transcript: 1 in 81; 10 things that the job does not force";
+    let good = format!("accepted; one transcript: {ONE}; {THINGS} things that the job does not force");
     assert_eq!(told.out, format!("t1: {good}\nt2: {good}\nt3: {good}\n"));
-    let line = format!("labrador: 1 of 1 transcripts accepted; together: 1 in 81 (6.3 bits), {drawn}");
+    let bits = over("6.3", "127.1");
+    let line = format!("labrador: 1 of 1 transcripts accepted; together: {ONE} ({bits} bits), {drawn}");
     assert_eq!(run(&desk, "verify-many --job job r2 t2").line, line);
     let json = run(&desk, &format!("{THREE} --json")).out;
-    for part in ["\"accepted\":3,\"counted\":3,\"together\":\"1 in 531,441 (19.0 bits)\"", "\"warnings\":[]"] {
+    for part in [&format!("\"accepted\":3,\"counted\":3,\"together\":\"{three}\""), "\"warnings\":[]"] {
         assert!(json.contains(part), "{part}: {json}");
     }
     let strict = run(&desk, &format!("{THREE} --strict"));
@@ -41,7 +48,7 @@ fn all_accepted_is_0() {
 }
 
 #[test]
-fn eight_give_50_bits() {
+fn eight_give_their_bits() {
     let case = with_answer(0);
     let desk = Desk::with("many_eight", &case);
     let mut call = "verify-many --job job".to_string();
@@ -51,7 +58,8 @@ fn eight_give_50_bits() {
         desk.put(&format!("t{k}"), &prove(&case.job, &randomness, &case.witness).unwrap());
         call += &format!(" r{k} t{k}");
     }
-    let line = "labrador: 8 of 8 transcripts accepted; together: 1 in 1.9·10^15 (50.7 bits), if the desk drew";
+    let eight = over("1 in 1.9·10^15 (50.7 bits)", "1 in 2^1016.7 (1016.7 bits)");
+    let line = &format!("labrador: 8 of 8 transcripts accepted; together: {eight}, if the desk drew");
     let told = run(&desk, &call);
     assert!(told.status == 0 && told.line.starts_with(line), "{}", told.line);
 }
@@ -70,8 +78,10 @@ fn what_is_handed_in_twice_counts_once() {
     let lines = [
         "labrador: warning: t4 has the transcript of t1: the two count once",
         "labrador: warning: t5 has section psi of the randomness of t2: the two count once",
-        "labrador: 4 of 4 transcripts accepted, 2 of them counted; together: 1 in 6,561 (12.7 bits), if the desk drew the randomness and nothing \
-         was tried again; 10 things that the job does not force",
+        &format!(
+            "labrador: 4 of 4 transcripts accepted, 2 of them counted; together: {TWO}, if the desk drew the randomness and nothing \
+             was tried again; {THINGS} things that the job does not force"
+        ),
     ];
     assert_eq!(told.line.lines().collect::<Vec<_>>(), lines);
     assert_eq!((told.status, told.out.lines().count()), (0, 4));
@@ -90,7 +100,7 @@ fn zero_weights_count_nothing() {
     let warning = "labrador: warning: t2: beta is all zero in the randomness: the constant-term constraints and the projection p were not tested";
     assert_eq!(lines[0], warning);
     assert!(
-        lines[1].starts_with("labrador: 3 of 3 transcripts accepted, 2 of them counted; together: 1 in 6,561 "),
+        lines[1].starts_with(&format!("labrador: 3 of 3 transcripts accepted, 2 of them counted; together: {TWO}, ")),
         "{}",
         told.line
     );
@@ -104,7 +114,7 @@ fn zero_weights_count_nothing() {
 fn told_of(accepted: u32) -> String {
     format!(
         "labrador: {accepted} of 3 transcripts accepted; what they are worth together is said only where all are accepted, and nothing was tried \
-         again; 10 things that the job does not force\n"
+         again; {THINGS} things that the job does not force\n"
     )
 }
 

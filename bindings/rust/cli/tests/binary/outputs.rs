@@ -5,7 +5,7 @@ use std::fs;
 use std::os::unix::fs::PermissionsExt;
 use std::process::Command;
 
-use crate::common::with_answer;
+use crate::common::{with_answer, ONE, THINGS};
 use crate::desk::Desk;
 use crate::run::{ran, run, BINARY, LOAD, PROVE, VERIFY};
 
@@ -81,9 +81,9 @@ fn no_room_on_the_disk_leaves_nothing() {
     let told = shell(format!("{VERIFY} --report page.html"));
     assert_eq!(told.status, 3);
     assert!(
-        told.line.starts_with(
-            "labrador: accepted; one transcript: 1 in 81; 10 things that the job does not force, but the page was not written: "
-        ),
+        told.line.starts_with(&format!(
+            "labrador: accepted; one transcript: {ONE}; {THINGS} things that the job does not force, but the page was not written: "
+        )),
         "{}",
         told.line
     );

@@ -2,9 +2,9 @@
 
 use std::fs;
 
-use labrador::{Parameters, Slice};
+use labrador::{Parameters, Slice, Q};
 
-use crate::common::{begin, made, with_answer};
+use crate::common::{begin, made, over, with_answer, ONE, THINGS};
 use crate::desk::Desk;
 use crate::run::{run, VERIFY};
 
@@ -26,17 +26,22 @@ fn marks(page: &str) -> [usize; 3] {
 #[test]
 fn an_accepted_transcript() {
     let page = page_of(&desk_of("page", 0));
-    let headline = "Accepted; one transcript: 1 in 81; 10 things that the job does not force";
+    let headline = format!("Accepted; one transcript: {ONE}; {THINGS} things that the job does not force");
     assert!(page.contains(&format!("<title>{headline}</title>")));
     assert!(page.contains(&format!("<h1><span aria-hidden=\"true\">✓</span> {headline}</h1>")), "{page}");
-    let worth = "One accepted transcript leaves a false statement a chance of at least 1 in 81; 64 bits need at least 11 transcripts of this job, each \
-                 with randomness of its own that the desk draws round after round, all accepted, no retry.";
-    assert!(page.contains(worth), "{page}");
+    let needed = over(
+        "at least 11 transcripts of this job, each with randomness of its own that the desk draws round after round, all accepted, no retry.",
+        "at least 1 transcript of this job, with randomness that the desk draws round after round, and no retry.",
+    );
+    let worth =
+        format!("One accepted transcript leaves a false statement a chance of at least {ONE}; 64 bits need {needed}");
+    assert!(page.contains(&worth), "{page}");
+    assert!(page.contains(&format!("Q is {Q}.")));
     assert_eq!(marks(&page), [13, 0, 0]);
     assert_eq!(page.matches("(condition)").count(), 4);
     assert_eq!(page.matches("✓ passed</span> (can never fail)").count(), 5);
     assert_eq!(page.matches("<div class=\"bar\">").count(), 5);
-    assert_eq!(page.matches("<li>").count(), 6);
+    assert_eq!(page.matches("<li>").count(), over(6, 4));
     assert!(page.contains("<li>tests 21, 23, 14, 15 and 16 can never fail: these limits limit nothing</li>"));
     assert!(page.contains("Cells of t, g and h with something left after their digits: 0 of 24."));
 }
@@ -45,7 +50,9 @@ fn an_accepted_transcript() {
 fn an_acceptance_that_is_worth_nothing_is_no_green_one() {
     let desk = Desk::with("page_worthless", &made(&Parameters { n: 10, r: 2, ..Parameters::SMALL }, 7));
     let page = page_of(&desk);
-    let headline = "Accepted; one transcript: 1 in 1 (worth nothing); 11 things that the job does not force";
+    let things = THINGS + 1;
+    let headline =
+        format!("Accepted; one transcript: 1 in 1 (worth nothing); {things} things that the job does not force");
     assert!(
         page.contains(&format!("<header class=\"refused\">\n<h1><span aria-hidden=\"true\">!</span> {headline}</h1>"))
     );
@@ -66,10 +73,11 @@ fn no_finding_is_cut_without_its_count() {
     }
     let desk = Desk::with("page_cut", &case);
     let page = page_of(&desk);
-    // five of the 22 in one item, and six more; the others are counted
-    assert!(page.contains("22 found, the worst first: what an acceptance leaves open."), "{page}");
+    // five of them in one item, and six more; the others are counted
+    let (all, more) = over((22, 11), (20, 9));
+    assert!(page.contains(&format!("{all} found, the worst first: what an acceptance leaves open.")), "{page}");
     assert_eq!(page.matches("<li>").count(), 8);
-    assert!(page.contains("<li>and 11 more: labrador review lists them all</li>"), "{page}");
+    assert!(page.contains(&format!("<li>and {more} more: labrador review lists them all</li>")), "{page}");
 }
 
 #[test]

@@ -3,6 +3,7 @@
 use std::path::Path;
 use std::process::Command;
 
+use crate::common::over;
 use crate::desk::Desk;
 use crate::run::{ran, BINARY};
 
@@ -15,6 +16,9 @@ fn part_of<'a>(readme: &'a str, heading: &str) -> &'a str {
 #[cfg(unix)]
 #[test]
 fn the_commands_of_the_readme_say_what_it_says() {
+    if over(false, true) {
+        return println!("not tried: the README, whose figures are of 4294967295");
+    }
     let root = Path::new(env!("CARGO_MANIFEST_DIR")).join("../../..");
     let readme = std::fs::read_to_string(root.join("README.md")).expect("the README");
     let part = part_of(&readme, "From the command line");

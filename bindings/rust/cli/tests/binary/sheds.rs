@@ -6,6 +6,7 @@ use std::os::unix::fs::PermissionsExt;
 use std::path::Path;
 use std::process::Command;
 
+use crate::common::over;
 use crate::desk::Desk;
 use crate::run::{ran, run, BINARY, LOAD, PROVE};
 
@@ -137,6 +138,9 @@ fn damaged_files_of_a_shed_are_answered() {
 /// The page's commands in a folder of their own: each line that is indented is typed, but for those that are said.
 #[test]
 fn the_commands_of_the_page_say_what_it_says() {
+    if over(false, true) {
+        return println!("not tried: docs/SHEDS.md, whose figures are of 4294967295");
+    }
     let root = Path::new(env!("CARGO_MANIFEST_DIR")).join("../../..");
     let page = fs::read_to_string(root.join("docs/SHEDS.md")).expect("the page");
     let indented: Vec<&str> = page.lines().filter_map(|line| line.strip_prefix("    ")).collect();

@@ -1,6 +1,6 @@
 //! Exit statuses and the one line on standard error.
 
-use crate::common::with_answer;
+use crate::common::{over, with_answer, ONE, THINGS};
 use crate::desk::Desk;
 use crate::run::{run, LOAD, PROVE, VERIFY};
 
@@ -17,14 +17,17 @@ fn a_load_of_own_parameters_is_proved_and_accepted() {
     assert_eq!(desk.words("rounds"), desk.words("transcript"));
     let verdict = run(&desk, VERIFY);
     // no constant-term constraints, so no total and no psi
-    let line = "labrador: accepted; one transcript: 1 in 86; 9 things that the job does not force\n";
-    assert_eq!((verdict.status, verdict.line.as_str()), (0, line));
+    let (one, things) = over(("1 in 86", 9), (ONE, THINGS));
+    let line = format!("labrador: accepted; one transcript: {one}; {things} things that the job does not force\n");
+    assert_eq!((verdict.status, verdict.line), (0, line));
 }
 
 #[test]
 fn a_load_takes_l_apart_from_kappa() {
     let desk = Desk::new("l_apart");
-    let loads = [("kappa=2 L=9", 2, 9, 10), ("log_q=16", 4, 8, 10), ("log_q=16 L=11 kappa=1", 1, 11, 11)];
+    let loads =
+        [("kappa=2 L=9", 2, 9, THINGS), ("log_q=16", 4, 8, THINGS), ("log_q=16 L=11 kappa=1", 1, 11, THINGS + 1)];
+    let one = over("1 in 86", ONE);
     for (given, kappa, rows, things) in loads {
         let made = run(&desk, &format!("{LOAD} n=2 r=2 --force {given}"));
         assert_eq!(made.status, 0, "{}", made.line);
@@ -32,8 +35,7 @@ fn a_load_takes_l_apart_from_kappa() {
         assert_eq!((job[0], job[3], job[12]), (30, kappa, rows), "{given}");
         assert_eq!(run(&desk, &format!("{PROVE} --transcript transcript --force")).status, 0);
         let verdict = run(&desk, VERIFY);
-        let line =
-            format!("labrador: accepted; one transcript: 1 in 86; {things} things that the job does not force\n");
+        let line = format!("labrador: accepted; one transcript: {one}; {things} things that the job does not force\n");
         assert_eq!((verdict.status, verdict.line), (0, line));
     }
     let described = run(&desk, "describe job --json").out;
@@ -49,8 +51,10 @@ fn an_acceptance_says_its_cells() {
     assert_eq!(run(&desk, &format!("{PROVE} --transcript transcript")).status, 0);
     let verdict = run(&desk, &format!("{VERIFY} --json --report page.html"));
     // 8 cells of t and 3 of h
-    let line = "labrador: accepted; one transcript: 1 in 81; 11 things that the job does not force; 11 cells with something left\n";
-    assert_eq!((verdict.status, verdict.line.as_str()), (0, line));
+    let things = THINGS + 1;
+    let line =
+        format!("labrador: accepted; one transcript: {ONE}; {things} things that the job does not force; 11 cells with something left\n");
+    assert_eq!((verdict.status, verdict.line), (0, line));
     assert!(verdict.out.contains("\"verdict\":\"accepted\",\"number\":0,\"cells_left\":11,"), "{}", verdict.out);
     let page = std::fs::read_to_string(desk.path("page.html")).unwrap();
     assert!(page.contains("Cells of t, g and h with something left after their digits: 11 of 14. The commitments"));
@@ -69,7 +73,7 @@ fn each_verdict_has_its_status_and_line() {
         assert_eq!(verdict.status, status, "{}", verdict.line);
         assert_eq!(verdict.line.lines().count(), 1);
         let told = match number {
-            0 => "labrador: accepted; one transcript: 1 in 81; 10 things that the job does not force\n".to_string(),
+            0 => format!("labrador: accepted; one transcript: {ONE}; {THINGS} things that the job does not force\n"),
             1..=16 => format!("labrador: refusal {number}: "),
             _ => format!("labrador: check {number} failed: "),
         };

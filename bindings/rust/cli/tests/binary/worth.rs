@@ -4,7 +4,7 @@ use labrador::norms::norms;
 use labrador::section_one::SectionOne;
 use labrador::{prove, Parameters, Slice};
 
-use crate::common::{begin, made, set_bound, with_answer, Case};
+use crate::common::{begin, made, over, set_bound, with_answer, Case, ONE, THINGS};
 use crate::desk::Desk;
 use crate::run::{run, VERIFY};
 
@@ -25,7 +25,7 @@ fn tight() -> Case {
 #[test]
 fn strict_fails_where_a_check_can_never_fail() {
     let desk = Desk::with("strict", &with_answer(0));
-    let accepted = "labrador: accepted; one transcript: 1 in 81; 10 things that the job does not force";
+    let accepted = format!("labrador: accepted; one transcript: {ONE}; {THINGS} things that the job does not force");
     let lenient = run(&desk, VERIFY);
     assert_eq!((lenient.status, lenient.line), (0, format!("{accepted}\n")));
     let strict = run(&desk, &format!("{VERIFY} --strict"));
@@ -33,9 +33,12 @@ fn strict_fails_where_a_check_can_never_fail() {
     assert_eq!((strict.status, strict.line), (1, line));
     let json = run(&desk, &format!("{VERIFY} --strict --json")).out;
     assert!(json.starts_with("{\"status\":1,"), "{json}");
-    let fields = "\"cells_left\":0,\"one_transcript\":\"1 in 81\",\"transcripts_for_64_bits\":11,\"never_fail\":[21,23,14,15,16],\
-                  \"findings\":[\"check 21 can never fail";
-    assert!(json.contains(fields), "{json}");
+    let fields = format!(
+        "\"cells_left\":0,\"one_transcript\":\"{ONE}\",\"transcripts_for_64_bits\":{},\"never_fail\":[21,23,14,15,16],\
+         \"findings\":[\"check 21 can never fail",
+        over(11, 1)
+    );
+    assert!(json.contains(&fields), "{json}");
 }
 
 #[test]
@@ -75,7 +78,8 @@ fn weights_that_are_all_zero_are_told() {
         let desk = Desk::with(&format!("zero_{name}"), &case);
         let verdict = run(&desk, &format!("{VERIFY} --json --report page.html"));
         let warning = format!("{name} is all zero in the randomness: {untested} not tested");
-        let accepted = "accepted; one transcript: 1 in 1 (worth nothing); 10 things that the job does not force";
+        let accepted =
+            format!("accepted; one transcript: 1 in 1 (worth nothing); {THINGS} things that the job does not force");
         assert_eq!(verdict.line, format!("labrador: warning: {warning}\nlabrador: {accepted}\n"));
         assert_eq!(verdict.status, 0);
         assert!(verdict.out.contains(&format!("\"warnings\":[\"{warning}\"]")), "{}", verdict.out);
@@ -113,7 +117,10 @@ fn a_false_ring_total_passes_where_alpha_is_zero() {
 #[test]
 fn what_passes_for_certain_is_worth_nothing() {
     let desk = Desk::with("certain", &made(&Parameters { n: 10, r: 2, ..Parameters::SMALL }, 3));
-    let line = "labrador: accepted; one transcript: 1 in 1 (worth nothing); 11 things that the job does not force\n";
+    let things = THINGS + 1;
+    let line = format!(
+        "labrador: accepted; one transcript: 1 in 1 (worth nothing); {things} things that the job does not force\n"
+    );
     let verdict = run(&desk, VERIFY);
-    assert_eq!((verdict.status, verdict.line.as_str()), (0, line));
+    assert_eq!((verdict.status, verdict.line), (0, line));
 }

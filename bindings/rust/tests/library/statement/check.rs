@@ -2,7 +2,7 @@
 
 use labrador::review::Kind;
 use labrador::statement::{check, Stock};
-use labrador::{prove, verify, Parameters, Slice, Q};
+use labrador::{prove, verify, Parameters, Slice, HALF, Q};
 
 use super::{head, parsed, P};
 use crate::common::{begin, made, set_bound};
@@ -25,10 +25,10 @@ fn totals_met_and_missed() {
 #[test]
 fn a_total_that_is_met_modulo_q_alone() {
     let job = parsed(&(head() + "total -1 = 2*s0\n")).job();
-    let witness = Stock::new(&P, &[2147483647]).unwrap().witness();
+    let witness = Stock::new(&P, &[HALF.into()]).unwrap().witness();
     let side = check(&job, &witness).unwrap().sides[0].clone();
     assert!(side.is_met());
-    assert_eq!((side.left, side.total.unwrap().1), (-1, 4294967294));
+    assert_eq!((side.left, side.total.unwrap().1), (-1, i128::from(Q) - 1));
 }
 
 /// Both kinds of constraints of test loads, which their witness meets, with one right side raised.

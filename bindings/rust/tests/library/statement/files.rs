@@ -1,6 +1,7 @@
 //! What a file may be.
 
 use labrador::statement::{Lines, Statement, Term, Total};
+use labrador::{HALF, Q};
 
 use super::{head, parsed, three, P};
 
@@ -16,7 +17,7 @@ fn a_file_is_read_whole() {
         Total { right: -7, terms: vec![term(3, run(1, 0, 64)), term(-1, run(2, 5, 6))] },
         Total {
             right: 12,
-            terms: vec![term(1, run(0, 1, 2)), term(1, run(0, 1, 2)), term(2147483647, Lines::All { vector: 2 })],
+            terms: vec![term(1, run(0, 1, 2)), term(1, run(0, 1, 2)), term(HALF.into(), Lines::All { vector: 2 })],
         },
     ];
     assert_eq!(statement.totals(), totals);
@@ -67,11 +68,12 @@ fn numbers_have_any_number_of_zeros_before_them() {
 
 #[test]
 fn the_limits_are_taken() {
-    let text =
-        three().replace("b 256", "b 4294967294").replace("bound_A 1000000", &format!("bound_A {}", (1u128 << 96) - 1));
-    let statement = parsed(&text.replace("total 600", "total -2147483647"));
-    assert_eq!((statement.parameters().b, statement.bounds()[2]), (4294967294, (1 << 96) - 1));
-    assert_eq!(statement.totals()[0].right, -2147483647);
+    let text = three()
+        .replace("b 256", &format!("b {}", Q - 1))
+        .replace("bound_A 1000000", &format!("bound_A {}", (1u128 << 96) - 1));
+    let statement = parsed(&text.replace("total 600", &format!("total -{HALF}")));
+    assert_eq!((statement.parameters().b, statement.bounds()[2]), (Q - 1, (1 << 96) - 1));
+    assert_eq!(statement.totals()[0].right, -i64::from(HALF));
     let text = head() + &"total 0 = 0*s0[127..128]\n".repeat(64);
     assert_eq!(parsed(&text).parameters().l, 64);
 }

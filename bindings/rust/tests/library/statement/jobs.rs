@@ -4,7 +4,7 @@ use labrador::review::Kind;
 use labrador::section_one::SectionOne;
 use labrador::sections::words_of;
 use labrador::statement::{totals, NoStatement, NoTotal, Said, Seed, Statement};
-use labrador::{load, output_need, Element, Parameters, Slice, Q};
+use labrador::{load, output_need, Element, Parameters, Slice, HALF, Q};
 
 use super::{head, parsed, three, P, SEED};
 use crate::common::begin;
@@ -46,15 +46,16 @@ fn the_words_of_a_total() {
 
 #[test]
 fn factors_add_up_modulo_q() {
-    let most = "2147483647*s0[3]";
+    let most = format!("{HALF}*s0[3]");
     let job = parsed(&(head() + &format!("total 1 = {most} + {most} + {most} + s1 - s1 + 4*s2[1] - 3*s2\n"))).job();
     let phi = of("phi'", &job);
-    // 3·2147483647 is 2147483646 modulo Q
-    assert_eq!(phi[61], Q - 2147483646);
+    // three times (Q - 1)/2 is one less than that modulo Q
+    let less = HALF - 1;
+    assert_eq!(phi[61], Q - less);
     assert!(phi[128..256].iter().all(|&word| word == 0));
     assert_eq!(
         Said::of_job(&job).unwrap().totals()[0].to_string(),
-        "total 1 = 2147483646 * s0[3] - 3 * s2[0] + s2[1] - 3 * s2[2..128]"
+        format!("total 1 = {less} * s0[3] - 3 * s2[0] + s2[1] - 3 * s2[2..128]")
     );
 }
 

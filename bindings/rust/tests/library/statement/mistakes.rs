@@ -2,6 +2,7 @@
 
 use labrador::section_one::{BOUNDS, PARAMETERS};
 use labrador::statement::{text_of, Fault, Found, Statement};
+use labrador::{HALF, Q};
 
 use super::{head, three, SEED, TOTAL};
 
@@ -101,9 +102,9 @@ fn parameters_out_of_their_limits() {
             assert!(told.ends_with(&may), "{told}");
         }
     }
-    let b = "b is a number from 2 to 4294967294";
+    let b = format!("b is a number from 2 to {}", Q - 1);
     assert_eq!(with("b", "b 1"), format!("line 8, column 3: 1 stands there; {b}"));
-    assert_eq!(with("b", "b 4294967295"), format!("line 8, column 3: 4294967295 stands there; {b}"));
+    assert_eq!(with("b", &format!("b {Q}")), format!("line 8, column 3: {Q} stands there; {b}"));
     assert_eq!(with("b", "b"), format!("line 8, column 2: the line's end stands there; {b}"));
     assert_eq!(with("b", "b   # 4"), format!("line 8, column 5: a comment stands there; {b}"));
     for wrong in ["two", "-2", "+2", "2.0", "2_0", "0x10", "1e3", "=2", "２"] {
@@ -146,10 +147,11 @@ fn bounds_and_seeds() {
 
 #[test]
 fn totals_without_their_parts() {
-    let right = "a total is a number from -2147483647 to 2147483647";
+    let right = format!("a total is a number from -{HALF} to {HALF}");
     assert_eq!(in_total("total"), format!("column 6: the line's end stands there; {right}"));
     assert_eq!(in_total("total = s0"), format!("column 7: = stands there; {right}"));
-    for wrong in ["2147483648", "-2147483648", "+5", "--5", "x", "5.5"] {
+    let above = [format!("{}", HALF + 1), format!("-{}", HALF + 1)];
+    for wrong in above.iter().map(String::as_str).chain(["+5", "--5", "x", "5.5"]) {
         assert_eq!(
             in_total(&format!("total {wrong} = s0")),
             format!("column 7: {} stands there; {right}", wrong.replace("--5", "-"))
@@ -175,8 +177,9 @@ fn terms() {
     assert_eq!(in_total("total 5 = s0 * 3"), format!("column 14: * stands there; {sign}"));
     assert_eq!(in_total("total 5 = s0 = s1"), format!("column 14: = stands there; {sign}"));
     assert_eq!(in_total("total 5 = s0 total 6 = s1"), format!("column 14: total stands there; {sign}"));
-    let factor = "a factor is a number from 0 to 2147483647";
-    assert_eq!(in_total("total 5 = 2147483648 * s0"), format!("column 11: 2147483648 stands there; {factor}"));
+    let factor = format!("a factor is a number from 0 to {HALF}");
+    let above = HALF + 1;
+    assert_eq!(in_total(&format!("total 5 = {above} * s0")), format!("column 11: {above} stands there; {factor}"));
     assert_eq!(in_total("total 5 = 3s0"), format!("column 11: 3s0 stands there; {factor}"));
     assert_eq!(in_total("total 5 = 3.5 * s0"), format!("column 11: 3.5 stands there; {factor}"));
     let times = "behind a factor stands *";

@@ -2,7 +2,7 @@
 
 use labrador::section_one::BOUNDS;
 use labrador::statement::Statement;
-use labrador::Parameters;
+use labrador::{Parameters, HALF};
 
 mod bounds;
 mod check;
@@ -30,7 +30,8 @@ pub fn head() -> String {
 pub const TOTAL: usize = 19;
 
 pub fn three() -> String {
-    head() + "total 600 = s0\ntotal -7 = 3 * s1[0..64] - s2[5]\ntotal 12 = s0[1] + s0[1] + 2147483647 * s2\n"
+    let last = format!("total 12 = s0[1] + s0[1] + {HALF} * s2\n");
+    head() + "total 600 = s0\ntotal -7 = 3 * s1[0..64] - s2[5]\n" + &last
 }
 
 pub fn parsed(text: &str) -> Statement {

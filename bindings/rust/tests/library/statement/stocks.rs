@@ -1,7 +1,7 @@
 //! Stock lists.
 
 use labrador::statement::Stock;
-use labrador::{Parameters, Slice, Q};
+use labrador::{Parameters, Slice, HALF, Q};
 
 use super::P;
 
@@ -27,8 +27,8 @@ fn with(numbers: &[(usize, u32)]) -> Vec<u32> {
 fn a_number_a_line() {
     assert_eq!(witness(""), with(&[]));
     assert_eq!(witness("# nothing\n\n"), with(&[]));
-    let list = "5\n-3\r\n\n+2147483647 # most\n\t-2147483647\n-0\n0007";
-    assert_eq!(witness(list), with(&[(0, 5), (1, Q - 3), (2, 2147483647), (3, 2147483648), (5, 7)]));
+    let list = format!("5\n-3\r\n\n+{HALF} # most\n\t-{HALF}\n-0\n0007");
+    assert_eq!(witness(&list), with(&[(0, 5), (1, Q - 3), (2, HALF), (3, HALF + 1), (5, 7)]));
     let all: String = (0..128).map(|k| format!("{k}\n")).collect();
     assert_eq!(witness(&all)[1..], (0..128).collect::<Vec<u32>>());
     assert_eq!(witness(&all).len() as u64, Slice::Witness.length(&SHORT));
@@ -43,10 +43,11 @@ fn vector_line_and_number() {
 
 #[test]
 fn mistakes_with_their_place() {
-    let number = "a line of stock has a number from -2147483647 to 2147483647";
+    let number = format!("a line of stock has a number from -{HALF} to {HALF}");
+    let above = [format!("{}", HALF + 1), format!("-{}", HALF + 1)];
     for wrong in [
-        "2147483648",
-        "-2147483648",
+        above[0].as_str(),
+        &above[1],
         "five",
         "--5",
         "5.0",
@@ -92,7 +93,7 @@ fn more_numbers_than_lines() {
 
 #[test]
 fn a_stock_is_made_of_numbers() {
-    let numbers = [5, -3, 0, 2147483647];
+    let numbers = [5, -3, 0, HALF.into()];
     let stock = Stock::new(&SHORT, &numbers).unwrap();
     assert_eq!((stock.numbers().len(), &stock.numbers()[..4]), (128, &numbers[..]));
     assert_eq!(Stock::of_witness(&SHORT, &stock.witness()), stock);

@@ -2,7 +2,7 @@
 
 use labrador::section_one::PARAMETERS;
 use labrador::statement::{Lines, Seed, Statement, Term, Total};
-use labrador::{output_need, Parameters, GREATEST};
+use labrador::{output_need, Parameters, HALF, Q};
 
 /// Numbers that anyone can repeat.
 pub struct Draw(pub u64);
@@ -20,8 +20,8 @@ impl Draw {
     /// A number within ±(Q - 1)/2, mostly small, at times at the limits.
     fn number(&mut self) -> i64 {
         let size = match self.below(5) {
-            0 => i64::from(GREATEST) - self.below(2) as i64,
-            1 => self.below(u64::from(GREATEST) + 1) as i64,
+            0 => i64::from(HALF) - self.below(2) as i64,
+            1 => self.below(u64::from(HALF) + 1) as i64,
             _ => self.below(4) as i64,
         };
         if self.below(2) == 0 {
@@ -44,7 +44,7 @@ impl Draw {
         words[7] = self.within(16, 32);
         let mut p = Parameters::from_words(words);
         p.L = p.least_aggregations() + self.within(0, 2);
-        p.b = if self.below(2) == 0 { self.within(2, 300) } else { self.within(2, 4294967294) };
+        p.b = if self.below(2) == 0 { self.within(2, 300) } else { self.within(2, Q - 1) };
         let totals = (0..self.within(1, 5)).map(|_| {
             let terms = (0..self.within(1, 9)).map(|_| self.term(&p)).collect();
             Total { right: self.number(), terms }

@@ -3,9 +3,6 @@ use mathlib.Core.Path.{_≡_, refl, sym, _∙_, ap, ap₂}
 use Prim.Native.Nat.{ℕ, _+_, _-_, _*_, _≤_}
 use native.Mathlib.Omega.{arith}
 use borrow.Author.Needs.{needs}
-use lib.ListN.{getD}
-use mir.Val.{Fits}
-use mir.Syntax.{w32}
 use Rattle.lists.specs.Part.{part}
 use Rattle.lists.specs.Sum.{Σ}
 use Rattle.lists.proofs.Sum.{Σ-suc}
@@ -15,7 +12,6 @@ use Rattle.inner_product.specs.Run.{run}
 use Rattle.protocol.specs.Conditions.{digits-norm, one-if-left}
 use Rattle.protocol.proofs.Norms.{digits-of-table}
 use Rattle.protocol.proofs.CellsLeft.{count-of-table, count-at-most}
-use Rattle.rq_vector.proofs.Rows.{AllFit}
 use Rattle.digit_norms.proofs.Squares.{rows-norm}
 use Rattle.digit_norms.proofs.LeftOver.{left-of-words}
 use Rattle.digit_norms.proofs.norm.digits_norm.Statement.{statement}
@@ -38,19 +34,20 @@ loop-holds c = (omega arith, omega arith, refl, omega arith, refl)
 
 add-digits-norm-requires : tie.Need-add-digits-norm-requires Inv-loop μ-loop
 add-digits-norm-requires c κs =
-    let s = c .before .before .before .before .before .args in
-    let l = c .before .before .before .loop in
+    let s = c .before .before .before .before .before .before .args in
+    let l = c .before .before .before .before .loop in
     let f = run (s .from .now) (s .at) 64 in
     omega (arith, count-of-table (s .base) (s .parts) (l .c) f, count-at-most (s .base) (s .parts) (l .c) f)
 
 loop-again : tie.Need-loop-again Inv-loop μ-loop
 loop-again c =
-    let s = c .before .before .before .before .before .before .args in
-    let l = c .before .before .before .before .loop in
-    let a = c .before .before .load .result .coeffs in
-    let fit : AllFit a = λ j h. let f : Fits w32 (getD a j 0) = search needs in omega arith in
+    let s = c .before .before .before .before .before .before .before .args in
+    let l = c .before .before .before .before .before .loop in
+    let settled = c .before .before .settled in
+    let a = settled .result .coeffs in
+    let fit = settled .ensures .1 in
     let f : ℕ → ℕ = λ m. digits-norm (s .base) (s .parts) (run (s .from .now) (s .at) 64 m) in
-    let cell : element a ≡ run (s .from .now) (s .at) 64 (l .c) = ap element (c .before .before .load .ensures ∙ ap (λ p. part (s .from .now) p 64) (l .inv .1)) in (
+    let cell : element a ≡ run (s .from .now) (s .at) 64 (l .c) = settled .ensures .0 ∙ ap element (c .before .before .before .load .ensures ∙ ap (λ p. part (s .from .now) p 64) (l .inv .1)) in (
       omega arith,
       omega arith,
       c .add-digits-norm .ensures .0 .0
@@ -87,6 +84,7 @@ digits-norm-spec =
     μ-loop
     loop-holds
     (λ c κs. omega arith)
+    (λ c κs. search needs)
     add-digits-norm-requires
     (λ c. omega arith)
     (λ c. omega arith)

@@ -4,14 +4,11 @@ use Prim.Native.Nat.{ℕ, _+_}
 use native.Mathlib.Nat.{add-assoc}
 use native.Mathlib.Omega.{arith}
 use borrow.Author.Needs.{needs}
-use lib.ListN.{length, getD}
+use lib.ListN.{length}
 use lib.Seq.{take-all}
-use mir.Val.{Fits}
-use mir.Syntax.{w32}
 use Rattle.definitions.specs.Answer.{value128}
 use Rattle.definitions.specs.Norm.{norm}
 use Rattle.rq_digits.proofs.Sizes.{sizes-first, sizes-next, row-is}
-use Rattle.rq_vector.proofs.Rows.{AllFit}
 use Rattle.digit_norms.proofs.Rests.{parts-norm}
 use Rattle.digit_norms.proofs.parts.add_two_parts_norm.Statement.{statement}
 use Rattle.digit_norms.proofs.parts.add_two_parts_norm.Tie as tie
@@ -33,7 +30,7 @@ returns c =
     let taken = c .before .before .before .before .before .before .take-row in
     let row = taken .result .row in
     let next = taken .result .sizes in
-    let fit : AllFit (s .a) = λ j h. let f : Fits w32 (getD (s .a) j 0) = search needs in omega arith in
+    let fit = c .before .before .before .before .before .before .before .before .pre .2 in
     let n : length row ≡ 64 = search needs in
     let m : length next ≡ 64 = search needs in
     let sizes = sizes-first (s .base) (s .a) (first .result) (first .ensures) in

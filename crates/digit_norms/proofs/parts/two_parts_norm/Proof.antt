@@ -2,6 +2,7 @@
 use mathlib.Core.Path.{_≡_, refl, sym, _∙_, ap, ap₂}
 use Prim.Native.Nat.{ℕ, _+_, _-_, _*_, _≤_}
 use native.Mathlib.Omega.{arith}
+use borrow.Author.Needs.{needs}
 use Rattle.lists.specs.Part.{part}
 use Rattle.lists.specs.Sum.{Σ}
 use Rattle.lists.proofs.Sum.{Σ-suc}
@@ -29,10 +30,10 @@ loop-holds c = (omega arith, omega arith, refl, omega arith)
 
 loop-again : tie.Need-loop-again Inv-loop μ-loop
 loop-again c =
-    let s = c .before .before .before .before .before .before .args in
-    let l = c .before .before .before .before .loop in
+    let s = c .before .before .before .before .before .before .before .args in
+    let l = c .before .before .before .before .before .loop in
     let f : ℕ → ℕ = λ k. two-parts-norm (s .base) (run (s .from .now) (s .at) 64 k) in
-    let cell = ap element (c .before .before .load .ensures ∙ ap (λ p. part (s .from .now) p 64) (l .inv .1)) in (
+    let cell = c .before .before .settled .ensures .0 ∙ ap element (c .before .before .before .load .ensures ∙ ap (λ p. part (s .from .now) p 64) (l .inv .1)) in (
       omega arith,
       omega arith,
       c .add-two-parts-norm .ensures .0 ∙ ap₂ _+_ (l .inv .2) (ap (two-parts-norm (s .base)) cell) ∙ sym (Σ-suc (l .m) f),
@@ -57,7 +58,8 @@ two-parts-norm-spec =
     μ-loop
     loop-holds
     (λ c κs. omega arith)
-    (λ c κs. omega arith)
+    (λ c κs. search needs)
+    (λ c κs. (omega arith, omega arith, c .before .settled .ensures .1))
     (λ c. omega arith)
     (λ c. omega arith)
     (λ c. omega arith)

@@ -6,6 +6,7 @@ use borrow.Author.Needs.{needs}
 use lib.ListN.{getD}
 use Rattle.lists.specs.Table.{table}
 use Rattle.lists.specs.Part.{splice}
+use Rattle.definitions.specs.Zq.{Q}
 use Rattle.digit_products.proofs.Shifted.{halves-form}
 use Rattle.digit_products.proofs.forms.store_form.Statement.{statement}
 use Rattle.digit_products.proofs.forms.store_form.Tie as tie
@@ -15,7 +16,7 @@ returns c =
     let s = c .before .before .before .before .before .before .before .before .before .before .args in
     let first = c .before .before .before .before .before .before .store-shifted .ensures in
     c .before .before .store-shifted2 .ensures
-    ∙ ap (λ w. splice w (s .to + 64) (table 64 (λ m. (getD (s .a) m 0 + s .half) % 4294967295))) first
+    ∙ ap (λ w. splice w (s .to + 64) (table 64 (λ m. (getD (s .a) m 0 + s .half) % Q))) first
     ∙ halves-form (s .half) (s .a) _ (s .forms .now) (s .to) (c .before .before .before .before .before .before .before .before .complements .ensures)
 
 pub store-form-spec : {M : Type 1} → statement M

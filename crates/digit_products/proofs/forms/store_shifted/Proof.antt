@@ -7,12 +7,13 @@ use Rattle.lists.specs.Table.{table}
 use Rattle.lists.specs.Part.{splice}
 use Rattle.lists.proofs.Splice.{splice-nil}
 use Rattle.lists.proofs.Fill.{splice-table-next}
+use Rattle.definitions.specs.Zq.{Q}
 use Rattle.digit_products.proofs.forms.store_shifted.Statement.{statement}
 use Rattle.digit_products.proofs.forms.store_shifted.Tie as tie
 
 abbrev Inv-loop : tie.InvT-loop
 Inv-loop half forms₀ to a m₀ forms m =
-    (m ≤ 64) × (forms ≡ splice forms₀ to (table m (λ j. (getD a j 0 + half) % 4294967295))) × (length forms ≡ length forms₀)
+    (m ≤ 64) × (forms ≡ splice forms₀ to (table m (λ j. (getD a j 0 + half) % Q))) × (length forms ≡ length forms₀)
 
 abbrev μ-loop : tie.MeasureT-loop
 μ-loop half forms₀ to a m₀ forms m = 64 - m
@@ -28,9 +29,9 @@ loop-again : tie.Need-loop-again Inv-loop μ-loop
 loop-again c =
     let s = c .before .before .before .before .before .args in
     let l = c .before .before .before .loop in
-    let f : ℕ → ℕ = λ j. (getD (s .t1) j 0 + s .half) % 4294967295 in (
+    let f : ℕ → ℕ = λ j. (getD (s .t1) j 0 + s .half) % Q in (
       omega arith,
-      ap (λ w. set w (s .to + l .m) (c .shift .result)) (l .inv .1) ∙ splice-table-next (s .forms .now) (s .to) (l .m) f (c .shift .result) (c .shift .ensures ∙ ap (λ x. (x + s .half) % 4294967295) (c .before .wide .ensures .0)),
+      ap (λ w. set w (s .to + l .m) (c .shift .result)) (l .inv .1) ∙ splice-table-next (s .forms .now) (s .to) (l .m) f (c .shift .result) (c .shift .ensures ∙ ap (λ x. (x + s .half) % Q) (c .before .wide .ensures .0)),
       simp length-set (l .inv .2),
     )
 
@@ -39,7 +40,7 @@ returns c =
     let s = c .before .before .before .args in
     let l = c .before .loop in
     let n : l .m ≡ 64 = omega arith in
-    l .inv .1 ∙ ap (λ m. splice (s .forms .now) (s .to) (table m (λ j. (getD (s .t1) j 0 + s .half) % 4294967295))) n
+    l .inv .1 ∙ ap (λ m. splice (s .forms .now) (s .to) (table m (λ j. (getD (s .t1) j 0 + s .half) % Q))) n
 
 pub store-shifted-spec : {M : Type 1} → statement M
 store-shifted-spec =

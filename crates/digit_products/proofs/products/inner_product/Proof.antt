@@ -23,7 +23,7 @@ abbrev μ-loop : tie.MeasureT-loop
 μ-loop matrix at v forms half n totals₀ m₀ totals m = n - m
 
 -- the reversed words of an element
-reversed-fit : (b x : List ℕ) → x ≡ reversed b → ((i : ℕ) → i < 64 → coeff b i ≤ Q) → (length x ≡ 64) × AllWords x
+reversed-fit : (b x : List ℕ) → x ≡ reversed b → ((i : ℕ) → i < 64 → coeff b i < 2 ^ 32) → (length x ≡ 64) × AllWords x
 reversed-fit b x e words = (ap length e ∙ length-reversed b, rw e (reversed-words b words))
 
 complement-requires : tie.Need-complement-requires Inv-loop μ-loop

@@ -6,11 +6,12 @@ use native.Mathlib.Omega.{arith}
 use lib.ListN.{length, getD}
 use Rattle.lists.specs.Sum.{Σ}
 use Rattle.lists.proofs.Sum.{Σ-suc}
+use Rattle.digit_products.specs.Small.{liftQ}
 use Rattle.digit_products.proofs.small.complement.Statement.{statement}
 use Rattle.digit_products.proofs.small.complement.Tie as tie
 
 abbrev Inv-loop : tie.InvT-loop
-Inv-loop x half sum₀ i₀ sum i = (i ≤ 64) × (sum ≡ Σ i (λ j. 4294967295 - getD x j 0)) × (sum ≤ 4294967295 * i)
+Inv-loop x half sum₀ i₀ sum i = (i ≤ 64) × (sum ≡ Σ i (λ j. liftQ - getD x j 0)) × (sum ≤ liftQ * i)
 
 abbrev μ-loop : tie.MeasureT-loop
 μ-loop x half sum₀ i₀ sum i = 64 - i
@@ -25,13 +26,13 @@ sub-sum c = omega (arith, c .before .before .before .pre .1 (c .before .before .
 loop-again : tie.Need-loop-again Inv-loop μ-loop
 loop-again c =
     let l = c .before .before .loop in
-    let f : ℕ → ℕ = λ j. 4294967295 - getD (c .before .before .before .args .x .now) j 0 in
+    let f : ℕ → ℕ = λ j. liftQ - getD (c .before .before .before .args .x .now) j 0 in
     (omega arith, ap (λ t. t + f (l .i)) (l .inv .1) ∙ sym (Σ-suc (l .i) f), omega arith)
 
--- half the base times the sum is at most 2^53
-product-small : (half sum i : ℕ) → half ≤ 2 ^ 15 → sum ≤ 4294967295 * i → i ≤ 64 → half * sum ≤ 2 ^ 53
+-- half the base times the sum is at most 2^54
+product-small : (half sum i : ℕ) → half ≤ 2 ^ 15 → sum ≤ liftQ * i → i ≤ 64 → half * sum ≤ 2 ^ 54
 product-small half sum i h s l =
-    let most : sum ≤ 274877906944 = omega arith in
+    let most : sum ≤ 549755813888 = omega arith in
     mul-le-mul h most
 
 mul-result : tie.Need-mul-result Inv-loop μ-loop
@@ -42,7 +43,7 @@ returns c =
     let l = c .before .loop in
     let s = c .before .before .args in
     let n : l .i ≡ 64 = omega arith in
-    (ap (λ t. s .half * t) (l .inv .1 ∙ ap (λ m. Σ m (λ j. 4294967295 - getD (s .x .now) j 0)) n), product-small (s .half) (l .sum) (l .i) (c .before .before .pre .2) (l .inv .2) (l .inv .0))
+    (ap (λ t. s .half * t) (l .inv .1 ∙ ap (λ m. Σ m (λ j. liftQ - getD (s .x .now) j 0)) n), product-small (s .half) (l .sum) (l .i) (c .before .before .pre .2) (l .inv .2) (l .inv .0))
 
 pub complement-spec : {M : Type 1} → statement M
 complement-spec =

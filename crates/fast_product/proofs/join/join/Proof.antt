@@ -4,7 +4,8 @@ use Prim.Native.Nat.{_+_, _-_, _*_, _%_}
 use native.Mathlib.Nat.{mod-lt}
 use native.Mathlib.Omega.{arith}
 use borrow.Author.Needs.{needs}
-use Rattle.fast_product.specs.Join.{middleOf, topOf, joinOf}
+use Rattle.definitions.specs.Zq.{Q}
+use Rattle.fast_product.specs.Join.{middleOf, topOf, pairQ, joinOf}
 use Rattle.fast_product.proofs.join.join.Statement.{statement}
 use Rattle.fast_product.proofs.join.join.Tie as tie
 
@@ -14,7 +15,7 @@ returns c =
     let s = c .before .before .args in
     let m : c .before .remainder .result ≡ middleOf (s .first) (s .second) = c .before .remainder .ensures in
     let t : c .remainder2 .result ≡ topOf (s .first) (middleOf (s .first) (s .second)) (s .third) = c .remainder2 .ensures ∙ ap (λ x. topOf (s .first) x (s .third)) m in
-    (ap₂ (λ x y. (s .first + 134217089 * x + 273937709 * y) % 4294967295) m t, mod-lt _ (omega arith))
+    (ap₂ (λ x y. (s .first + 134217089 * x + pairQ * y) % Q) m t, mod-lt _ (omega arith))
 
 pub join-spec : {M : Type 1} → statement M
 join-spec =

@@ -11,7 +11,7 @@ use mir.Val.{Fits}
 use mir.Syntax.{w64}
 use Rattle.ntt_layers.specs.Words.{remaindersOf}
 use Rattle.fast_product.specs.Join.{joinedOf}
-use Rattle.fast_product.specs.Kept.{scaledOf, backOf}
+use Rattle.fast_product.specs.Kept.{offset, scaledOf, backOf}
 use Rattle.fast_product.proofs.Residue.{back-small, remainders-below}
 use Rattle.fast_product.proofs.kept.back.Statement.{statement}
 use Rattle.fast_product.proofs.kept.back.Tie as tie
@@ -59,10 +59,10 @@ unfolding scaledOf backOf
 returns c =
     c .join-all .ensures
     ∙ ap₂ (λ x y. joinedOf x y (c .before .remainders3 .result))
-    (c .before .before .before .before .before .remainders .ensures ∙ ap (remaindersOf 639 132119947 113276202) (c .before .before .before .before .before .before .backward .ensures ∙ ap (λ l. backwardOf 639 3898195327 l 576 (c .before .before .before .before .before .before .before .before .before .before .before .args .sums .first)) (c .before .before .before .before .before .before .before .before .before .before .before .pre)))
-    (c .before .before .before .remainders2 .ensures ∙ ap (remaindersOf 2047 132118561 4063362) (c .before .before .before .before .backward2 .ensures ∙ ap (λ l. backwardOf 2047 130021375 l 768 (c .before .before .before .before .before .before .before .before .before .before .before .args .sums .second)) (c .before .before .before .before .before .before .before .before .before .before .before .pre)))
+    (c .before .before .before .before .before .remainders .ensures ∙ ap (remaindersOf 639 132119947 (offset 0)) (c .before .before .before .before .before .before .backward .ensures ∙ ap (λ l. backwardOf 639 3898195327 l 576 (c .before .before .before .before .before .before .before .before .before .before .before .args .sums .first)) (c .before .before .before .before .before .before .before .before .before .before .before .pre)))
+    (c .before .before .before .remainders2 .ensures ∙ ap (remaindersOf 2047 132118561 (offset 1)) (c .before .before .before .before .backward2 .ensures ∙ ap (λ l. backwardOf 2047 130021375 l 768 (c .before .before .before .before .before .before .before .before .before .before .before .args .sums .second)) (c .before .before .before .before .before .before .before .before .before .before .before .pre)))
     ∙ ap (joinedOf (scaledOf 0 (c .before .before .before .before .before .before .before .before .before .before .before .args .sums .first)) (scaledOf 1 (c .before .before .before .before .before .before .before .before .before .before .before .args .sums .second)))
-    (c .before .remainders3 .ensures ∙ ap (remaindersOf 2175 132118435 24000906) (c .before .before .backward3 .ensures ∙ ap (λ l. backwardOf 2175 2442639231 l 960 (c .before .before .before .before .before .before .before .before .before .before .before .args .sums .third)) (c .before .before .before .before .before .before .before .before .before .before .before .pre)))
+    (c .before .remainders3 .ensures ∙ ap (remaindersOf 2175 132118435 (offset 2)) (c .before .before .backward3 .ensures ∙ ap (λ l. backwardOf 2175 2442639231 l 960 (c .before .before .before .before .before .before .before .before .before .before .before .args .sums .third)) (c .before .before .before .before .before .before .before .before .before .before .before .pre)))
 
 pub back-spec : {M : Type 1} → statement M
 back-spec =

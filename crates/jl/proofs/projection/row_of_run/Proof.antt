@@ -5,6 +5,7 @@ use native.Mathlib.Nat.{sub-self}
 use native.Mathlib.Omega.{arith}
 use Rattle.lists.specs.Sum.{Σ}
 use Rattle.lists.proofs.Sum.{Σ-suc}
+use Rattle.definitions.specs.Zq.{Q}
 use Rattle.jl.specs.Run.{vector-row, run-row}
 use Rattle.jl.proofs.Places.{row-within, vector-within, add-mod}
 use Rattle.jl.proofs.projection.row_of_run.Statement.{statement}
@@ -14,8 +15,8 @@ abbrev Inv-loop : tie.InvT-loop
 Inv-loop randomness pi-at witness s-at n first end j width sum₀ i₀ sum i =
     (first ≤ i)
     × (i - first ≤ end - first)
-    × (sum % 4294967295 ≡ Σ (i - first) (λ k. vector-row randomness pi-at witness s-at n (first + k) j) % 4294967295)
-    × (sum ≤ 281474976645120 * (i - first))
+    × (sum % Q ≡ Σ (i - first) (λ k. vector-row randomness pi-at witness s-at n (first + k) j) % Q)
+    × (sum ≤ 562949953290240 * (i - first))
 
 abbrev μ-loop : tie.MeasureT-loop
 μ-loop randomness pi-at witness s-at n first end j width sum₀ i₀ sum i = end - i
@@ -25,7 +26,7 @@ unfolding Σ
 loop-holds c =
     let s = c .before .before .args in
     let f : ℕ → ℕ = λ k. vector-row (s .randomness .now) (s .pi-at) (s .witness .now) (s .s-at) (s .n) (s .first + k) (s .j) in
-    (omega arith, omega arith, ap (λ k. Σ k f % 4294967295) (sym (sub-self (s .first))), omega arith)
+    (omega arith, omega arith, ap (λ k. Σ k f % Q) (sym (sub-self (s .first))), omega arith)
 
 -- what the places of row j of vector i need
 place : tie.Need-add-at-2 Inv-loop μ-loop
@@ -56,11 +57,11 @@ loop-again c =
     let same : l .i ≡ s .first + (l .i - s .first) = omega arith in (
       omega arith,
       omega arith,
-      add-mod 4294967295 (l .sum) (c .row .result) (Σ (l .i - s .first) f) (f (l .i - s .first))
+      add-mod Q (l .sum) (c .row .result) (Σ (l .i - s .first) f) (f (l .i - s .first))
           (l .inv .2)
-          (c .row .ensures .0 ∙ ap (λ i. vector-row (s .randomness .now) (s .pi-at) (s .witness .now) (s .s-at) (s .n) i (s .j) % 4294967295) same)
-          ∙ ap (λ t. t % 4294967295) (sym (Σ-suc (l .i - s .first) f))
-          ∙ ap (λ k. Σ k f % 4294967295) (sym next),
+          (c .row .ensures .0 ∙ ap (λ i. vector-row (s .randomness .now) (s .pi-at) (s .witness .now) (s .s-at) (s .n) i (s .j) % Q) same)
+          ∙ ap (λ t. t % Q) (sym (Σ-suc (l .i - s .first) f))
+          ∙ ap (λ k. Σ k f % Q) (sym next),
       omega arith,
     )
 
@@ -71,7 +72,7 @@ returns c =
     let l = c .before .loop in
     let f : ℕ → ℕ = λ k. vector-row (s .randomness .now) (s .pi-at) (s .witness .now) (s .s-at) (s .n) (s .first + k) (s .j) in
     let all : l .i - s .first ≡ s .end - s .first = omega arith in
-    l .inv .2 ∙ ap (λ k. Σ k f % 4294967295) all
+    l .inv .2 ∙ ap (λ k. Σ k f % Q) all
 
 pub row-of-run-spec : {M : Type 1} → statement M
 row-of-run-spec =

@@ -1,29 +1,34 @@
 -- `term` meets its contract.
-use mathlib.Core.Path.{_≡_, _∙_, ap}
-use mathlib.Core.Logic.{⊎-elim}
-use Prim.Native.Nat.{ℕ, _-_, _<_, _^_}
+use mathlib.Core.Path.{_≡_, ap, _∙_}
+use mathlib.Core.Bool.{cond}
+use Prim.Native.Nat.{ℕ, _-_, _≤_}
 use native.Mathlib.Omega.{arith}
+use borrow.Author.Needs.{needs}
 use borrow.Author.Tests.{lt-ltb, le-ltb}
-use lib.Bits.{bitXor, xor-zero-r, xor-add-and, and-mask}
+use lib.Dec.{ltb}
+use Rattle.definitions.specs.Zq.{Q, lackQ}
+use Rattle.definitions.proofs.Cases.{ltb-cases}
+use Rattle.jl.specs.Rows.{term, flipped}
 use Rattle.jl.proofs.projection.term.Statement.{statement}
 use Rattle.jl.proofs.projection.term.Tie as tie
 
--- each bit of a word changed
-flipped : (x : ℕ) → x < 2 ^ 32 → bitXor x 4294967295 ≡ 4294967295 - x
-flipped x h = omega (arith, xor-add-and x 4294967295, and-mask x 32)
+-- where Q is 2^32 − 1, a word with each bit changed is what the word lacks
+same : (code x : ℕ) → lackQ ≡ 1 → x ≤ 4294967295 → flipped code x ≡ term code x
+same code x e h =
+    ap (λ n. cond (ltb code 1073741824) n (cond (ltb code 2147483648) x 0))
+    (ltb-cases (λ t. 4294967295 - x ≡ cond t (Q - (x - Q)) (Q - x)) Q x (λ l. omega arith) (λ l. omega arith))
 
 returns : tie.Need-returns
-returns c =
-    let s = c .before .before .before .args in
-    ⊎-elim
-    (λ w. simp (lt-ltb (s .code) 1073741824 (w .0 .taken)) (ap (bitXor (s .word)) (w .1) ∙ flipped (s .word) (omega arith)))
-    (λ w. simp (le-ltb (s .code) 1073741824 (w .0 .left), lt-ltb (s .code) 2147483648 (c .before .if2 .taken)) (ap (bitXor (s .word)) (w .1) ∙ xor-zero-r (s .word)))
-    (c .before .before .if1 .came)
+returns c = let s = c .before .before .args in c .flipped .ensures ∙ same (s .code) (s .word) (c .before .if1 .taken) (omega arith)
 
 returns-2 : tie.Need-returns-2
-returns-2 c =
-    let s = c .before .before .args in
-    simp (le-ltb (s .code) 1073741824 (omega arith), le-ltb (s .code) 2147483648 (c .if2 .left))
+returns-2 c = c .lack .ensures ∙ simp (lt-ltb (c .before .before .before .args .code) 1073741824 (omega arith))
+
+returns-3 : tie.Need-returns-3
+returns-3 c = simp (le-ltb (c .before .before .before .args .code) 1073741824 (omega arith), lt-ltb (c .before .before .before .args .code) 2147483648 (omega arith))
+
+returns-4 : tie.Need-returns-4
+returns-4 c = simp (le-ltb (c .before .before .before .args .code) 1073741824 (omega arith), le-ltb (c .before .before .before .args .code) 2147483648 (omega arith))
 
 pub term-spec : {M : Type 1} → statement M
-term-spec = tie.close (tie.spec returns returns-2)
+term-spec = tie.close (tie.spec (λ c κs. search needs) returns (λ c κs. search needs) returns-2 returns-3 returns-4)

@@ -5,17 +5,18 @@ use native.Mathlib.Nat.{mul-le-mul-left}
 use native.Mathlib.Decide.{decLt}
 use native.Mathlib.Omega.{arith}
 use borrow.Author.Needs.{needs}
+use Rattle.definitions.specs.Zq.{halfQ}
 use Rattle.definitions.proofs.Fits.{product-max}
 use Rattle.definitions.proofs.Recompose.{reach, reach-none, reach-next, needed-by-reach}
 use Rattle.recompose.proofs.parts.parts_needed.Statement.{statement}
 use Rattle.recompose.proofs.parts.parts_needed.Tie as tie
 
 -- one part more: no fewer parts reach the greatest size
-fewer-next : (base p r : ℕ) → r ≡ reach base p → r < 2147483647 → ((fewer : ℕ) → fewer < p → reach base fewer < 2147483647)
-    → (fewer : ℕ) → fewer < p + 1 → reach base fewer < 2147483647
+fewer-next : (base p r : ℕ) → r ≡ reach base p → r < halfQ → ((fewer : ℕ) → fewer < p → reach base fewer < halfQ)
+    → (fewer : ℕ) → fewer < p + 1 → reach base fewer < halfQ
 fewer-next base p r e l f fewer h = by (decLt fewer p)
   where
-    by : Dec (fewer < p) → reach base fewer < 2147483647
+    by : Dec (fewer < p) → reach base fewer < halfQ
     by (yes k) = f fewer k
     by (no k) = let same : fewer ≡ p = omega arith in omega (arith, ap (reach base) same)
 
@@ -24,10 +25,10 @@ grows : (base r : ℕ) → 2 ≤ base → 2 * r + 1 ≤ r * base + base / 2
 grows base r h = omega (arith, mul-le-mul-left r h)
 
 abbrev Inv-loop : tie.InvT-loop
-Inv-loop base r₀ p₀ r p = (r ≡ reach base p) × (p ≤ r) × ((fewer : ℕ) → fewer < p → reach base fewer < 2147483647)
+Inv-loop base r₀ p₀ r p = (r ≡ reach base p) × (p ≤ r) × ((fewer : ℕ) → fewer < p → reach base fewer < halfQ)
 
 abbrev μ-loop : tie.MeasureT-loop
-μ-loop base r₀ p₀ r p = 2147483647 - r
+μ-loop base r₀ p₀ r p = halfQ - r
 
 returns : tie.Need-returns Inv-loop μ-loop
 returns c = (λ h. absurd (omega arith), λ h. refl)

@@ -27,6 +27,12 @@ loop-again c =
     let s = c .before .before .before .before .before .before .before .args in
     (omega arith, begun-next (s .x .now) (s .y .now) (s .at) (l .i) _ _ _ _ (l .inv .1) (c .add .ensures))
 
+join-requires : tie.Need-join-requires Inv-loop μ-loop
+join-requires c κs =
+    let l = c .before .loop in
+    let s = c .before .before .before .before .args in
+    omega (arith, begun-small (s .x .now) (s .y .now) (s .at) (l .i) _ _ (l .inv .1))
+
 returns : tie.Need-returns Inv-loop μ-loop
 returns c =
     let l = c .before .before .loop in
@@ -50,5 +56,5 @@ dot-spec =
     (λ c. omega arith)
     (λ c. omega arith)
     loop-again
-    (λ c κs. search needs)
+    join-requires
     returns)

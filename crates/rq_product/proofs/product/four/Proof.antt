@@ -5,7 +5,7 @@ use Prim.Native.Nat.{ℕ, _+_, _-_, _≤_, _<_, _^_}
 use native.Mathlib.Omega.{arith}
 use borrow.Author.Needs.{needs}
 use lib.ListN.{length, getD}
-use Rattle.rq_product.specs.Product.{AllWords, folded, halvesSum}
+use Rattle.rq_product.specs.Product.{AllWords, folded, growth, halvesSum}
 use Rattle.rq_product.proofs.Halves.{Begun, begun-none, begun-small, begun-next, begun-folded, folded-small}
 use Rattle.rq_product.proofs.product.four.Statement.{statement}
 use Rattle.rq_product.proofs.product.four.Tie as tie
@@ -46,6 +46,10 @@ add-requires-4 c κs =
     let s = c .before .before .before .before .before .before .before .before .before .before .before .before in
     asked (s .args .x .now) (s .args .y .now) (s .args .at) (s .args .at + 3) (l .i) _ _ (s .pre) (l .inv .4) (omega arith) (omega arith)
 
+-- what the joining asks
+few : (x y : List ℕ) (from i sum upper : ℕ) → i ≤ 64 → Begun x y from i sum upper → upper ≤ 2 ^ 38
+few x y from i sum upper l b = omega (arith, begun-small x y from i sum upper b)
+
 loop-again : tie.Need-loop-again Inv-loop μ-loop
 loop-again c =
     let l = c .before .before .before .before .before .before .before .before .before .before .loop in
@@ -69,7 +73,7 @@ returns c =
     let n : l .i ≡ 64 = omega arith in
     let all : (at sum upper r : ℕ) → Begun (s .x .now) (s .y .now) at (l .i) sum upper → r ≡ halvesSum sum upper → r ≡ folded (s .x .now) (s .y .now) at
     = λ at sum upper r b e. e ∙ begun-folded (s .x .now) (s .y .now) at sum upper (rw n at b) in
-    let most : (at r : ℕ) → r ≡ folded (s .x .now) (s .y .now) at → at + 64 ≤ length (s .y .now) → r ≤ 2 ^ 39
+    let most : (at r : ℕ) → r ≡ folded (s .x .now) (s .y .now) at → at + 64 ≤ length (s .y .now) → r ≤ growth
     = λ at r e w. omega (arith, folded-small (s .x .now) (s .y .now) at (omega arith) w (h .2) (h .3)) in
     let a = all (s .at) _ _ _ (l .inv .1) (c .before .before .before .join .ensures) in
     let b = all (s .at + 1) _ _ _ (l .inv .2) (c .before .before .join2 .ensures) in
@@ -108,8 +112,8 @@ four-spec =
     (λ c. omega arith)
     (λ c. omega arith)
     loop-again
-    (λ c κs. search needs)
-    (λ c κs. search needs)
-    (λ c κs. search needs)
-    (λ c κs. search needs)
+    (λ c κs. few _ _ _ _ _ _ (omega arith) (c .before .loop .inv .1))
+    (λ c κs. few _ _ _ _ _ _ (omega arith) (c .before .before .loop .inv .2))
+    (λ c κs. few _ _ _ _ _ _ (omega arith) (c .before .before .before .loop .inv .3))
+    (λ c κs. few _ _ _ _ _ _ (omega arith) (c .before .before .before .before .loop .inv .4))
     returns)

@@ -1,7 +1,7 @@
 -- `multiply` meets its contract.
 use mathlib.Core.Path.{_∙_, ap}
 use mathlib.Core.List.{List}
-use Prim.Native.Nat.{ℕ, _-_, _%_, _≤_, _<_}
+use Prim.Native.Nat.{ℕ, _-_, _%_, _≤_, _<_, _^_}
 use native.Mathlib.Omega.{arith}
 use borrow.Author.Needs.{needs}
 use lib.ListN.{getD}
@@ -46,7 +46,7 @@ unfolding rmul
 returns c =
     let a = c .before .before .before .before .args .a in
     let b = c .before .before .before .before .args .b in
-    let words : (i : ℕ) → i < 64 → coeff a i ≤ Q = λ i l. let f : Fits w32 (getD a i 0) = search needs in omega arith in
+    let words : (i : ℕ) → i < 64 → coeff a i < 2 ^ 32 = λ i l. let f : Fits w32 (getD a i 0) = search needs in omega arith in
     padded-done 64 0 _ _ _ (c .before .loop .inv .1 a b (c .before .before .reverse .ensures, c .before .before .before .extend .ensures, words)) (omega arith)
     ∙ table-getD 64 (rmul a b) 0 (length-table 64 _)
 

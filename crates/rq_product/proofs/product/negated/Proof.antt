@@ -17,9 +17,9 @@ abbrev μ-loop : tie.MeasureT-loop
 
 loop-again : tie.Need-loop-again Inv-loop μ-loop
 loop-again c =
-    let l = c .before .before .loop in
+    let l = c .before .before .before .loop in
     let h : l .m < 64 = omega arith in
-    (omega arith, padded-next 128 0 _ _ _ _ (l .inv .1) (omega arith) (ap (λ v. 4294967295 - v) (c .wide .ensures .0) ∙ simp (lt-ltb (l .m) 64 h)))
+    (omega arith, padded-next 128 0 _ _ _ _ (l .inv .1) (omega arith) (c .wide .ensures .0 ∙ c .before .lack .ensures ∙ simp (lt-ltb (l .m) 64 h)))
 
 returns : tie.Need-returns Inv-loop μ-loop
 returns c =

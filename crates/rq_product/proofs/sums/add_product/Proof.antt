@@ -12,7 +12,7 @@ use Rattle.lists.proofs.Table.{getD-table}
 use Rattle.lists.proofs.Padded.{padded-none, padded-done}
 use Rattle.definitions.specs.Zq.{Q}
 use Rattle.definitions.specs.Rq.{coeff, rmul}
-use Rattle.rq_product.specs.Product.{extended, reversed, folded}
+use Rattle.rq_product.specs.Product.{extended, reversed, folded, growth}
 use Rattle.rq_product.specs.Sums.{Added}
 use Rattle.rq_product.proofs.Fours.{padded-four}
 use Rattle.rq_product.proofs.Halves.{folded-small}
@@ -25,20 +25,20 @@ with-kernel : List ℕ → List ℕ → List ℕ → ℕ → ℕ
 with-kernel sums x y k = getD sums k 0 + folded x y (k + 1)
 
 -- such sums have the product added
-added : (sums a b x y result : List ℕ) → x ≡ reversed b → y ≡ extended a → ((i : ℕ) → i < 64 → coeff a i ≤ Q) → ((i : ℕ) → i < 64 → coeff b i ≤ Q)
-    → result ≡ table 64 (with-kernel sums x y) → Added (2 ^ 39) sums (rmul a b) result
+added : (sums a b x y result : List ℕ) → x ≡ reversed b → y ≡ extended a → ((i : ℕ) → i < 64 → coeff a i < 2 ^ 32) → ((i : ℕ) → i < 64 → coeff b i < 2 ^ 32)
+    → result ≡ table 64 (with-kernel sums x y) → Added growth sums (rmul a b) result
 unfolding with-kernel
 added sums a b x y result ex ey wa wb e = record {
   value = λ k h.
-      ap (λ r. getD r k 0 % 4294967295) e
-      ∙ ap (λ v. v % 4294967295) (getD-table 64 (with-kernel sums x y) k 0 h)
+      ap (λ r. getD r k 0 % Q) e
+      ∙ ap (λ v. v % Q) (getD-table 64 (with-kernel sums x y) k 0 h)
       ∙ sums-mod (getD sums k 0) (folded x y (k + 1)) _ (product-at x y a b (ex, ey, wa) k h);
   bound = λ k h.
       let f = kernel-fits a b x y ex ey wa wb in
       omega (arith, ap (λ r. getD r k 0) e ∙ getD-table 64 (with-kernel sums x y) k 0 h, folded-small x y (k + 1) (omega arith) (omega arith) (f .2) (f .3));
 }
   where
-    sums-mod : (s p v : ℕ) → p % 4294967295 ≡ v → (s + p) % 4294967295 ≡ (s + v) % 4294967295
+    sums-mod : (s p v : ℕ) → p % Q ≡ v → (s + p) % Q ≡ (s + v) % Q
     sums-mod s p v h = omega arith
 
 abbrev Inv-loop : tie.InvT-loop

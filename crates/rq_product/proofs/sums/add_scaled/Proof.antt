@@ -11,15 +11,17 @@ use Rattle.lists.specs.Part.{part, splice}
 use Rattle.lists.proofs.Table.{length-table, getD-table}
 use Rattle.lists.proofs.Splice.{splice-nil, getD-splice-after, getD-part}
 use Rattle.lists.proofs.Fill.{splice-table-next, getD-splice-table}
+use Rattle.definitions.specs.Zq.{Q, lackQ}
 use Rattle.definitions.specs.Rq.{coeff, rscale}
 use Rattle.definitions.proofs.Fits.{product-max}
 use Rattle.rq_product.specs.Sums.{Added}
+use Rattle.rq_product.specs.Product.{growth}
 use Rattle.rq_product.proofs.sums.add_scaled.Statement.{statement}
 use Rattle.rq_product.proofs.sums.add_scaled.Tie as tie
 
 -- a sum with the halves of a product added
 halves : ℕ → ℕ → ℕ
-halves sum product = sum + (product % 4294967296 + product / 4294967296)
+halves sum product = sum + (product % 4294967296 + product / 4294967296 * lackQ)
 
 -- sum k with the halves of its product added
 abbrev folded : (sums words : List ℕ) (at c : ℕ) → ℕ → ℕ
@@ -27,20 +29,20 @@ folded sums words at c k = halves (getD sums k 0) (getD words (at + k) 0 * c)
 
 -- sums with the halves of an element's products added have the scaled element added
 added : (sums words result : List ℕ) (at c : ℕ) → length sums ≡ 64 → result ≡ splice sums 0 (table 64 (folded sums words at c)) → ((k : ℕ) → k < 64 → getD words (at + k) 0 * c ≤ 18446744065119617025)
-    → Added (2 ^ 39) sums (rscale (part words at 64) c) result
+    → Added growth sums (rscale (part words at 64) c) result
 unfolding halves rscale
 added sums words result at c n e b =
     let read : (k : ℕ) → k < 64 → getD result k 0 ≡ folded sums words at c k = λ k h.
     ap (λ r. getD r k 0) e ∙ ap (λ i. getD (splice sums 0 (table 64 (folded sums words at c))) i 0) (sym (zero-add k)) ∙ getD-splice-table sums 0 64 (folded sums words at c) k 0 h (omega arith) in record {
       value = λ k h.
-          ap (λ v. v % 4294967295) (read k h)
+          ap (λ v. v % Q) (read k h)
           ∙ folds (getD sums k 0) (getD words (at + k) 0 * c)
-          ∙ ap (λ v. (getD sums k 0 + v * c % 4294967295) % 4294967295) (sym (getD-part 0 words at 64 k h))
-          ∙ ap (λ v. (getD sums k 0 + v) % 4294967295) (sym (getD-table 64 (λ k. getD (part words at 64) k 0 * c % 4294967295) k 0 h));
+          ∙ ap (λ v. (getD sums k 0 + v * c % Q) % Q) (sym (getD-part 0 words at 64 k h))
+          ∙ ap (λ v. (getD sums k 0 + v) % Q) (sym (getD-table 64 (λ k. getD (part words at 64) k 0 * c % Q) k 0 h));
       bound = λ k h. omega (arith, read k h, b k h);
     }
   where
-    folds : (s p : ℕ) → (s + (p % 4294967296 + p / 4294967296)) % 4294967295 ≡ (s + p % 4294967295) % 4294967295
+    folds : (s p : ℕ) → (s + (p % 4294967296 + p / 4294967296 * lackQ)) % Q ≡ (s + p % Q) % Q
     folds s p = omega arith
 
 abbrev Inv-loop : tie.InvT-loop
@@ -79,11 +81,11 @@ loop-again c =
     let s = c .before .before .before .before .before .before .before .before .args in
     let f : ℕ → ℕ = folded (s .sums .now) (s .words .now) (s .at) (s .factor) in
     let p = c .before .wide2 .result * c .before .before .before .before .before .wide .result in
-    let v = getD (l .sums) (l .k) 0 + (p % 4294967296 + p / 4294967296) in
+    let v = getD (l .sums) (l .k) 0 + (p % 4294967296 + p / 4294967296 * lackQ) in
     let product = ap₂ _*_ (c .before .wide2 .ensures .0) (c .before .before .before .before .before .wide .ensures .0) in (
       omega arith,
       ap₂ (λ w i. set w i v) (l .inv .1) (sym (zero-add (l .k)))
-          ∙ splice-table-next (s .sums .now) 0 (l .k) f v (ap₂ (λ x p. x + (p % 4294967296 + p / 4294967296)) (sum-at c) product),
+          ∙ splice-table-next (s .sums .now) 0 (l .k) f v (ap₂ (λ x p. x + (p % 4294967296 + p / 4294967296 * lackQ)) (sum-at c) product),
       simp length-set (l .inv .2),
     )
 
@@ -113,6 +115,7 @@ add-scaled-spec =
     (λ c. omega (arith, product-at c))
     (λ c. omega arith)
     (λ c. omega arith)
+    (λ c. omega (arith, product-at (c .before)))
     (λ c. omega (arith, product-at (c .before)))
     add-sums-2
     (λ c. omega arith)

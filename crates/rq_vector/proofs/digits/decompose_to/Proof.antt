@@ -3,9 +3,7 @@ use mathlib.Core.Path.{_≡_, refl, _∙_, ap}
 use Prim.Native.Nat.{_+_, _-_, _*_, _≤_}
 use native.Mathlib.Omega.{arith}
 use borrow.Author.Needs.{needs}
-use lib.ListN.{length, getD}
-use mir.Val.{Fits}
-use mir.Syntax.{w32}
+use lib.ListN.{length}
 use Rattle.lists.specs.Table.{table}
 use Rattle.lists.specs.Part.{splice}
 use Rattle.lists.proofs.Splice.{length-splice}
@@ -13,7 +11,7 @@ use Rattle.definitions.specs.Ring.{element}
 use Rattle.protocol.specs.Formulas.{flat, digit-element}
 use Rattle.protocol.proofs.Stored.{stored-none, stored-next}
 use Rattle.rq_digits.proofs.Sizes.{sizesAfter, sizes-first, sizes-next, row-is}
-use Rattle.rq_vector.proofs.Rows.{AllFit, row-words}
+use Rattle.rq_vector.proofs.Rows.{row-words}
 use Rattle.rq_vector.proofs.digits.decompose_to.Statement.{statement}
 use Rattle.rq_vector.proofs.digits.decompose_to.Tie as tie
 
@@ -33,13 +31,13 @@ loop-holds c = (omega arith, omega arith, sizes-first _ _ _ (c .sizes-of .ensure
 
 loop-again : tie.Need-loop-again Inv-loop μ-loop
 loop-again c =
-    let s = c .before .before .before .before .before .before .before .before .before .before .before .before .before .before .args in
+    let s = c .before .before .before .before .before .before .before .before .before .before .before .before .before .before .before .args in
     let l = c .before .before .before .before .before .before .before .before .loop in
-    let a = c .before .before .before .before .before .before .before .before .before .before .before .load .result .coeffs in
+    let settled = c .before .before .before .before .before .before .before .before .before .before .before .settled in
+    let a = settled .result .coeffs in
     let taken = c .before .before .before .before .before .before .take-row in
     let e = c .before .before .store .ensures in
-    let fit : AllFit a = λ j h. let f : Fits w32 (getD a j 0) = search needs in omega arith in
-    let row = row-is (s .base) a (l .sizes) (taken .result .row) (l .k) (l .inv .2) (taken .ensures .0) ∙ row-words (s .base) a (l .k) fit in (
+    let row = row-is (s .base) a (l .sizes) (taken .result .row) (l .k) (l .inv .2) (taken .ensures .0) ∙ row-words (s .base) a (l .k) (settled .ensures .1) in (
       omega arith,
       omega arith,
       sizes-next (s .base) a (l .sizes) (taken .result .sizes) (l .k) (l .inv .2) (taken .ensures .1),
@@ -54,12 +52,13 @@ same-length c = search needs
 
 returns : tie.Need-returns Inv-loop μ-loop
 returns c =
-    let s = c .before .before .before .before .before .before .before .args in
+    let s = c .before .before .before .before .before .before .before .before .args in
     let l = c .before .loop in
+    let settled = c .before .before .before .before .settled in
     let n : l .k ≡ s .parts = omega arith in
     l .inv .3
-    ∙ ap (λ k. splice (s .to .now) (s .to-at) (flat (table k (digit-element (s .base) (element (c .before .before .before .before .load .result .coeffs)))))) n
-    ∙ ap (λ a. splice (s .to .now) (s .to-at) (flat (table (s .parts) (digit-element (s .base) (element a))))) (c .before .before .before .before .load .ensures)
+    ∙ ap (λ k. splice (s .to .now) (s .to-at) (flat (table k (digit-element (s .base) (element (settled .result .coeffs)))))) n
+    ∙ ap (λ e. splice (s .to .now) (s .to-at) (flat (table (s .parts) (digit-element (s .base) e)))) (settled .ensures .0 ∙ ap element (c .before .before .before .before .before .load .ensures))
 
 pub decompose-to-spec : {M : Type 1} → statement M
 decompose-to-spec =
@@ -67,6 +66,7 @@ decompose-to-spec =
     (tie.spec
     Inv-loop
     μ-loop
+    (λ c κs. search needs)
     (λ c κs. search needs)
     (λ c κs. search needs)
     loop-holds

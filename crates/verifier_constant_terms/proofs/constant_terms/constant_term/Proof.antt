@@ -2,12 +2,13 @@
 use mathlib.Core.Path.{_≡_}
 use Prim.Native.Nat.{ℕ, _+_, _%_}
 use native.Mathlib.Omega.{arith}
+use Rattle.definitions.specs.Zq.{Q}
 use Rattle.verifier_constant_terms.specs.Terms.{products}
 use Rattle.verifier_constant_terms.proofs.constant_terms.constant_term.Statement.{statement}
 use Rattle.verifier_constant_terms.proofs.constant_terms.constant_term.Tie as tie
 
 -- a sum after another, modulo Q
-both : (t f a b : ℕ) → t % 4294967295 ≡ (f + b) % 4294967295 → f % 4294967295 ≡ (0 + a) % 4294967295 → t % 4294967295 ≡ (a + b) % 4294967295
+both : (t f a b : ℕ) → t % Q ≡ (f + b) % Q → f % Q ≡ (0 + a) % Q → t % Q ≡ (a + b) % Q
 both t f a b e g = omega arith
 
 returns : tie.Need-returns

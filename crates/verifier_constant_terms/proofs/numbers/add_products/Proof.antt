@@ -1,4 +1,4 @@
--- `add_products` meets its contract. The invariant: modulo Q the total is the sum and the first k products, and each product adds less than 2^33.
+-- `add_products` meets its contract. The invariant: modulo Q the total is the sum and the first k products, and each product adds less than 2^39.
 use mathlib.Core.Path.{_≡_, sym, _∙_, ap, ap₂}
 use Prim.Native.Nat.{ℕ, _+_, _-_, _*_, _/_, _%_, _≤_, _^_}
 use native.Mathlib.Nat.{add-zero, add-assoc}
@@ -6,25 +6,25 @@ use native.Mathlib.Omega.{arith}
 use lib.ListN.{getD}
 use Rattle.lists.specs.Sum.{Σ}
 use Rattle.lists.proofs.Sum.{Σ-suc}
-use Rattle.definitions.specs.Zq.{Q}
+use Rattle.definitions.specs.Zq.{Q, lackQ}
 use Rattle.definitions.proofs.Fits.{product-max}
 use Rattle.verifier_constant_terms.proofs.numbers.add_products.Statement.{statement}
 use Rattle.verifier_constant_terms.proofs.numbers.add_products.Tie as tie
 
--- the halves of a product are below 2^33 together
-halves-small : (p : ℕ) → p ≤ 18446744065119617025 → p / 4294967296 + p % 4294967296 ≤ 8589934590
+-- the halves of a product are below 2^39 together
+halves-small : (p : ℕ) → p ≤ 18446744065119617025 → p / 4294967296 * lackQ + p % 4294967296 ≤ 549755813888
 halves-small p h = omega arith
 
--- 2^32 is 1 modulo Q
-folds : (t p : ℕ) → (t + (p / 4294967296 + p % 4294967296)) % 4294967295 ≡ (t + p) % 4294967295
+-- 2^32 is what Q lacks of it modulo Q
+folds : (t p : ℕ) → (t + (p / 4294967296 * lackQ + p % 4294967296)) % Q ≡ (t + p) % Q
 folds t p = omega arith
 
 -- numbers that are the same modulo Q are so with another added
-more : (t s p : ℕ) → t % 4294967295 ≡ s % 4294967295 → (t + p) % 4294967295 ≡ (s + p) % 4294967295
+more : (t s p : ℕ) → t % Q ≡ s % Q → (t + p) % Q ≡ (s + p) % Q
 more t s p e = omega arith
 
 -- one more product
-next : (sum t p k : ℕ) (f : ℕ → ℕ) → t % Q ≡ (sum + Σ k f) % Q → p ≡ f k → (t + (p / 4294967296 + p % 4294967296)) % Q ≡ (sum + Σ (k + 1) f) % Q
+next : (sum t p k : ℕ) (f : ℕ → ℕ) → t % Q ≡ (sum + Σ k f) % Q → p ≡ f k → (t + (p / 4294967296 * lackQ + p % 4294967296)) % Q ≡ (sum + Σ (k + 1) f) % Q
 next sum t p k f e g =
     folds t p
     ∙ more t (sum + Σ k f) p e
@@ -32,7 +32,7 @@ next sum t p k f e g =
 
 abbrev Inv-loop : tie.InvT-loop
 Inv-loop sum x x-at y y-at count total₀ k₀ total k =
-    (k ≤ count) × (total % Q ≡ (sum + Σ k (λ m. getD x (x-at + m) 0 * getD y (y-at + m) 0)) % Q) × (total ≤ sum + k * 2 ^ 33)
+    (k ≤ count) × (total % Q ≡ (sum + Σ k (λ m. getD x (x-at + m) 0 * getD y (y-at + m) 0)) % Q) × (total ≤ sum + k * 2 ^ 39)
 
 abbrev μ-loop : tie.MeasureT-loop
 μ-loop sum x x-at y y-at count total₀ k₀ total k = count - k
@@ -45,9 +45,9 @@ loop-holds c = (omega arith, ap (λ x. x % Q) (sym (add-zero _)), omega arith)
 product-at : (c : tie.After-wide2 Inv-loop μ-loop) → c .before .before .wide .result * c .wide2 .result ≤ 18446744065119617025
 product-at c = product-max (c .before .before .wide .ensures .1) (c .wide2 .ensures .1)
 
--- its halves are below 2^33 together
+-- its halves are below 2^39 together
 small-at : (c : tie.After-wide2 Inv-loop μ-loop)
-    → c .before .before .wide .result * c .wide2 .result / 4294967296 + c .before .before .wide .result * c .wide2 .result % 4294967296 ≤ 8589934590
+    → c .before .before .wide .result * c .wide2 .result / 4294967296 * lackQ + c .before .before .wide .result * c .wide2 .result % 4294967296 ≤ 549755813888
 small-at c = halves-small (c .before .before .wide .result * c .wide2 .result) (product-at c)
 
 loop-again : tie.Need-loop-again Inv-loop μ-loop
@@ -82,6 +82,7 @@ add-products-spec =
     (λ c. omega arith)
     (λ c. omega arith)
     (λ c κs. tt)
+    (λ c. omega (arith, product-at c))
     (λ c. omega (arith, product-at c))
     (λ c. omega (arith, small-at c))
     (λ c. omega (arith, small-at c))

@@ -19,7 +19,7 @@ use Rattle.verifier_norms.proofs.norm_checks.check_norm_sum.Statement.{
 use Rattle.verifier_norms.proofs.norm_checks.check_norm_sum.Tie as tie
 
 -- few cells
-few : (n m : ℕ) → n ≤ m → m ≤ 256 → n ≤ 2 ^ 20
+few : (n m : ℕ) → n ≤ m → m ≤ 256 → n ≤ 2 ^ 18
 few n m h h′ = omega arith
 
 -- the upper halves of two norms can be added

@@ -1,5 +1,7 @@
 //! `labrador check`
 
+use labrador::{HALF, Q};
+
 use super::made;
 use crate::common::with_answer;
 use crate::desk::Desk;
@@ -37,12 +39,13 @@ fn what_is_missed() {
 #[test]
 fn a_sum_that_passes_q_is_told() {
     let desk = made("check_modulo");
-    let most = "2147483647";
+    let most = HALF;
     desk.text("b.stock", &format!("0,0,{most}\n0,1,35\n0,2,{most}\n0,3,26\n1,0,65\n"));
+    let sum = u64::from(Q) + 60;
     assert_eq!(run(&desk, "stock b.stock --job job --witness witness --force").status, 0);
     let ran = run(&desk, "check --job job --witness witness");
-    let told = "total 0 is met: left 60, right 60, difference 0; the lines add up to 4294967355, which is 60 modulo Q (total 60 = s0)";
-    assert_eq!(ran.out.lines().next(), Some(told));
+    let told = format!("total 0 is met: left 60, right 60, difference 0; the lines add up to {sum}, which is 60 modulo Q (total 60 = s0)");
+    assert_eq!(ran.out.lines().next(), Some(told.as_str()));
 }
 
 #[test]

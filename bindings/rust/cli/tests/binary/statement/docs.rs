@@ -7,6 +7,7 @@ use std::process::Command;
 use labrador::sha256;
 use labrador::statement::Statement;
 
+use crate::common::over;
 use crate::desk::Desk;
 use crate::run::{ran, BINARY};
 
@@ -23,6 +24,9 @@ fn blocks(page: &str, kind: &str) -> Vec<String> {
 #[cfg(unix)]
 #[test]
 fn the_commands_of_the_page_say_what_it_says() {
+    if over(false, true) {
+        return println!("not tried: docs/STATEMENT.md, whose figures are of 4294967295");
+    }
     let page = fs::read_to_string(root().join("docs/STATEMENT.md")).expect("the page");
     let (typed, said) = (blocks(&page, "sh"), blocks(&page, "text").concat());
     assert!(typed.len() > 7 && said.lines().count() > 30, "{typed:?}");
@@ -53,5 +57,7 @@ fn the_demonstration_s_job_is_that_of_its_statement() {
     let statement = Statement::parse(&quoted.join("\n")).unwrap_or_else(|mistake| panic!("{mistake}"));
     let bytes: Vec<u8> = statement.job().iter().flat_map(|word| word.to_le_bytes()).collect();
     let digest: String = sha256(&bytes).iter().map(|byte| format!("{byte:02x}")).collect();
-    assert_eq!(between(&source, "job_digest[] = \"", "\""), digest);
+    // of 4294967295, then of the prime
+    let digests: Vec<&str> = between(&source, "job_digest = ", ";").split('"').skip(1).step_by(2).collect();
+    assert_eq!(digests[over(0, 1)], digest);
 }

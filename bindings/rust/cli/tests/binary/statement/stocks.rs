@@ -1,6 +1,6 @@
 //! `labrador stock`
 
-use labrador::Q;
+use labrador::{HALF, Q};
 
 use super::{made, store};
 use crate::run::run;
@@ -33,10 +33,11 @@ fn a_witness_is_for_its_owner_alone() {
 fn a_mistake_makes_nothing() {
     let desk = store("stock_mistake");
     assert_eq!(run(&desk, "statement a.statement --job job").status, 0);
-    desk.text("b.stock", "1\n2147483648\n");
+    let above = HALF + 1;
+    desk.text("b.stock", &format!("1\n{above}\n"));
     let ran = run(&desk, "stock b.stock --job job --witness witness");
-    let told = "labrador: b.stock: line 2, column 1: 2147483648 stands there; a line of stock has a number from -2147483647 to 2147483647\n";
-    assert_eq!((ran.status, ran.line.as_str()), (2, told));
+    let told = format!("labrador: b.stock: line 2, column 1: {above} stands there; a line of stock has a number from -{HALF} to {HALF}\n");
+    assert_eq!((ran.status, ran.line), (2, told));
     desk.text("b.stock", "0,0,1\n0,64,2\n");
     let ran = run(&desk, "stock b.stock --job job --witness witness --json");
     assert!(ran.out.contains("\"line\":2,\"column\":3,\"found\":\"64\","), "{}", ran.out);

@@ -10,12 +10,23 @@ mul-product c =
     let s = c .before .before .args in
     omega (arith, product-max {a = s .self .0} {b = s .rhs .0} (omega arith) (omega arith))
 
-cast-t8 : tie.Need-cast-t8
-cast-t8 c =
-    let s = c .before .before .args in
+cast-t12 : tie.Need-cast-t12
+cast-t12 c =
+    let s = c .before .before .before .args in
     omega (arith, product-max {a = s .self .0} {b = s .rhs .0} (omega arith) (omega arith))
 
 pub mul-spec : {M : Type 1} → statement M
 mul-spec =
     tie.close
-    (tie.spec (λ c. search needs) (λ c. search needs) mul-product (λ c. search needs) cast-t8 (λ c κs. search needs) (λ c. search needs))
+    (tie.spec
+    (λ c. search needs)
+    (λ c. search needs)
+    mul-product
+    (λ c. search needs)
+    cast-t12
+    (λ c κs. search needs)
+    (λ c. search needs)
+    (λ c. search needs)
+    (λ c. omega arith)
+    (λ c. omega arith)
+    (λ c. search needs))

@@ -1,0 +1,12 @@
+-- What the definitions say of document 01's example with q = 4294967197 for Q.
+use mathlib.Core.Path.{_≡_, refl}
+use mathlib.Core.List.{[], _∷_}
+use Rattle.line_reading.specs.Text.{allDigits, valueAfter, decimalIn, decimal}
+use Rattle.line_reading.specs.Line.{beforeSpace, afterSpace, parse, text, answerTo}
+
+-- Input `4294967196 2` prints `4294967196 2 1 4294967195 -1`.
+pub example
+    : answerTo (52 ∷ 50 ∷ 57 ∷ 52 ∷ 57 ∷ 54 ∷ 55 ∷ 49 ∷ 57 ∷ 54 ∷ 32 ∷ 50 ∷ [])
+    ≡ 52 ∷ 50 ∷ 57 ∷ 52 ∷ 57 ∷ 54 ∷ 55 ∷ 49 ∷ 57 ∷ 54 ∷ 32 ∷ 50 ∷ 32 ∷ 49 ∷ 32 ∷ 52 ∷ 50 ∷ 57 ∷ 52 ∷ 57 ∷ 54 ∷ 55 ∷ 49 ∷ 57 ∷ 53 ∷ 32 ∷ 45 ∷ 49 ∷ []
+unfolding parse text beforeSpace afterSpace allDigits valueAfter decimal decimalIn
+example = refl

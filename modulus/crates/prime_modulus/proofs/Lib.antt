@@ -1,0 +1,10 @@
+pub mod Prime
+pub mod Two
+pub mod Field
+pub mod Halves
+pub mod Factor
+pub mod Tower
+pub mod Iota
+pub mod Small
+pub mod Units
+pub mod Rows
