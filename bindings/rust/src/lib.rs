@@ -22,6 +22,7 @@
 //! ```
 #![deny(unsafe_code)]
 
+mod draw;
 mod element;
 #[allow(unsafe_code)]
 mod ffi;
@@ -49,9 +50,11 @@ mod verdict;
 mod verifier;
 pub mod worth;
 
+pub use draw::draw;
 pub use element::{ChallengeWords, DigitRows, Element};
+pub use ffi::large_pages;
 pub use load::{load, load_into, load_needs, Load, LoadNeeds};
-pub use many::{verify_many, verify_many_with, Sent};
+pub use many::{verify_all, verify_each, verify_many, verify_many_with, Sent};
 pub use mistyped::{mistyped, mistyped_into, Mistyped};
 pub use needs::{output_need, scratch_need};
 pub use number::{parts_needed, projection_entry, recompose, Digits, Zq, HALF, Q};

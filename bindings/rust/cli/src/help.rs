@@ -88,6 +88,41 @@ pub const PROVE: Command = Command {
     example: "labrador prove --job a.job --randomness a.randomness --witness a.witness --transcript a.transcript",
 };
 
+pub const ROUND: Command = Command {
+    name: "round",
+    usage: "labrador round K --job FILE [--randomness FILE] --witness FILE --output FILE",
+    about: "Makes the message of round K, 1 to 5, of a session (docs/SESSION.md): u1; p; b''; u2; z, t, g and h. From round 2 on the randomness is \
+            what the desk has drawn up to that round, and nothing more; round 1 takes none. The five messages, joined by cat, are the transcript.",
+    options: &[
+        JOB,
+        opt("--randomness", "FILE", "the randomness up to this round, as labrador draw makes it"),
+        WITNESS,
+        opt("--output", "FILE", "the round's message"),
+        FORCE,
+        JSON,
+        HELP,
+    ],
+    example: "labrador round 2 --job a.job --randomness 1.randomness --witness a.witness --output 1.p",
+};
+
+pub const DRAW: Command = Command {
+    name: "draw",
+    usage: "labrador draw --job FILE --round K --randomness FILE",
+    about: "Draws what round K, 2 to 5, of a session asks (docs/SESSION.md), from the operating system's generator. Round 2 makes the file, with the \
+            projection; the others add their sections to it: 3 psi and omega, 4 alpha and beta, 5 signs and shuffle. The file is replaced \
+            whole; it is refused, and stays as it is, where it is not the randomness of the round before. Draw for one transcript only, after \
+            its message of the round before is there.",
+    options: &[
+        JOB,
+        opt("--round", "NUMBER", "the round, 2 to 5, that the randomness is drawn for"),
+        opt("--randomness", "FILE", "the transcript's randomness, made by round 2 and added to by the others"),
+        opt("--force", "", "with round 2: overwrite the file"),
+        JSON,
+        HELP,
+    ],
+    example: "labrador draw --job a.job --round 2 --randomness 1.randomness",
+};
+
 pub const VERIFY: Command = Command {
     name: "verify",
     usage: "labrador verify --job FILE --randomness FILE --transcript FILE [--report PAGE.html] [--statement FILE] [--strict]",
@@ -111,11 +146,22 @@ pub const VERIFY: Command = Command {
 
 pub const VERIFY_MANY: Command = Command {
     name: "verify-many",
-    usage: "labrador verify-many [--statement FILE] [--strict] --job FILE RANDOMNESS TRANSCRIPT [RANDOMNESS TRANSCRIPT]…",
-    about: "Judges one to eight transcripts for one job, each with its own randomness, and prints a line for each. Where all are accepted it \
+    usage: "labrador verify-many [--report PAGE.html] [--statement FILE] [--strict] [--threads N] --job FILE RANDOMNESS TRANSCRIPT [RANDOMNESS \
+            TRANSCRIPT]…",
+    about: "Judges any number of transcripts for one job, each with its own randomness, and prints a line for each. Where all are accepted it \
             says what they are worth together if the desk drew the randomness and nothing was tried again; what is handed in twice counts \
-            once. The job is read once for all. Exit status 0 all accepted, 1 a failed check, 2 one is refused.",
-    options: &[JOB, STATED, STRICT, JSON, HELP],
+            once. They are judged in groups of at most eight, on several threads; no more than eight are held in memory at a time, or \
+            as many as there are threads. Exit status 0 all accepted, 1 a failed check, 2 one is refused.",
+    options: &[
+        JOB,
+        opt("--report", "FILE", "write all verdicts, and what they are worth together, as a page to read or print"),
+        opt("--threads", "NUMBER", "work on so many threads (as many as processors where it is not given)"),
+        STATED,
+        STRICT,
+        FORCE,
+        JSON,
+        HELP,
+    ],
     example: "labrador verify-many --job a.job north.randomness north.transcript south.randomness south.transcript",
 };
 
@@ -233,11 +279,13 @@ pub const EXPLAIN: Command = Command {
     example: "labrador explain 22",
 };
 
-pub const COMMANDS: [&Command; 15] = [
+pub const COMMANDS: [&Command; 17] = [
     &LOAD,
     &DESCRIBE,
     &REVIEW,
     &PROVE,
+    &ROUND,
+    &DRAW,
     &VERIFY,
     &VERIFY_MANY,
     &SHED_PARTS,

@@ -6,13 +6,14 @@ use std::io::{ErrorKind, Write};
 use std::path::{Path, PathBuf};
 
 use crate::end::{file_system, usage, End};
+use crate::files::{Bytes, CHUNK};
 
 /// A file to be made.
-pub struct Output {
+pub struct Output<'a> {
     pub path: PathBuf,
     /// Readable by its owner alone.
     pub secret: bool,
-    pub bytes: Vec<u8>,
+    pub bytes: Bytes<'a>,
 }
 
 fn failed(path: &Path, error: std::io::Error) -> End {
@@ -81,7 +82,12 @@ fn write_beside(output: &Output) -> Result<Temporary, End> {
     let path = output.path.with_file_name(format!(".{name}.{}", std::process::id()));
     let mut file = new_file(&path, output.secret).map_err(|error| failed(&output.path, error))?;
     let temporary = Temporary { path };
-    let written = file.write_all(&output.bytes).and_then(|()| file.sync_all());
+    if let Some(about) = fs::metadata(&output.path).ok().filter(|_| !output.secret) {
+        // what is replaced keeps its mode
+        file.set_permissions(about.permissions()).map_err(|error| failed(&output.path, error))?;
+    }
+    let mut chunks = output.bytes.chunks(CHUNK);
+    let written = chunks.try_for_each(|chunk| file.write_all(&chunk)).and_then(|()| file.sync_all());
     written.map_err(|error| failed(&output.path, error))?;
     Ok(temporary)
 }

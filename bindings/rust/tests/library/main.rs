@@ -4,7 +4,9 @@
 mod common;
 
 mod answers;
+mod any;
 mod apart;
+mod draw;
 mod layout;
 mod leaves;
 mod left;

@@ -1,7 +1,7 @@
 //! `labrador load`
 
 use std::ffi::OsStr;
-use std::path::Path;
+use std::path::{Path, PathBuf};
 
 use labrador::section_one::PARAMETERS;
 use labrador::{load, Parameters};
@@ -43,6 +43,10 @@ fn parameters(args: &Args) -> Result<Parameters, End> {
     Ok(if l_is_given { given } else { Parameters { L: least, ..given } })
 }
 
+fn file(path: PathBuf, words: &[u32], secret: bool) -> Output<'_> {
+    Output { path, secret, bytes: bytes_of(words) }
+}
+
 pub fn run(command: &Command, args: &Args) -> Outcome {
     let parameters = parameters(args)?;
     let seed = args.value("--seed").map_or(Ok(1), |seed| number(seed, "a seed"))?;
@@ -54,7 +58,6 @@ pub fn run(command: &Command, args: &Args) -> Outcome {
     output::admit(&outputs, &[], force)?;
     let load = load(&parameters, seed).map_err(|refusal| unfit(refusal.to_string()))?;
     let lengths = [&load.job, &load.witness, &load.randomness].map(|words| words.len() as u64);
-    let file = |path, words: &[u32], secret| Output { path, secret, bytes: bytes_of(words) };
     let files =
         [file(job, &load.job, false), file(witness, &load.witness, true), file(randomness, &load.randomness, false)];
     output::write(&files, force)?;

@@ -7,11 +7,13 @@ use crate::end::{usage, End, Outcome, Status};
 use crate::help::{self, Command};
 
 pub mod describe;
+pub mod draw;
 pub mod explain;
 pub mod load;
 pub mod many;
 pub mod prove;
 pub mod review;
+pub mod round;
 pub mod sheds;
 pub mod statement;
 pub mod verify;
@@ -19,11 +21,13 @@ pub mod verify;
 type Run = fn(&Command, &Args) -> Outcome;
 
 fn found(name: &str) -> Option<(&'static Command, Run)> {
-    let runs: [Run; 15] = [
+    let runs: [Run; 17] = [
         load::run,
         describe::run,
         review::run,
         prove::run,
+        round::run,
+        draw::run,
         verify::run,
         many::run,
         sheds::parts,

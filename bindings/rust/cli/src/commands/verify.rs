@@ -6,7 +6,7 @@ use labrador::{verify, FailedCheck, Refusal, Verdict};
 
 use crate::args::Args;
 use crate::end::{End, Outcome, Status};
-use crate::files::read_slice;
+use crate::files::{read_slice, Bytes};
 use crate::help::Command;
 use crate::json::Json;
 use crate::judge;
@@ -99,8 +99,8 @@ pub fn held(end: End, compared: Option<&Compared>) -> End {
 }
 
 /// Writes the page; where it fails, the verdict is told with it.
-fn write_page(path: &Path, page: String, force: bool, end: &End) -> Result<(), End> {
-    let file = Output { path: path.to_path_buf(), secret: false, bytes: page.into_bytes() };
+pub fn write_page(path: &Path, page: String, force: bool, end: &End) -> Result<(), End> {
+    let file = Output { path: path.to_path_buf(), secret: false, bytes: Bytes::Text(page) };
     output::write(&[file], force).map_err(|failed| {
         let line = format!("{}, but the page was not written: {}", end.line, failed.line);
         End { warnings: end.warnings.clone(), ..End::new(Status::FileSystem, line) }.with(end.fields.clone())

@@ -1,5 +1,17 @@
 //! Pieces of a page.
 
+use super::style::STYLE;
+
+/// A whole page.
+pub fn document(title: &str, body: &str) -> String {
+    let title = escape(title);
+    format!(
+        "<!DOCTYPE html>\n<html lang=\"en\">\n<head>\n<meta charset=\"utf-8\">\n\
+         <meta name=\"viewport\" content=\"width=device-width, initial-scale=1\">\n\
+         <title>{title}</title>\n<style>\n{STYLE}</style>\n</head>\n<body>\n<main>\n{body}</main>\n</body>\n</html>\n"
+    )
+}
+
 /// Text as it stands in a page.
 pub fn escape(text: &str) -> String {
     let mut out = String::with_capacity(text.len());

@@ -12,6 +12,7 @@ use crate::worth::Told;
 mod checks;
 mod findings;
 mod html;
+pub mod many;
 mod norms;
 mod place;
 mod stated;
@@ -59,7 +60,6 @@ impl Report<'_> {
 }
 
 pub fn page(report: &Report) -> String {
-    let title = verdict::title(report);
     let beside = [place::around(report), norms::bars(report), findings::list(report)].concat();
     let parts = [
         verdict::header(report),
@@ -69,12 +69,5 @@ pub fn page(report: &Report) -> String {
         tables::sections(report),
         verdict::footer(),
     ];
-    format!(
-        "<!DOCTYPE html>\n<html lang=\"en\">\n<head>\n<meta charset=\"utf-8\">\n\
-         <meta name=\"viewport\" content=\"width=device-width, initial-scale=1\">\n\
-         <title>{}</title>\n<style>\n{}</style>\n</head>\n<body>\n<main>\n{}</main>\n</body>\n</html>\n",
-        html::escape(&title),
-        style::STYLE,
-        parts.concat()
-    )
+    html::document(&verdict::title(report), &parts.concat())
 }

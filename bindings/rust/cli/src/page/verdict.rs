@@ -82,7 +82,7 @@ fn file(((slice, name), words): ((&labrador::Slice, &std::path::Path), &[u32])) 
 }
 
 /// With an upper-case first letter and a full stop.
-fn sentence(text: &str) -> String {
+pub fn sentence(text: &str) -> String {
     let mut letters = text.chars();
     let first: String = letters.next().map(|c| c.to_uppercase().to_string()).unwrap_or_default();
     let stop = if text.ends_with('.') { "" } else { "." };

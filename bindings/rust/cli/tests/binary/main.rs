@@ -5,6 +5,7 @@ mod common;
 
 mod bad_files;
 mod desk;
+mod groups;
 mod many;
 mod outputs;
 mod pages;
@@ -12,6 +13,7 @@ mod readme;
 mod render;
 mod reviews;
 mod run;
+mod session;
 mod sheds;
 mod statement;
 mod statuses;
