@@ -14,7 +14,7 @@ pub(super) fn in_threads<T: Send>(count: usize, threads: usize, work: impl Fn(us
     };
     let mut done: Vec<(usize, T)> = scope(|scope| {
         let more = 1..threads.min(count);
-        let others: Vec<_> = more.map_while(|_| Builder::new().spawn_scoped(scope, &worker).ok()).collect();
+        let others: Vec<_> = more.map_while(|_| Builder::new().spawn_scoped(scope, worker).ok()).collect();
         let mut done = worker();
         done.extend(others.into_iter().flat_map(|other| other.join().expect("no work panics")));
         done

@@ -60,7 +60,7 @@ fn what_cannot_be_read_is_given_back_in_its_place() {
         transcript.extend(&cases[index].transcript);
         Ok(())
     };
-    X
+    let told = |index: usize, verdict: labrador::Verdict, sent: Sent<'_>| {
         assert_eq!(sent.transcript, cases[index].transcript);
         (index, verdict.number())
     };

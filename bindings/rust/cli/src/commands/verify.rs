@@ -103,7 +103,8 @@ pub fn write_page(path: &Path, page: String, force: bool, end: &End) -> Result<(
     let file = Output { path: path.to_path_buf(), secret: false, bytes: Bytes::Text(page) };
     output::write(&[file], force).map_err(|failed| {
         let line = format!("{}, but the page was not written: {}", end.line, failed.line);
-        End { warnings: end.warnings.clone(), ..End::new(Status::FileSystem, line) }.with(end.fields.clone())
+        let (out, warnings) = (end.out.clone(), end.warnings.clone());
+        End { out, warnings, ..End::new(Status::FileSystem, line) }.with(end.fields.clone())
     })
 }
 
