@@ -49,6 +49,9 @@ mod verdict;
 mod verifier;
 pub mod worth;
 
+#[cfg(feature = "system")]
+pub use ffi::system;
+
 pub use element::{ChallengeWords, DigitRows, Element};
 pub use load::{load, load_into, load_needs, Load, LoadNeeds};
 pub use many::{verify_many, verify_many_with, Sent};

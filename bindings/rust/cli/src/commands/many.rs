@@ -13,11 +13,12 @@ use crate::files::read_slice;
 use crate::help::Command;
 use crate::json::Json;
 use crate::progress::Progress;
+use crate::shown;
 use crate::stated::Given;
 use crate::worth::{together, warnings, Told};
 
 fn refused(refusal: Refusal) -> End {
-    end::refused(&refusal, refusal.to_string())
+    end::refused(&refusal, refusal.to_string()).judging()
 }
 
 /// The words of a randomness and of a transcript.
@@ -109,7 +110,7 @@ fn end_of(job: &[u32], judged: &[Judged], args: &Args) -> Outcome {
         ("verdicts", Json::List(list)),
     ];
     let zero_weights = judged.iter().any(|one| !one.warnings.is_empty());
-    let end = End::new(worst, end_line(&of_job, judged, counted));
+    let end = End::new(worst, end_line(&of_job, judged, counted)).judging();
     let end = strict(end, Some(&of_job), zero_weights, args);
     Ok(end.printing(out).with(fields).with(of_job.fields(&of_job.worth)).warning(told))
 }
@@ -140,7 +141,7 @@ pub fn run(command: &Command, args: &Args) -> Outcome {
         .zip(&pairs)
         .map(|((verdict, sent), pair)| {
             let warnings = warnings(&verdict, &job, sent.randomness);
-            Judged { name: pair[1].display().to_string(), verdict, sent, warnings }
+            Judged { name: shown::name(pair[1]), verdict, sent, warnings }
         })
         .collect();
     Ok(held(end_of(&job, &judged, args)?, given.map(|given| given.compared(&job)).as_ref()))
