@@ -50,6 +50,9 @@ mod verdict;
 mod verifier;
 pub mod worth;
 
+#[cfg(feature = "system")]
+pub use ffi::system;
+
 pub use draw::draw;
 pub use element::{ChallengeWords, DigitRows, Element};
 pub use ffi::large_pages;

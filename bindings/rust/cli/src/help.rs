@@ -1,4 +1,9 @@
-//! The commands with their options and examples.
+//! The commands with their options and examples: the help, the man page and the completions are made of this table.
+
+use crate::commands::load;
+
+pub mod completions;
+pub mod man;
 
 /// An option; `value` names what it takes, and is empty where it takes nothing.
 pub struct Opt {
@@ -10,6 +15,7 @@ pub struct Opt {
 pub struct Command {
     pub name: &'static str,
     pub usage: &'static str,
+    /// The first sentence says what the command is for.
     pub about: &'static str,
     pub options: &'static [Opt],
     pub example: &'static str,
@@ -48,8 +54,8 @@ pub const LOAD: Command = Command {
 pub const DESCRIBE: Command = Command {
     name: "describe",
     usage: "labrador describe [--job FILE] [--as KIND] [--statement FILE] FILE…",
-    about: "Prints what is wrong with each file, if anything is; a job's parameters by name; each section with its place, count \
-            and meaning. The others are described by a job: the one that --job names, or the first among the files.",
+    about: "Says what files hold, and first what is wrong with them. Prints a job's parameters by name, and each section with its \
+            place, count and meaning. The others are described by a job: the one that --job names, or the first among the files.",
     options: &[
         JOB,
         opt("--as", "KIND", "read the files as job, randomness, witness or transcript, whatever they look like"),
@@ -63,8 +69,8 @@ pub const DESCRIBE: Command = Command {
 pub const REVIEW: Command = Command {
     name: "review",
     usage: "labrador review JOB",
-    about: "Says of every job what chance one accepted transcript leaves a false statement, how many transcripts give 64 bits, and what the \
-            statement does not force, the worst first: checks that can never fail, rows of A that are multiples of each other, norms and \
+    about: "Says what an acceptance is worth and what the job does not force. Of every job it says what chance one accepted transcript \
+            leaves a false statement, how many transcripts give 64 bits, and what the statement does not force, the worst first: checks that can never fail, rows of A that are multiples of each other, norms and \
             totals that can be wrong, constraints that say nothing, repeat or contradict another. The chances are those of the attacks \
             that are known. Exit status 0 where it finds only what holds of every job, 1 with more.",
     options: &[JSON, HELP],
@@ -173,8 +179,8 @@ const VECTORS: Opt = opt("--vectors", "FILE", "the run's witness vectors; they a
 pub const SHED_PARTS: Command = Command {
     name: "shed-parts",
     usage: "labrador shed-parts --job FILE --randomness FILE --witness FILE --first N --end N --projection FILE --vectors FILE",
-    about: "Takes a run of witness vectors and its projection words out of a whole witness and a whole randomness: what one shed's \
-            machine is handed.",
+    about: "Takes what one shed's machine is handed out of a whole witness and a whole randomness. That is a run of witness vectors and its \
+            projection words.",
     options: &[JOB, RANDOMNESS, WITNESS, FIRST, END, PROJECTION, VECTORS, FORCE, JSON, HELP],
     example: "labrador shed-parts --job a.job --randomness a.randomness --witness a.witness --first 0 --end 2 --projection shed1/projection \
               --vectors shed1/vectors",
@@ -209,7 +215,7 @@ pub const SHED_ROWS: Command = Command {
 pub const ADD_PROJECTIONS: Command = Command {
     name: "add-projections",
     usage: "labrador add-projections --p FILE P P…",
-    about: "Adds the p of two or more runs, in the order in which they are given; every order gives the same sum.",
+    about: "Adds the p of two or more runs. They are added in the order in which they are given; every order gives the same sum.",
     options: &[opt("--p", "FILE", "the sum"), FORCE, JSON, HELP],
     example: "labrador add-projections --p a.p shed1/p shed2/p",
 };
@@ -239,8 +245,8 @@ pub const STATEMENT: Command = Command {
 pub const STOCK: Command = Command {
     name: "stock",
     usage: "labrador stock FILE --job FILE --witness FILE",
-    about: "Makes the witness of a stock list: a number a line, line 0 of s0 first, or vector,line,number a line. Lines that are not given \
-            are 0.",
+    about: "Makes the witness of a stock list. The list has a number a line, line 0 of s0 first, or vector,line,number a line. Lines that \
+            are not given are 0.",
     options: &[JOB, WITNESS, FORCE, JSON, HELP],
     example: "labrador stock sheds.stock --job sheds.job --witness sheds.witness",
 };
@@ -248,8 +254,8 @@ pub const STOCK: Command = Command {
 pub const CHECK: Command = Command {
     name: "check",
     usage: "labrador check --job FILE --witness FILE",
-    about: "Says, before anything is proved, which totals the witness meets, by how much it misses the others, and each vector's norm against \
-            A's bound. Exit status 0 all met, 1 something is missed, 2 unfit.",
+    about: "Says before anything is proved which totals a witness meets. It says by how much it misses the others, and each vector's norm \
+            against A's bound. Exit status 0 all met, 1 something is missed, 2 unfit.",
     options: &[JOB, WITNESS, JSON, HELP],
     example: "labrador check --job sheds.job --witness sheds.witness",
 };
@@ -257,8 +263,8 @@ pub const CHECK: Command = Command {
 pub const BOUNDS: Command = Command {
     name: "bounds",
     usage: "labrador bounds --statement FILE --stock FILE [--slack PERCENT] [--sessions N]",
-    about: "Prints the six bounds that honest transcripts of a statement and a stock need, as lines of a statement file; the file may lack \
-            them here. Exit status 1 where one of the transcripts would not pass.",
+    about: "Prints the bounds that honest transcripts of a statement and a stock need. They are the six lines of a statement file, which \
+            may lack them here. Exit status 1 where one of the transcripts would not pass.",
     options: &[
         opt("--statement", "FILE", "the statement file"),
         opt("--stock", "FILE", "the stock list; it is secret"),
@@ -273,8 +279,7 @@ pub const BOUNDS: Command = Command {
 pub const EXPLAIN: Command = Command {
     name: "explain",
     usage: "labrador explain [NUMBER]",
-    about:
-        "Says what the number of a refusal or of a failed check means; without a number, all of them in a line each.",
+    about: "Says what the number of a refusal or of a failed check means. Without a number it says all of them, in a line each.",
     options: &[JSON, HELP],
     example: "labrador explain 22",
 };
@@ -299,29 +304,80 @@ pub const COMMANDS: [&Command; 17] = [
     &EXPLAIN,
 ];
 
+impl Opt {
+    /// Whether it takes the name of a file.
+    pub fn takes_file(&self) -> bool {
+        matches!(self.value, "FILE" | "JOB")
+    }
+
+    /// `--job FILE`
+    fn called(&self) -> String {
+        format!("{} {}", self.name, self.value).trim_end().to_string()
+    }
+}
+
 impl Command {
     pub fn hint(&self) -> String {
         format!("labrador {} --help says more", self.name)
     }
 
+    /// What the command is for.
+    fn brief(&self) -> &'static str {
+        self.about.split(". ").next().unwrap_or_default().trim_end_matches('.')
+    }
+
     pub fn help(&self) -> String {
         let mut out = format!("{}\n\n  {}\n\n", self.about, self.usage);
         for option in self.options {
-            let name = format!("{} {}", option.name, option.value);
-            out += &format!("  {name:<20} {}\n", option.about);
+            out += &format!("  {:<20} {}\n", option.called(), option.about);
         }
         if self.name == LOAD.name {
-            out += &crate::commands::load::parameters_help();
+            out += "\nParameters, with the value of one that is not given:\n";
+            for (given, meaning) in load::parameters_help() {
+                out += &format!("  {given:<20} {meaning}\n");
+            }
+            out += &format!("  {}\n", load::L_HELP);
         }
         out + &format!("\nExample:\n  {}\n", self.example)
     }
 }
 
+/// What the program is, files are and the exit status says, a sentence each.
+const ABOUT: &str = "LaBRADOR from the command line, over proved calls.";
+const FILES: &str =
+    "Files are words of four bytes, the least byte first. - is no file: standard input is not read, and files are not \
+                     written to standard output.";
+const STATUSES: [(u8, &str); 5] = [
+    (0, "accepted or made"),
+    (1, "a failed check or something found"),
+    (2, "refused or unfit input"),
+    (3, "the file system failed"),
+    (64, "a wrong call"),
+];
+/// The calls that are no commands.
+const OTHERS: [(&str, &str); 4] = [
+    ("help [COMMAND]", "says what the commands are for, or how one is called, as COMMAND --help does"),
+    ("help --man", "prints the man page"),
+    ("help --bash, --zsh", "prints the completions for the shell"),
+    ("--version, -V", "prints the version"),
+];
+
 pub fn general() -> String {
-    let mut out = "LaBRADOR from the command line, over proved calls.\n\n".to_string();
+    let mut out = format!("{ABOUT}\n\n");
     for command in COMMANDS {
-        out += &format!("  {}\n", command.usage);
+        out += &format!("  {:<18} {}\n", command.name, command.brief());
     }
-    out + "\nFiles are words of four bytes, the least byte first. Exit status: 0 accepted or made, 1 a failed check or something \
-           found,\n2 refused or unfit input, 3 the file system failed, 64 a wrong call. labrador COMMAND --help says more.\n"
+    out += "\n";
+    for (call, about) in OTHERS {
+        out += &format!("  {call:<18} {about}\n");
+    }
+    let statuses = STATUSES.map(|(status, meaning)| format!("{status} {meaning}")).join(", ");
+    out + &format!("\n{FILES}\nExit status: {statuses}.\nlabrador COMMAND --help says more.\n")
+}
+
+/// The name under which the program is called, for its man page and completions.
+fn program() -> String {
+    let called = std::env::args_os().next().map(std::path::PathBuf::from);
+    let name = called.as_ref().and_then(|path| path.file_name()).map(|name| name.to_string_lossy().into_owned());
+    name.unwrap_or_else(|| "labrador".to_string())
 }

@@ -2,6 +2,8 @@
 
 use std::fmt;
 
+use crate::shown::steers;
+
 /// A value. Figures that can pass 2^53 are text, so that no reader rounds them.
 #[derive(Clone, Debug)]
 pub enum Json {
@@ -24,7 +26,7 @@ fn quoted(f: &mut fmt::Formatter<'_>, text: &str) -> fmt::Result {
         match c {
             '"' => f.write_str("\\\"")?,
             '\\' => f.write_str("\\\\")?,
-            c if c < ' ' => write!(f, "\\u{:04x}", c as u32)?,
+            c if steers(c) => write!(f, "\\u{:04x}", c as u32)?,
             c => write!(f, "{c}")?,
         }
     }
@@ -65,7 +67,7 @@ mod tests {
     #[test]
     fn text_is_escaped() {
         let value =
-            Json::Object(vec![("a", Json::text("\"\\\n")), ("b", Json::List(vec![Json::Number(1), Json::Null]))]);
-        assert_eq!(value.to_string(), r#"{"a":"\"\\\u000a","b":[1,null]}"#);
+            Json::Object(vec![("a", Json::text("\"\\\n\u{9b}")), ("b", Json::List(vec![Json::Number(1), Json::Null]))]);
+        assert_eq!(value.to_string(), r#"{"a":"\"\\\u000a\u009b","b":[1,null]}"#);
     }
 }

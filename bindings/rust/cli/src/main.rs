@@ -11,16 +11,18 @@ mod files;
 mod help;
 mod json;
 mod judge;
+mod near;
 mod output;
 mod page;
 mod progress;
+mod shown;
 mod stated;
 mod texts;
 mod worth;
 
 fn main() -> ExitCode {
     let arguments: Vec<OsString> = std::env::args_os().skip(1).collect();
-    let json = arguments.iter().any(|argument| argument == "--json");
+    let json = arguments.iter().take_while(|argument| *argument != "--").any(|argument| argument == "--json");
     match commands::run(&arguments) {
         Ok(end) | Err(end) => end.say(json),
     }

@@ -7,6 +7,7 @@ use labrador::statement::{totals, Statement};
 use labrador::{expected, Place, Slice};
 
 use crate::end::End;
+use crate::shown;
 use crate::texts;
 
 /// So many terms of a total are told; `labrador statement --from` prints all.
@@ -52,7 +53,7 @@ impl Given<'_> {
             Some(at) => format!("A to D are not those of the seed: word {at} is another ({})", spot(at)),
         };
         let difference = first_difference(job, &self.statement.job());
-        let (shown, same) = (self.path.display(), difference.is_none());
+        let (shown, same) = (shown::name(self.path), difference.is_none());
         let whole = match difference {
             None => format!("the job is that of {shown}"),
             Some(at) => format!("the job is not that of {shown}: word {at} is another ({})", spot(at as u64)),

@@ -16,11 +16,12 @@ use crate::json::Json;
 use crate::output;
 use crate::page::many::{page, Report};
 use crate::progress::Progress;
+use crate::shown;
 use crate::stated::Given;
 use crate::worth::{together, warnings, Told};
 
 fn refused(refusal: Refusal) -> End {
-    end::refused(&refusal, refusal.to_string())
+    end::refused(&refusal, refusal.to_string()).judging()
 }
 
 /// A transcript that was judged, without its words.
@@ -65,7 +66,7 @@ impl Desk {
         let says = line(&verdict, [&self.job, sent.randomness, sent.transcript], Some(&self.told), &warnings);
         let can_count = verdict.is_accepted() && warnings.is_empty();
         let marks = can_count.then(|| self.marker.marks(&sent));
-        Judged { names: [0, 1].map(|k| pair[k].display().to_string()), verdict, says, warnings, marks }
+        Judged { names: [0, 1].map(|k| shown::name(pair[k])), verdict, says, warnings, marks }
     }
 
     /// How many of the transcripts count, and what is to be told of them.
@@ -139,7 +140,7 @@ fn end_of(desk: &Desk, judged: &[Judged], together: &Together, args: &Args) -> E
         ("verdicts", Json::List(list)),
     ];
     let zero_weights = judged.iter().any(|one| !one.warnings.is_empty());
-    let end = End::new(worst, end_line(desk, judged, together));
+    let end = End::new(worst, end_line(desk, judged, together)).judging();
     let end = strict(end, Some(&desk.told), zero_weights, args);
     let of_job = desk.told.fields(&desk.told.worth);
     end.printing(out).with(fields).with(of_job).warning(together.warnings.clone())

@@ -133,7 +133,7 @@ pub fn run(command: &Command, args: &Args) -> Outcome {
     let no_findings = || vec![("findings", Json::List(Vec::new()))];
     let of_job = told_of_job.as_ref().map_or_else(no_findings, |job| job.fields(&job.worth_with(&warnings)));
     let said = line(&verdict, slices, told_of_job.as_ref(), &warnings);
-    let end = strict(End::new(status, said), told_of_job.as_ref(), !warnings.is_empty(), args);
+    let end = strict(End::new(status, said).judging(), told_of_job.as_ref(), !warnings.is_empty(), args);
     let end = end.with(fields).with(of_job).warning(warnings.clone());
     let compared = given.as_ref().filter(|_| told_of_job.is_some()).map(|given| given.compared(&job));
     let end = held(end, compared.as_ref());

@@ -8,6 +8,7 @@ use super::html::{document, escape, section, table, Row};
 use super::verdict::sentence;
 use super::{findings, stated, tables};
 use crate::commands::many::{Judged, Together};
+use crate::shown;
 use crate::stated::Compared;
 use crate::worth::{chance_sentence, drawn_sentence, Told};
 
@@ -58,7 +59,7 @@ fn header(report: &Report) -> String {
         Some(_) => format!("what is said of them together holds {}", report.together.rests_on()),
         None => report.together.rests_on().to_string(),
     };
-    let judged = format!("judged under the job {} ({} words)", report.job.display(), report.words.len());
+    let judged = format!("judged under the job {} ({} words)", shown::name(report.job), report.words.len());
     let told = warnings.chain([rests, worth, judged]);
     let told: String = told.map(|text| format!("<p>{}</p>\n", escape(&sentence(&text)))).collect();
     let heading = escape(&report.title());

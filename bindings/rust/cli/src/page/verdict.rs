@@ -5,6 +5,7 @@ use labrador::{Verdict, Q};
 
 use super::html::escape;
 use super::{Report, SLICES};
+use crate::shown;
 use crate::worth::{chance_sentence, drawn_sentence};
 
 /// The verdict in a line; an acceptance has what it is worth beside it.
@@ -78,7 +79,7 @@ pub fn header(report: &Report) -> String {
 }
 
 fn file(((slice, name), words): ((&labrador::Slice, &std::path::Path), &[u32])) -> String {
-    format!("{} {} ({} words)", slice.name(), name.display(), words.len())
+    format!("{} {} ({} words)", slice.name(), shown::name(name), words.len())
 }
 
 /// With an upper-case first letter and a full stop.

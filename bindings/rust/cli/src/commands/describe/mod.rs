@@ -10,10 +10,11 @@ use crate::files::{read, read_slice, Words};
 use crate::help::Command;
 use crate::json::Json;
 use crate::judge;
+use crate::shown;
 use crate::stated::{Compared, Given};
 
 use self::json::json_of;
-use self::text::describe;
+use self::text::{describe, wrong};
 
 mod json;
 mod text;
@@ -52,7 +53,7 @@ fn compared(given: &Given, job: Option<&[u32]>) -> Compared {
         Some(job) => given.compared(job),
         None => Compared {
             same: false,
-            told: vec![format!("there is no fit job to hold {} against", given.path.display())],
+            told: vec![format!("there is no fit job to hold {} against", shown::name(given.path))],
         },
     }
 }
@@ -78,10 +79,11 @@ pub fn run(command: &Command, args: &Args) -> Outcome {
     }
     let (mut out, mut list, mut first) = (String::new(), Vec::new(), None);
     for file in &files {
-        let (told, refusal) = describe(file, job.as_deref());
+        let wrong = wrong(file, job.as_deref());
+        let told = describe(file, job.as_deref(), wrong.as_deref());
         out += &format!("{}{told}", if out.is_empty() { "" } else { "\n" });
-        list.push(json_of(file, job.as_deref(), refusal.as_ref()));
-        first = first.or(refusal.map(|refusal| format!("{}: {refusal}", file.path.display())));
+        list.push(json_of(file, job.as_deref(), wrong.as_deref()));
+        first = first.or(wrong.map(|wrong| format!("{}: {wrong}", file.path.display())));
     }
     let compared = given.as_ref().map(|given| compared(given, job.as_deref()));
     let told = compared.as_ref().map(|compared| compared.told.clone()).unwrap_or_default();

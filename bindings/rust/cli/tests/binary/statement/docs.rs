@@ -1,51 +1,19 @@
 //! The page of statements, pasted; and the statement of the C demonstration.
 
 use std::fs;
-use std::path::{Path, PathBuf};
-use std::process::Command;
 
 use labrador::sha256;
 use labrador::statement::Statement;
 
 use crate::common::over;
-use crate::desk::Desk;
-use crate::run::{ran, BINARY};
+use crate::pasted::{page_is_true, root};
 
-fn root() -> PathBuf {
-    Path::new(env!("CARGO_MANIFEST_DIR")).join("../../..")
-}
-
-/// The fenced blocks of this kind.
-fn blocks(page: &str, kind: &str) -> Vec<String> {
-    let fence = format!("```{kind}\n");
-    page.split(&fence).skip(1).map(|rest| rest.split("```").next().unwrap_or_default().to_string()).collect()
-}
-
-/// Pastes a page's blocks marked `sh` in a desk's folder and looks for the lines of those marked `text`, each behind the one before. Gives the numbers
-/// of blocks and of lines.
-pub fn pasted(desk: &Desk, page: &str) -> (usize, usize) {
-    let page = fs::read_to_string(root().join(page)).expect("the page");
-    let (typed, said) = (blocks(&page, "sh"), blocks(&page, "text").concat());
-    let folder = Path::new(BINARY).parent().expect("the binary's folder");
-    let script = format!("PATH={}:$PATH\nexec 2>&1\n{}", folder.display(), typed.concat());
-    let output = Command::new("sh").args(["-c", &script]).current_dir(&desk.folder).output().expect("a shell");
-    let told = ran(output).out;
-    let mut lines = told.lines();
-    for line in said.lines() {
-        let is_said = |found: &str| line.strip_suffix('…').map_or(found == line, |begin| found.starts_with(begin));
-        assert!(lines.any(is_said), "{line} is not said in its place:\n{told}");
-    }
-    (typed.len(), said.lines().count())
-}
-
-#[cfg(unix)]
 #[test]
 fn the_commands_of_the_page_say_what_it_says() {
     if over(false, true) {
         return println!("not tried: docs/STATEMENT.md, whose figures are of 4294967295");
     }
-    let (blocks, lines) = pasted(&Desk::new("page_of_statements"), "docs/STATEMENT.md");
-    assert!(blocks > 7 && lines > 30);
+    page_is_true("STATEMENT.md", 8);
 }
 
 /// What stands between two marks of a text.
