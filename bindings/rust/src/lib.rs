@@ -22,10 +22,12 @@
 //! ```
 #![deny(unsafe_code)]
 
+mod constraints;
 mod element;
 #[allow(unsafe_code)]
 mod ffi;
 mod handed;
+mod hashes;
 mod load;
 mod many;
 pub mod meaning;
@@ -50,6 +52,7 @@ mod verifier;
 pub mod worth;
 
 pub use element::{ChallengeWords, DigitRows, Element};
+pub use hashes::{sha256_of_words, ARCHIVE_SHA256};
 pub use load::{load, load_into, load_needs, Load, LoadNeeds};
 pub use many::{verify_many, verify_many_with, Sent};
 pub use mistyped::{mistyped, mistyped_into, Mistyped};
@@ -62,7 +65,7 @@ pub use refusal::Refusal;
 pub use rounds::{round, round_into, Round};
 pub use section_one::Parameters;
 pub use sections::Slice;
-pub use sha256::sha256;
+pub use sha256::{hex, sha256};
 pub use sheds::{
     add_projections, add_projections_into, shed_projection, shed_projection_into, shed_rows, shed_rows_into, Run,
     RunParts, PROJECTION_NEED,

@@ -5,6 +5,7 @@ mod common;
 
 mod answers;
 mod apart;
+mod hashes;
 mod layout;
 mod leaves;
 mod left;
