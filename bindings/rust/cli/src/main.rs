@@ -6,11 +6,15 @@ use std::process::ExitCode;
 
 mod args;
 mod commands;
+mod constraints;
 mod end;
+mod filed;
 mod files;
 mod help;
 mod json;
 mod judge;
+mod mends;
+mod numbers;
 mod output;
 mod page;
 mod progress;

@@ -4,13 +4,16 @@ use std::ffi::OsString;
 
 use crate::args::Args;
 use crate::end::{usage, End, Outcome, Status};
+use crate::filed::version;
 use crate::help::{self, Command};
 
 pub mod describe;
 pub mod explain;
 pub mod load;
 pub mod many;
+pub mod mistyped;
 pub mod prove;
+pub mod ranges;
 pub mod review;
 pub mod sheds;
 pub mod statement;
@@ -19,13 +22,14 @@ pub mod verify;
 type Run = fn(&Command, &Args) -> Outcome;
 
 fn found(name: &str) -> Option<(&'static Command, Run)> {
-    let runs: [Run; 15] = [
+    let runs: [Run; 17] = [
         load::run,
         describe::run,
         review::run,
         prove::run,
         verify::run,
         many::run,
+        mistyped::run,
         sheds::parts,
         sheds::projection,
         sheds::rows,
@@ -34,6 +38,7 @@ fn found(name: &str) -> Option<(&'static Command, Run)> {
         statement::stock::run,
         statement::check::run,
         statement::bounds::run,
+        ranges::run,
         explain::run,
     ];
     help::COMMANDS.into_iter().zip(runs).find(|(command, _)| command.name == name)
@@ -51,7 +56,7 @@ pub fn run(arguments: &[OsString]) -> Outcome {
     match (name.as_ref(), rest.first().and_then(|topic| found(&topic.to_string_lossy()))) {
         ("help" | "--help" | "-h", None) => return printed(help::general()),
         ("help", Some((command, _))) => return printed(command.help()),
-        ("--version", _) => return printed(format!("labrador {}\n", env!("CARGO_PKG_VERSION"))),
+        ("--version", _) => return printed(format!("{}\n", version())),
         _ => {}
     }
     let Some((command, run)) = found(&name) else {

@@ -5,9 +5,12 @@ mod common;
 
 mod bad_files;
 mod desk;
+mod filed;
 mod many;
+mod mistyped;
 mod outputs;
 mod pages;
+mod ranges;
 mod readme;
 mod render;
 mod reviews;

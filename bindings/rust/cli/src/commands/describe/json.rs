@@ -5,8 +5,8 @@ use labrador::sections::Placed;
 use labrador::{expected, Refusal, Slice};
 
 use super::Read;
+use crate::constraints::{constraints, json, total};
 use crate::json::Json;
-use crate::stated;
 
 fn sections_json(sections: &[Placed]) -> Json {
     let section = |s: &Placed| {
@@ -27,20 +27,25 @@ fn parameters_json(one: &SectionOne) -> Json {
     Json::Object(words.chain(bounds).collect())
 }
 
+fn text(text: Option<String>) -> Json {
+    text.map_or(Json::Null, Json::Text)
+}
+
 pub fn json_of(file: &Read, job: Option<&[u32]>, refusal: Option<&Refusal>) -> Json {
-    let text = |text: Option<String>| text.map_or(Json::Null, Json::Text);
     let words = &file.words.words[..];
     let one = SectionOne::read(words).filter(|_| file.kind == Some(Slice::Job));
     let job = if one.is_some() { words } else { job.unwrap_or_default() };
     let sections = file.kind.map(|kind| expected(kind, job, usize::MAX)).unwrap_or_default();
-    let states = if one.is_some() { stated::constraints(words) } else { Vec::new() };
+    let stated = if one.is_some() { constraints(words) } else { Vec::new() };
     Json::Object(vec![
         ("file", Json::text(file.path.display())),
         ("kind", text(file.kind.map(|kind| kind.name().to_string()))),
         ("words", Json::Number(file.words.length)),
+        ("sha256", text(file.sha256.clone())),
         ("wrong", text(refusal.map(|refusal| refusal.to_string()))),
         ("parameters", one.as_ref().map_or(Json::Null, parameters_json)),
         ("sections", sections_json(&sections)),
-        ("states", Json::List(states.iter().map(Json::text).collect())),
+        ("states", Json::List(stated.iter().map(|stated| Json::text(total(stated))).collect())),
+        ("constraints", Json::List(stated.iter().map(json).collect())),
     ])
 }
