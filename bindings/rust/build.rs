@@ -1,9 +1,12 @@
 //! Links the archive of proved calls: the one that LABRADOR_ARCHIVE names, or the one that `rt staticlib labrador` builds. The archive is asked for its
-//! modulus, by a C program that is linked with it: -1 is Q - 1.
+//! modulus, by a C program that is linked with it: -1 is Q - 1. Its SHA-256 is handed on too.
 
 use std::env;
 use std::path::{Path, PathBuf};
 use std::process::{Command, Stdio};
+
+#[path = "src/sha256.rs"]
+mod sha256;
 
 /// The archive that the kit builds from this repository.
 fn built(root: &Path) -> PathBuf {
@@ -47,8 +50,15 @@ fn modulus(archive: &Path, header: &Path) -> u32 {
     greatest + 1
 }
 
+/// SHA-256 of the archive, in hex.
+fn hash(archive: &Path) -> String {
+    let bytes = std::fs::read(archive).unwrap_or_else(|error| panic!("{}: {error}", archive.display()));
+    sha256::hex(&sha256::sha256(&bytes))
+}
+
 fn main() {
     println!("cargo:rerun-if-changed=build.rs");
+    println!("cargo:rerun-if-changed=src/sha256.rs");
     println!("cargo:rerun-if-env-changed=LABRADOR_ARCHIVE");
     let package = PathBuf::from(env::var_os("CARGO_MANIFEST_DIR").expect("cargo names the package's folder"));
     let archive = match env::var_os("LABRADOR_ARCHIVE") {
@@ -61,6 +71,7 @@ fn main() {
     let name = archive.file_name().and_then(|name| name.to_str()).expect("an archive's name in UTF-8");
     println!("cargo:rustc-link-search=native={}", folder.display());
     println!("cargo:rustc-link-lib=static:+verbatim={name}");
+    println!("cargo:rustc-env=LABRADOR_ARCHIVE_SHA256={}", hash(&archive));
     let q = modulus(&archive, &package.join(".."));
     println!("cargo:rustc-env=LABRADOR_Q={q}");
     println!("cargo:rustc-env=LABRADOR_GREATEST={}", q - 1);

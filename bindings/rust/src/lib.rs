@@ -22,11 +22,13 @@
 //! ```
 #![deny(unsafe_code)]
 
+mod constraints;
 mod draw;
 mod element;
 #[allow(unsafe_code)]
 mod ffi;
 mod handed;
+mod hashes;
 mod load;
 mod many;
 pub mod meaning;
@@ -56,6 +58,7 @@ pub use ffi::system;
 pub use draw::draw;
 pub use element::{ChallengeWords, DigitRows, Element};
 pub use ffi::large_pages;
+pub use hashes::{sha256_of_words, ARCHIVE_SHA256};
 pub use load::{load, load_into, load_needs, Load, LoadNeeds};
 pub use many::{verify_all, verify_each, verify_many, verify_many_with, Sent};
 pub use mistyped::{mistyped, mistyped_into, Mistyped};
@@ -68,7 +71,7 @@ pub use refusal::Refusal;
 pub use rounds::{round, round_into, Round};
 pub use section_one::Parameters;
 pub use sections::Slice;
-pub use sha256::sha256;
+pub use sha256::{hex, sha256};
 pub use sheds::{
     add_projections, add_projections_into, shed_projection, shed_projection_into, shed_rows, shed_rows_into, Run,
     RunParts, PROJECTION_NEED,

@@ -34,6 +34,8 @@ const WITNESS: Opt = opt("--witness", "FILE", "the witness; it is secret");
 const STRICT: Opt =
     opt("--strict", "", "exit status 1 also where a check can never fail under this job, or weights are all zero");
 const TRANSCRIPT: Opt = opt("--transcript", "FILE", "the transcript");
+const REFERENCE: Opt = opt("--reference", "TEXT", "what it is filed under: a line of text");
+const DATE: Opt = opt("--date", "YYYY-MM-DD", "the day that it is filed under; no clock is read");
 
 pub const LOAD: Command = Command {
     name: "load",
@@ -53,13 +55,17 @@ pub const LOAD: Command = Command {
 
 pub const DESCRIBE: Command = Command {
     name: "describe",
-    usage: "labrador describe [--job FILE] [--as KIND] [--statement FILE] FILE…",
-    about: "Says what files hold, and first what is wrong with them. Prints a job's parameters by name, and each section with its \
-            place, count and meaning. The others are described by a job: the one that --job names, or the first among the files.",
+    usage: "labrador describe [--job FILE] [--as KIND] [--statement FILE] [--reference TEXT] [--date YYYY-MM-DD] FILE…",
+    about: "Says what files hold, and first what is wrong with them. Prints each file's SHA-256; a job's parameters by name; each section with its \
+            place, count and meaning; what each constraint of a job states: its right side, and the vectors that it touches with how many \
+            terms. Then the version, and the SHA-256 of the archive of proved calls. The others are described by a job: the one that --job \
+            names, or the first among the files.",
     options: &[
         JOB,
         opt("--as", "KIND", "read the files as job, randomness, witness or transcript, whatever they look like"),
         STATED,
+        REFERENCE,
+        DATE,
         JSON,
         HELP,
     ],
@@ -131,16 +137,20 @@ pub const DRAW: Command = Command {
 
 pub const VERIFY: Command = Command {
     name: "verify",
-    usage: "labrador verify --job FILE --randomness FILE --transcript FILE [--report PAGE.html] [--statement FILE] [--strict]",
+    usage: "labrador verify --job FILE --randomness FILE --transcript FILE [--report PAGE.html] [--reference TEXT] [--date YYYY-MM-DD] \
+            [--statement FILE] [--strict]",
     about: "Judges a transcript. An acceptance is said with the chance that it leaves a false statement, which no single transcript \
             makes small, and with the number of things that the job does not force, which labrador review lists. Exit status 0 \
             accepted, 1 a failed check, 2 refused. The randomness is taken as it is handed in: a verdict forces nothing where the sender \
-            could choose it, or hashed it from this transcript alone.",
+            could choose it, or hashed it from this transcript alone. The page is to be filed: it has the SHA-256 of the three files, what \
+            the job states, and a line to sign on, and is the same for the same files and options.",
     options: &[
         JOB,
         RANDOMNESS,
         TRANSCRIPT,
-        opt("--report", "FILE", "write the verdict as a page to read or print"),
+        opt("--report", "FILE", "write the verdict as a page to read, print, sign and file"),
+        REFERENCE,
+        DATE,
         STATED,
         STRICT,
         FORCE,
@@ -152,8 +162,8 @@ pub const VERIFY: Command = Command {
 
 pub const VERIFY_MANY: Command = Command {
     name: "verify-many",
-    usage: "labrador verify-many [--report PAGE.html] [--statement FILE] [--strict] [--threads N] --job FILE RANDOMNESS TRANSCRIPT [RANDOMNESS \
-            TRANSCRIPT]…",
+    usage: "labrador verify-many [--report PAGE.html] [--reference TEXT] [--date YYYY-MM-DD] [--statement FILE] [--strict] [--threads N] --job FILE \
+            RANDOMNESS TRANSCRIPT [RANDOMNESS TRANSCRIPT]…",
     about: "Judges any number of transcripts for one job, each with its own randomness, and prints a line for each. Where all are accepted it \
             says what they are worth together if the desk drew the randomness and nothing was tried again; what is handed in twice counts \
             once. They are judged in groups of at most eight, on several threads; no more than eight are held in memory at a time, or \
@@ -161,6 +171,8 @@ pub const VERIFY_MANY: Command = Command {
     options: &[
         JOB,
         opt("--report", "FILE", "write all verdicts, and what they are worth together, as a page to read or print"),
+        REFERENCE,
+        DATE,
         opt("--threads", "NUMBER", "work on so many threads (as many as processors where it is not given)"),
         STATED,
         STRICT,
@@ -169,6 +181,17 @@ pub const VERIFY_MANY: Command = Command {
         HELP,
     ],
     example: "labrador verify-many --job a.job north.randomness north.transcript south.randomness south.transcript",
+};
+
+pub const MISTYPED: Command = Command {
+    name: "mistyped",
+    usage: "labrador mistyped --job FILE --randomness FILE --transcript FILE",
+    about: "After a failed check 22, lists each entry of b0 that would mend it if a number were added to that entry alone: the number of \
+            smallest size, and what the entry would become. The smallest size comes first, of equal sizes lowered constants. A mended \
+            constant is another claim, which is proved anew. Exit status 0 where there is a list, 2 refused: also where check 22 is not the \
+            failed one (32), or no constant alone mends it (33).",
+    options: &[JOB, RANDOMNESS, TRANSCRIPT, JSON, HELP],
+    example: "labrador mistyped --job a.job --randomness a.randomness --transcript a.transcript",
 };
 
 const FIRST: Opt = opt("--first", "NUMBER", "the run's first vector, counted from 0");
@@ -276,6 +299,23 @@ pub const BOUNDS: Command = Command {
     example: "labrador bounds --statement sheds.statement --stock sheds.stock",
 };
 
+pub const RANGES: Command = Command {
+    name: "ranges",
+    usage: "labrador ranges --job FILE --lows FILE --highs FILE",
+    about: "Of a witness whose coefficients are known only from a lowest to a highest centred number, says of each vector whether its norm \
+            meets A's bound for every choice, for some choices but not every, or for none, with its smallest and its largest norm. Both files \
+            have 64·r·n words of eight bytes with a sign (i64), the least byte first, in the witness's order and without a count. Exit status \
+            0 where all meet it for every choice, 1 where one does not, 2 refused.",
+    options: &[
+        JOB,
+        opt("--lows", "FILE", "the lowest number of each coefficient; they are secret"),
+        opt("--highs", "FILE", "the highest number of each coefficient; they are secret"),
+        JSON,
+        HELP,
+    ],
+    example: "labrador ranges --job sheds.job --lows sheds.lows --highs sheds.highs",
+};
+
 pub const EXPLAIN: Command = Command {
     name: "explain",
     usage: "labrador explain [NUMBER]",
@@ -284,7 +324,7 @@ pub const EXPLAIN: Command = Command {
     example: "labrador explain 22",
 };
 
-pub const COMMANDS: [&Command; 17] = [
+pub const COMMANDS: [&Command; 19] = [
     &LOAD,
     &DESCRIBE,
     &REVIEW,
@@ -293,6 +333,7 @@ pub const COMMANDS: [&Command; 17] = [
     &DRAW,
     &VERIFY,
     &VERIFY_MANY,
+    &MISTYPED,
     &SHED_PARTS,
     &SHED_PROJECTION,
     &SHED_ROWS,
@@ -301,6 +342,7 @@ pub const COMMANDS: [&Command; 17] = [
     &STOCK,
     &CHECK,
     &BOUNDS,
+    &RANGES,
     &EXPLAIN,
 ];
 

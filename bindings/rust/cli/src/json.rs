@@ -9,6 +9,7 @@ use crate::shown::steers;
 pub enum Json {
     Null,
     Number(u64),
+    Signed(i64),
     Text(String),
     List(Vec<Json>),
     Object(Vec<(&'static str, Json)>),
@@ -38,6 +39,7 @@ impl fmt::Display for Json {
         match self {
             Json::Null => f.write_str("null"),
             Json::Number(number) => write!(f, "{number}"),
+            Json::Signed(number) => write!(f, "{number}"),
             Json::Text(text) => quoted(f, text),
             Json::List(values) => {
                 f.write_str("[")?;

@@ -6,12 +6,16 @@ use std::process::ExitCode;
 
 mod args;
 mod commands;
+mod constraints;
 mod end;
+mod filed;
 mod files;
 mod help;
 mod json;
 mod judge;
+mod mends;
 mod near;
+mod numbers;
 mod output;
 mod page;
 mod progress;

@@ -43,13 +43,13 @@ impl Group<'_> {
         let begin = [self.randomness.len(), self.transcripts.len()];
         let done = read(&mut self.randomness, &mut self.transcripts);
         let end = [self.randomness.len(), self.transcripts.len()];
-        let is_whole = [0, 1].map(|k| end[k] - begin[k]) == self.lengths;
-        match (&done, is_whole) {
-            (Ok(()), true) => self.apart.push(None),
-            _ => {
-                let words = [self.randomness.split_off(begin[0]), self.transcripts.split_off(begin[1])];
-                self.apart.extend(done.is_ok().then_some(Some(words)));
-            }
+        if done.is_ok() && [0, 1].map(|k| end[k] - begin[k]) == self.lengths {
+            self.apart.push(None);
+            return done;
+        }
+        let words = [self.randomness.split_off(begin[0]), self.transcripts.split_off(begin[1])];
+        if done.is_ok() {
+            self.apart.push(Some(words));
         }
         done
     }

@@ -7,6 +7,7 @@ mod answers;
 mod any;
 mod apart;
 mod draw;
+mod hashes;
 mod layout;
 mod leaves;
 mod left;

@@ -10,11 +10,13 @@ use labrador::{verify_each, Refusal, Sent, Slice, Verdict};
 use crate::args::Args;
 use crate::commands::verify::{held, line, strict, told, write_page};
 use crate::end::{self, usage, End, Outcome, Status};
+use crate::filed::Filed;
 use crate::files::{append_slice, read_slice, there};
 use crate::help::Command;
 use crate::json::Json;
 use crate::output;
 use crate::page::many::{page, Report};
+use crate::page::record;
 use crate::progress::Progress;
 use crate::shown;
 use crate::stated::Given;
@@ -33,6 +35,8 @@ pub struct Judged {
     pub says: String,
     /// What is to be told of its randomness.
     pub warnings: Vec<String>,
+    /// Its two files with their hashes, where there is a page.
+    pub records: Vec<String>,
     /// Its marks, where it can count: accepted, and no weights of its randomness are all zero.
     marks: Option<Marks>,
 }
@@ -52,13 +56,15 @@ struct Desk {
     job: Vec<u32>,
     told: Told,
     marker: Marker,
+    /// Whether there is a page.
+    has_page: bool,
 }
 
 impl Desk {
-    fn new(job: Vec<u32>) -> Result<Desk, End> {
+    fn new(job: Vec<u32>, has_page: bool) -> Result<Desk, End> {
         let told = Told::of(&job).map_err(refused)?;
         let p = SectionOne::read(&job).expect("the job is fit").parameters;
-        Ok(Desk { job, told, marker: Marker::new(&p) })
+        Ok(Desk { job, told, marker: Marker::new(&p), has_page })
     }
 
     fn judged(&self, pair: &[&Path], verdict: Verdict, sent: Sent) -> Judged {
@@ -66,7 +72,10 @@ impl Desk {
         let says = line(&verdict, [&self.job, sent.randomness, sent.transcript], Some(&self.told), &warnings);
         let can_count = verdict.is_accepted() && warnings.is_empty();
         let marks = can_count.then(|| self.marker.marks(&sent));
-        Judged { names: [0, 1].map(|k| shown::name(pair[k])), verdict, says, warnings, marks }
+        let slices = [(Slice::Randomness, sent.randomness), (Slice::Transcript, sent.transcript)];
+        let files = slices.into_iter().zip(pair).filter(|_| self.has_page);
+        let records = files.map(|((slice, words), name)| record::file(slice, name, words)).collect();
+        Judged { names: [0, 1].map(|k| shown::name(pair[k])), verdict, says, warnings, records, marks }
     }
 
     /// How many of the transcripts count, and what is to be told of them.
@@ -170,7 +179,7 @@ pub fn run(command: &Command, args: &Args) -> Outcome {
     if names.is_empty() || names.len() % 2 != 0 {
         return Err(usage(format!("verify-many takes a randomness before each transcript; {}", command.hint())));
     }
-    let (job, threads) = (args.needed(command, "--job")?, threads(args)?);
+    let (job, threads, filed) = (args.needed(command, "--job")?, threads(args)?, Filed::of(args)?);
     let (report, stated, force) = (args.file("--report"), args.file("--statement"), args.flag("--force"));
     let inputs: Vec<&Path> = names.iter().copied().chain([job.as_path()]).chain(stated).collect();
     output::admit(&report.into_iter().collect::<Vec<_>>(), &inputs, force)?;
@@ -178,17 +187,19 @@ pub fn run(command: &Command, args: &Args) -> Outcome {
     names.iter().try_for_each(|name| there(name))?;
     let progress = Progress::start();
     progress.step("reviewing the job");
-    let desk = Desk::new(read_slice(Slice::Job, &job)?.words)?;
+    let desk = Desk::new(read_slice(Slice::Job, &job)?.words, report.is_some())?;
     let pairs: Vec<&[&Path]> = names.chunks(2).collect();
     progress.step("reading and verifying: the slices, then the checks 21 to 29 of each");
     let judged = judge(&desk, &pairs, threads)?;
     let together = desk.together(&judged);
     let compared = given.map(|given| given.compared(&desk.job));
-    let end = held(end_of(&desk, &judged, &together, args), compared.as_ref());
+    let end = end_of(&desk, &judged, &together, args).with(filed.fields());
+    let end = held(end, compared.as_ref());
     if let Some(path) = report {
         progress.step("writing the page");
         let (told, words, compared) = (&desk.told, &desk.job[..], compared.as_ref());
-        let report = Report { job: &job, words, told, judged: &judged, together: &together, compared };
+        let (judged, together, filed) = (&judged, &together, &filed);
+        let report = Report { job: &job, words, told, judged, together, compared, filed };
         write_page(path, page(&report), force, &end)?;
     }
     Ok(end)

@@ -4,6 +4,7 @@ use std::ffi::OsString;
 
 use crate::args::Args;
 use crate::end::{usage, End, Outcome, Status};
+use crate::filed::version;
 use crate::help::{self, Command};
 use crate::json::Json;
 use crate::near::meant;
@@ -13,7 +14,9 @@ pub mod draw;
 pub mod explain;
 pub mod load;
 pub mod many;
+pub mod mistyped;
 pub mod prove;
+pub mod ranges;
 pub mod review;
 pub mod round;
 pub mod sheds;
@@ -23,7 +26,7 @@ pub mod verify;
 type Run = fn(&Command, &Args) -> Outcome;
 
 fn found(name: &str) -> Option<(&'static Command, Run)> {
-    let runs: [Run; 17] = [
+    let runs: [Run; 19] = [
         load::run,
         describe::run,
         review::run,
@@ -32,6 +35,7 @@ fn found(name: &str) -> Option<(&'static Command, Run)> {
         draw::run,
         verify::run,
         many::run,
+        mistyped::run,
         sheds::parts,
         sheds::projection,
         sheds::rows,
@@ -40,6 +44,7 @@ fn found(name: &str) -> Option<(&'static Command, Run)> {
         statement::stock::run,
         statement::check::run,
         statement::bounds::run,
+        ranges::run,
         explain::run,
     ];
     help::COMMANDS.into_iter().zip(runs).find(|(command, _)| command.name == name)
@@ -78,7 +83,7 @@ pub fn run(arguments: &[OsString]) -> Outcome {
     let others = rest.iter().filter(|argument| *argument != "--json").map(|other| other.to_string_lossy().into_owned());
     match name.as_ref() {
         "help" | "--help" | "-h" => return help_on(&others.collect::<Vec<_>>()),
-        "--version" | "-V" => return printed("version", format!("labrador {}\n", env!("CARGO_PKG_VERSION"))),
+        "--version" | "-V" => return printed("version", format!("{}\n", version())),
         _ => {}
     }
     let Some((command, run)) = found(&name) else {

@@ -6,6 +6,7 @@ use labrador::{verify, FailedCheck, Refusal, Verdict};
 
 use crate::args::Args;
 use crate::end::{End, Outcome, Status};
+use crate::filed::Filed;
 use crate::files::{read_slice, Bytes};
 use crate::help::Command;
 use crate::json::Json;
@@ -110,6 +111,7 @@ pub fn write_page(path: &Path, page: String, force: bool, end: &End) -> Result<(
 
 pub fn run(command: &Command, args: &Args) -> Outcome {
     args.no_rest(command)?;
+    let filed = Filed::of(args)?;
     let [job, randomness, transcript] =
         ["--job", "--randomness", "--transcript"].map(|name| args.needed(command, name));
     let names = [job?, randomness?, transcript?];
@@ -134,13 +136,14 @@ pub fn run(command: &Command, args: &Args) -> Outcome {
     let of_job = told_of_job.as_ref().map_or_else(no_findings, |job| job.fields(&job.worth_with(&warnings)));
     let said = line(&verdict, slices, told_of_job.as_ref(), &warnings);
     let end = strict(End::new(status, said).judging(), told_of_job.as_ref(), !warnings.is_empty(), args);
-    let end = end.with(fields).with(of_job).warning(warnings.clone());
+    let end = end.with(fields).with(of_job).with(filed.fields()).warning(warnings.clone());
     let compared = given.as_ref().filter(|_| told_of_job.is_some()).map(|given| given.compared(&job));
     let end = held(end, compared.as_ref());
     if let Some(path) = report {
         progress.step("writing the page");
         let (job, compared) = (told_of_job.as_ref(), compared.as_ref());
-        let page = page(&Report { names, slices, verdict: &verdict, job, warnings: &warnings, compared });
+        let page =
+            page(&Report { names, slices, verdict: &verdict, job, warnings: &warnings, compared, filed: &filed });
         write_page(path, page, force, &end)?;
     }
     Ok(end)

@@ -35,7 +35,12 @@ pub fn section(id: &str, heading: &str, body: &str) -> String {
     format!("<section aria-labelledby=\"{id}\">\n<h2 id=\"{id}\">{heading}</h2>\n{body}</section>\n")
 }
 
-/// Two parts beside each other where there is room.
+/// A part that begins a sheet of its own in print.
+pub fn part(body: &str) -> String {
+    format!("<div class=\"part\">\n{body}</div>\n")
+}
+
+/// Two pieces beside each other where there is room.
 pub fn pair(left: &str, right: &str) -> String {
     format!("<div class=\"pair\">\n<div>\n{left}</div>\n<div>\n{right}</div>\n</div>\n")
 }

@@ -2,13 +2,13 @@
 
 use std::path::Path;
 
-use labrador::{Verdict, Q};
+use labrador::{Slice, Verdict, Q};
 
-use super::html::{document, escape, section, table, Row};
+use super::html::{document, escape, part, section, table, Row};
 use super::verdict::sentence;
-use super::{findings, stated, tables};
+use super::{findings, record, stated, tables};
 use crate::commands::many::{Judged, Together};
-use crate::shown;
+use crate::filed::Filed;
 use crate::stated::Compared;
 use crate::worth::{chance_sentence, drawn_sentence, Told};
 
@@ -22,6 +22,7 @@ pub struct Report<'a> {
     pub together: &'a Together,
     /// How the job stands to a statement file, where one was handed in.
     pub compared: Option<&'a Compared>,
+    pub filed: &'a Filed,
 }
 
 impl Report<'_> {
@@ -59,8 +60,7 @@ fn header(report: &Report) -> String {
         Some(_) => format!("what is said of them together holds {}", report.together.rests_on()),
         None => report.together.rests_on().to_string(),
     };
-    let judged = format!("judged under the job {} ({} words)", shown::name(report.job), report.words.len());
-    let told = warnings.chain([rests, worth, judged]);
+    let told = warnings.chain([rests, worth]);
     let told: String = told.map(|text| format!("<p>{}</p>\n", escape(&sentence(&text)))).collect();
     let heading = escape(&report.title());
     format!(
@@ -70,19 +70,18 @@ fn header(report: &Report) -> String {
 
 fn row((number, one): (usize, &Judged)) -> Row {
     let (class, mark) = match one.verdict {
-        Verdict::Accepted { .. } => ("passed", "✓ accepted"),
-        Verdict::Failed(_) => ("failed", "✗ failed"),
-        Verdict::Refused(_) => ("failed", "✗ refused"),
+        Verdict::Accepted { .. } => ("passed", "✓"),
+        Verdict::Failed(_) | Verdict::Refused(_) => ("failed", "✗"),
     };
     let [randomness, transcript] = [0, 1].map(|k| escape(&one.names[k]));
-    let mark = format!("<span class=\"mark\">{mark}</span>");
-    Row { class, cells: vec![number.to_string(), transcript, randomness, mark, escape(&one.says)] }
+    let verdict = format!("<span class=\"mark\">{mark}</span> {}", escape(&one.says));
+    Row { class, cells: vec![number.to_string(), format!("{transcript}, {randomness}"), verdict] }
 }
 
 fn verdicts(report: &Report) -> String {
     let rows: Vec<Row> = (1..).zip(report.judged).map(row).collect();
-    let heads = ["", "transcript", "randomness", "verdict", "in words"];
-    section("verdicts", "Verdicts", &table("num", "In the order in which they were handed in", &heads, &rows))
+    let caption = "Each transcript with its randomness, in the order in which they were handed in";
+    section("verdicts", "Verdicts", &table("num long", caption, &["", "files", "verdict"], &rows))
 }
 
 /// What the job states, and how it stands to the statement file.
@@ -92,10 +91,17 @@ fn states(report: &Report) -> String {
     section("states", "What the job states", &body)
 }
 
+/// Under what the page is filed, with the hash of each file.
+fn files(report: &Report) -> String {
+    let job = record::file(Slice::Job, report.job, report.words);
+    let others = report.judged.iter().flat_map(|one| one.records.clone());
+    record::list(report.filed, &[job].into_iter().chain(others).collect::<Vec<_>>())
+}
+
 fn footer() -> String {
     format!(
         "<footer>\n<p>Each verdict is the answer of the proved call labrador_verify_many, or of labrador_verify where a file has another length than the \
-         job fixes. What transcripts share, the layout of this page, its sentences and the review of the job are made by a program that \
+         job fixes. What transcripts share, the layout of this page, its sentences, the hashes and the review of the job are made by a program that \
          is not proved. The randomness is taken as it was handed in: verdicts force nothing where the sender could choose it, knew it before \
          its message, or was let try again. Rows, vectors, cells, elements, coefficients and words count from 0. Q is {Q}.</p>\n</footer>\n"
     )
@@ -103,12 +109,9 @@ fn footer() -> String {
 
 pub fn page(report: &Report) -> String {
     let parts = [
-        header(report),
-        verdicts(report),
-        states(report),
-        findings::of(report.told),
-        tables::parameters_of(report.words),
-        footer(),
+        [header(report), verdicts(report), states(report)].concat(),
+        [files(report), record::signature()].concat(),
+        [findings::of(report.told), tables::parameters_of(report.words), footer()].concat(),
     ];
-    document(&report.title(), &parts.concat())
+    document(&report.title(), &parts.map(|body| part(&body)).concat())
 }

@@ -1,13 +1,35 @@
-//! What the job states, in the words of a statement file.
+//! What the job states: each constraint with its right side and the vectors that it touches.
 
-use super::html::{escape, section};
+use labrador::statement::Stated;
+
+use super::html::{escape, section, table, Row};
 use super::Report;
-use crate::stated::constraints;
+use crate::constraints::{constraints, name, right, total, touched};
 
-/// The constraints of a fit job.
+/// So many rows stand on one sheet; a longer table goes on on the next.
+const SHEET: usize = 24;
+
+const CAPTION: &str = "A term is a linear coefficient that is not 0: a line of the vector with its factor. A product is an inner product of \
+                       the vector with a vector.";
+
+/// In the words of a statement file, where it is a total.
+fn words(stated: &Stated) -> String {
+    match &stated.total {
+        Ok(_) => total(stated),
+        Err(none) => format!("no total (from word {})", none.at),
+    }
+}
+
+fn row(stated: &Stated) -> Row {
+    let cells = [name, words, right, touched].map(|told| escape(&told(stated)));
+    Row { class: "", cells: cells.to_vec() }
+}
+
+/// The constraints of a fit job, all of them.
 pub fn table_of(job: &[u32]) -> String {
-    let items = constraints(job).into_iter().map(|told| format!("<li class=\"stated\">{}</li>\n", escape(&told)));
-    format!("<ul>\n{}</ul>\n", items.collect::<String>())
+    let rows: Vec<Row> = constraints(job).iter().map(row).collect();
+    let class = if rows.len() > SHEET { "states long" } else { "states" };
+    table(class, CAPTION, &["constraint", "states", "right side", "touches"], &rows)
 }
 
 pub fn list(report: &Report) -> String {

@@ -4,7 +4,7 @@ use std::fs;
 
 use labrador::section_one::SectionOne;
 use labrador::worth::Worth;
-use labrador::{prove, Parameters};
+use labrador::{hex, prove, sha256, Parameters, ARCHIVE_SHA256};
 
 use crate::common::{made, with_answer, ONE, THINGS};
 use crate::desk::Desk;
@@ -111,8 +111,8 @@ fn the_page_of_all_has_each_verdict_and_their_worth() {
     let title = format!("9 of 9 transcripts accepted; together: {worth}; {THINGS} things that the job does not force");
     assert!(page.contains(&format!("<title>{title}</title>")), "{page}");
     assert!(page.contains("<header class=\"accepted\">"));
-    assert_eq!(page.matches("✓ accepted").count(), 9);
-    assert!(page.contains("<tr class=\"passed\"><th scope=\"row\">9</th><td>t9</td><td>r9</td>"), "{page}");
+    assert_eq!(page.matches("✓</span> accepted").count(), 9);
+    assert!(page.contains("<tr class=\"passed\"><th scope=\"row\">9</th><td>t9, r9</td>"), "{page}");
     assert!(page.contains("holds if the desk drew the randomness and nothing was tried again."), "{page}");
     for other in ["<script", "http:", "https:", "src=", "href=", "url(", "@import"] {
         assert!(!page.contains(other), "{other}");
@@ -122,6 +122,20 @@ fn the_page_of_all_has_each_verdict_and_their_worth() {
     assert_eq!(run(&desk, &format!("{} --report page.html --threads 1 --force", call(1..=9))).status, 0);
     assert_eq!(page, fs::read_to_string(desk.path("page.html")).unwrap());
     assert_eq!(run(&desk, &format!("{} --report t3 --force", call(1..=9))).status, 64);
+}
+
+#[test]
+fn the_page_of_all_is_filed_with_the_hash_of_each_file() {
+    let desk = desk_of("groups_filed", 2);
+    let told = run(&desk, &format!("{} --report page.html --reference K-17 --date 2026-11-17 --json", call(1..=2)));
+    assert!(told.out.contains("\"reference\":\"K-17\",\"date\":\"2026-11-17\",\"version\":"), "{}", told.out);
+    let page = fs::read_to_string(desk.path("page.html")).unwrap();
+    assert!(page.contains("K-17") && page.contains("2026-11-17") && page.contains("Signature"), "{page}");
+    for name in ["job", "r1", "t1", "r2", "t2"] {
+        let hash = hex(&sha256(&fs::read(desk.path(name)).unwrap()));
+        assert_eq!(page.matches(&hash).count(), 1, "{name}");
+    }
+    assert!(page.contains(ARCHIVE_SHA256), "{page}");
 }
 
 #[test]
@@ -136,9 +150,12 @@ fn the_page_of_all_is_green_only_where_all_are_accepted() {
     desk.put("t2", &words);
     let failed = page("r1 t1 r2 t2");
     assert!(failed.contains("<header class=\"failed\">") && failed.contains("1 of 2 transcripts accepted"), "{failed}");
-    assert!(failed.contains("<td>check 28 failed: u1 is not the commitment to the digits of t and g</td>"), "{failed}");
+    assert!(
+        failed.contains("✗</span> check 28 failed: u1 is not the commitment to the digits of t and g</td>"),
+        "{failed}"
+    );
     let refused = page("r1 t1 t3 r3");
-    assert!(refused.contains("<header class=\"refused\">") && refused.contains("✗ refused"), "{refused}");
+    assert!(refused.contains("<header class=\"refused\">") && refused.contains("✗</span> refusal 7: "), "{refused}");
     let twice = page("r1 t1 r1 t1");
     assert!(twice.contains("Warning: t1 has the transcript of t1: the two count once."), "{twice}");
 }

@@ -5,13 +5,16 @@ mod common;
 
 mod bad_files;
 mod desk;
+mod filed;
 mod groups;
 mod help;
 mod interrupted;
 mod many;
+mod mistyped;
 mod outputs;
 mod pages;
 mod pasted;
+mod ranges;
 mod readme;
 mod render;
 mod reviews;

@@ -5,8 +5,8 @@ use labrador::sections::Placed;
 use labrador::{expected, Slice};
 
 use super::Read;
+use crate::constraints::{constraints, json, total};
 use crate::json::Json;
-use crate::stated;
 
 fn sections_json(sections: &[Placed]) -> Json {
     let section = |s: &Placed| {
@@ -33,14 +33,16 @@ pub fn json_of(file: &Read, job: Option<&[u32]>, wrong: Option<&str>) -> Json {
     let one = SectionOne::read(words).filter(|_| file.kind == Some(Slice::Job));
     let job = if one.is_some() { words } else { job.unwrap_or_default() };
     let sections = file.kind.map(|kind| expected(kind, job, usize::MAX)).unwrap_or_default();
-    let states = if one.is_some() { stated::constraints(words) } else { Vec::new() };
+    let stated = if one.is_some() { constraints(words) } else { Vec::new() };
     Json::Object(vec![
         ("file", Json::text(file.path.display())),
         ("kind", text(file.kind.map(Slice::name))),
         ("words", Json::Number(file.words.length)),
+        ("sha256", text(file.sha256.as_deref())),
         ("wrong", text(wrong)),
         ("parameters", one.as_ref().map_or(Json::Null, parameters_json)),
         ("sections", sections_json(&sections)),
-        ("states", Json::List(states.iter().map(Json::text).collect())),
+        ("states", Json::List(stated.iter().map(|stated| Json::text(total(stated))).collect())),
+        ("constraints", Json::List(stated.iter().map(json).collect())),
     ])
 }

@@ -2,12 +2,13 @@
 
 use labrador::section_one::{SectionOne, BOUNDS, PARAMETERS};
 use labrador::sections::Placed;
+use labrador::statement::Stated;
 use labrador::{expected, Slice};
 
 use super::Read;
+use crate::constraints;
 use crate::judge;
 use crate::shown;
-use crate::stated;
 
 /// The parameters and bounds by name.
 fn parameters(one: &SectionOne) -> String {
@@ -66,10 +67,14 @@ fn plain_sections(words: &[u32]) -> String {
     out
 }
 
-/// What a job states.
+/// What a job states: each constraint, and then its right side and the vectors that it touches.
 fn stated(job: &[u32]) -> String {
-    let lines = stated::constraints(job).into_iter().map(|line| format!("  {line}\n"));
-    format!("states\n{}", lines.collect::<String>())
+    let told = |stated: &Stated| {
+        let (total, name) = (constraints::total(stated), constraints::name(stated));
+        let (right, touched) = (constraints::right(stated), constraints::touched(stated));
+        format!("  {total}\n    {name}: {right}; it touches {touched}\n")
+    };
+    format!("states\n{}", constraints::constraints(job).iter().map(told).collect::<String>())
 }
 
 /// What is wrong with a file.
@@ -88,12 +93,16 @@ pub fn describe(file: &Read, job: Option<&[u32]>, wrong: Option<&str>) -> String
     let (words, shown) = (&file.words.words[..], shown::name(&file.path));
     let length = file.words.length;
     let told = wrong.map(|wrong| format!("wrong: {wrong}\n")).unwrap_or_default();
+    let hash = match &file.sha256 {
+        Some(hash) => format!("SHA-256 {hash}\n"),
+        None => "SHA-256 not taken: the file is longer than any slice\n".to_string(),
+    };
     let Some(kind) = file.kind else {
         let unknown = format!("{shown}: {length} words, of no kind that is known without its job\n");
-        return unknown + &told + &plain_sections(words);
+        return unknown + &told + &hash + &plain_sections(words);
     };
     let job = if kind == Slice::Job { words } else { job.unwrap_or_default() };
-    let mut out = format!("{shown}: {}, {length} words\n{told}", kind.name());
+    let mut out = format!("{shown}: {}, {length} words\n{told}{hash}", kind.name());
     let one = SectionOne::read(words).filter(|_| kind == Slice::Job);
     out += &one.as_ref().map(parameters).unwrap_or_default();
     out += &sections(words, &expected(kind, job, usize::MAX));

@@ -12,5 +12,5 @@ fn the_commands_of_the_page_say_what_it_says() {
     }
     let desk = page_is_true("SESSION.md", 8);
     let page = fs::read_to_string(desk.path("desk/page.html")).expect("the page that is filed");
-    assert_eq!(page.matches("✓ accepted").count(), 8);
+    assert_eq!(page.matches("✓</span> accepted").count(), 8);
 }

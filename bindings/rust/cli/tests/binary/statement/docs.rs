@@ -2,8 +2,8 @@
 
 use std::fs;
 
-use labrador::sha256;
 use labrador::statement::Statement;
+use labrador::{hex, sha256};
 
 use crate::common::over;
 use crate::pasted::{page_is_true, root};
@@ -29,7 +29,7 @@ fn the_demonstration_s_job_is_that_of_its_statement() {
     let quoted: Vec<&str> = between(&source, "statement[] = {", "};").split('"').skip(1).step_by(2).collect();
     let statement = Statement::parse(&quoted.join("\n")).unwrap_or_else(|mistake| panic!("{mistake}"));
     let bytes: Vec<u8> = statement.job().iter().flat_map(|word| word.to_le_bytes()).collect();
-    let digest: String = sha256(&bytes).iter().map(|byte| format!("{byte:02x}")).collect();
+    let digest = hex(&sha256(&bytes));
     // of 4294967295, then of the prime
     let digests: Vec<&str> = between(&source, "job_digest = ", ";").split('"').skip(1).step_by(2).collect();
     assert_eq!(digests[over(0, 1)], digest);
