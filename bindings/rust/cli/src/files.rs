@@ -105,12 +105,17 @@ pub fn bytes_of(words: &[u32]) -> Bytes<'_> {
     Bytes::Words(words)
 }
 
+fn little_endian(words: &[u32]) -> Vec<u8> {
+    let mut bytes = vec![0; 4 * words.len()];
+    bytes.chunks_exact_mut(4).zip(words).for_each(|(four, word)| four.copy_from_slice(&word.to_le_bytes()));
+    bytes
+}
+
 impl Bytes<'_> {
     /// Its bytes, so many at a time, which are whole words.
     pub fn chunks(&self, length: usize) -> Box<dyn Iterator<Item = Cow<'_, [u8]>> + '_> {
-        let bytes = |words: &[u32]| Cow::Owned(words.iter().flat_map(|word| word.to_le_bytes()).collect());
         match self {
-            Bytes::Words(words) => Box::new(words.chunks(length / 4).map(bytes)),
+            Bytes::Words(words) => Box::new(words.chunks(length / 4).map(|part| Cow::Owned(little_endian(part)))),
             Bytes::Text(text) => Box::new(text.as_bytes().chunks(length).map(Cow::Borrowed)),
         }
     }

@@ -103,8 +103,9 @@ pub const PROVE: Command = Command {
 pub const ROUND: Command = Command {
     name: "round",
     usage: "labrador round K --job FILE [--randomness FILE] --witness FILE --output FILE",
-    about: "Makes the message of round K, 1 to 5, of a session (docs/SESSION.md): u1; p; b''; u2; z, t, g and h. From round 2 on the randomness is \
-            what the desk has drawn up to that round, and nothing more; round 1 takes none. The five messages, joined by cat, are the transcript.",
+    about: "Makes the store's message of one round of a session (docs/SESSION.md). Rounds 1 to 5 make u1; p; b''; u2; z, t, g and h. From round 2 on \
+            the randomness is what the desk has drawn up to that round, and nothing more; round 1 takes none. The five messages, joined by \
+            cat, are the transcript.",
     options: &[
         JOB,
         opt("--randomness", "FILE", "the randomness up to this round, as labrador draw makes it"),
@@ -120,10 +121,10 @@ pub const ROUND: Command = Command {
 pub const DRAW: Command = Command {
     name: "draw",
     usage: "labrador draw --job FILE --round K --randomness FILE",
-    about: "Draws what round K, 2 to 5, of a session asks (docs/SESSION.md), from the operating system's generator. Round 2 makes the file, with the \
-            projection; the others add their sections to it: 3 psi and omega, 4 alpha and beta, 5 signs and shuffle. The file is replaced \
-            whole; it is refused, and stays as it is, where it is not the randomness of the round before. Draw for one transcript only, after \
-            its message of the round before is there.",
+    about: "Draws the desk's randomness for one round of a session (docs/SESSION.md). It comes from the operating system's generator. Round 2 makes \
+            the file, with the projection; the others add their sections to it: 3 psi and omega, 4 alpha and beta, 5 signs and shuffle. The \
+            file is replaced whole; it is refused, and stays as it is, where it is not the randomness of the round before. Each transcript \
+            has a file of its own, and nothing is drawn before the message of the round before is there.",
     options: &[
         JOB,
         opt("--round", "NUMBER", "the round, 2 to 5, that the randomness is drawn for"),

@@ -4,12 +4,12 @@ use std::fs::File;
 use std::path::Path;
 
 use labrador::section_one::SectionOne;
-use labrador::{draw, Parameters, Round, Slice};
+use labrador::{draw, output_need, Parameters, Refusal, Round, Slice};
 
 use crate::args::Args;
 use crate::commands::round::numbered;
 use crate::end::{file_system, refused, usage, End, Outcome, Status};
-use crate::files::{bytes_of, read_slice};
+use crate::files::{append_slice, bytes_of, read_slice};
 use crate::help::Command;
 use crate::json::Json;
 use crate::judge;
@@ -18,19 +18,23 @@ use crate::output::{self, Output};
 /// The operating system's generator.
 const GENERATOR: &str = "/dev/urandom";
 
+fn unfit(refusal: &Refusal, job: &[u32], randomness: &[u32]) -> End {
+    let handed = [(Slice::Job, job), (Slice::Randomness, randomness), (Slice::Witness, &[])];
+    refused(refusal, judge::told_in_round(refusal, handed))
+}
+
 /// The randomness as the round before has it, which is fit: none before round 2.
-fn before(round: Round, job: &[u32], file: &Path) -> Result<Vec<u32>, End> {
+fn before(round: Round, p: &Parameters, job: &[u32], file: &Path) -> Result<Vec<u32>, End> {
     let before = Round::ALL[round.number() - 2];
-    let words = match before {
-        Round::One => Vec::new(),
-        _ => read_slice(Slice::Randomness, file)?.words,
-    };
+    let mut words = Vec::new();
+    if before != Round::One {
+        // with room for what is drawn, so that it need not be moved
+        let _ = words.try_reserve_exact(Slice::Randomness.length(p) as usize);
+        append_slice(Slice::Randomness, file, &mut words)?;
+    }
     match before.admits(job, &words) {
         Ok(()) => Ok(words),
-        Err(refusal) => {
-            let handed = [(Slice::Job, job), (Slice::Randomness, &words), (Slice::Witness, &[])];
-            Err(refused(&refusal, judge::told_in_round(&refusal, handed)))
-        }
+        Err(refusal) => Err(unfit(&refusal, job, &words)),
     }
 }
 
@@ -51,8 +55,9 @@ pub fn run(command: &Command, args: &Args) -> Outcome {
     let force = args.flag("--force") || round != Round::Two;
     output::admit(&[&path], &[&job], force)?;
     let job = read_slice(Slice::Job, &job)?.words;
-    let mut words = before(round, &job, &path)?;
+    output_need(&job).map_err(|refusal| unfit(&refusal, &job, &[]))?;
     let p = SectionOne::read(&job).expect("the job is fit").parameters;
+    let mut words = before(round, &p, &job, &path)?;
     drawn(round, &p, &mut words)?;
     output::write(&[Output { path, secret: false, bytes: bytes_of(&words) }], force)?;
     let sections = round.drawn(&p);
