@@ -9,6 +9,7 @@ mod layout;
 mod leaves;
 mod left;
 mod lent;
+mod linked;
 mod many;
 mod mistyped;
 mod norms;
