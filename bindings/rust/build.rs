@@ -1,19 +1,54 @@
-//! Links the archive of proved calls: the one that LABRADOR_ARCHIVE names, or the one that `rt staticlib labrador` builds. The archive is asked for its
-//! modulus, by a C program that is linked with it: -1 is Q - 1. Its SHA-256 is handed on too.
+//! Links the archive of proved calls: the one that LABRADOR_ARCHIVE names; else `target/staticlib/liblabrador.a`, if it is
+//! newer than every file of `crates/`; else the one that `rt staticlib labrador` proves and builds, which takes minutes. The
+//! archive is asked for its modulus, by a C program that is linked with it: -1 is Q - 1. Its SHA-256 is handed on too.
 
 use std::env;
+use std::fs;
+use std::io::{self, Write};
 use std::path::{Path, PathBuf};
 use std::process::{Command, Stdio};
+use std::time::SystemTime;
 
 #[path = "src/sha256.rs"]
 mod sha256;
 
+/// When a file, or the last one of a folder, was altered.
+fn altered(path: &Path) -> io::Result<SystemTime> {
+    let about = fs::metadata(path)?;
+    let mut last = about.modified()?;
+    if about.is_dir() {
+        for entry in fs::read_dir(path)? {
+            last = last.max(altered(&entry?.path())?);
+        }
+    }
+    Ok(last)
+}
+
+/// Whether an archive is of the crates as they stand.
+fn is_of(archive: &Path, root: &Path) -> io::Result<bool> {
+    let sources = altered(&root.join("crates"))?.max(altered(&root.join("crates.txt"))?);
+    Ok(fs::metadata(archive)?.modified()? >= sources)
+}
+
+/// Says what takes long: cargo shows a warning when the build is over, so a terminal is told at once.
+fn say(line: &str) {
+    println!("cargo:warning={line}");
+    if let Ok(mut terminal) = fs::OpenOptions::new().write(true).open("/dev/tty") {
+        let _ = writeln!(terminal, "labrador: {line}");
+    }
+}
+
 /// The archive that the kit builds from this repository.
 fn built(root: &Path) -> PathBuf {
     println!("cargo:rerun-if-changed={}", root.join("crates").display());
+    let archive = root.join("target/staticlib/liblabrador.a");
+    if is_of(&archive, root).unwrap_or(false) {
+        return archive;
+    }
+    say("no archive of the crates as they stand: rt staticlib labrador proves and builds it, which takes minutes; LABRADOR_ARCHIVE can name one");
     let made = Command::new("rt").args(["staticlib", "labrador"]).current_dir(root).stdin(Stdio::null()).output();
     match made {
-        Ok(said) if said.status.success() => root.join("target/staticlib/liblabrador.a"),
+        Ok(said) if said.status.success() => archive,
         Ok(said) => panic!(
             "rt staticlib labrador failed:\n{}{}",
             String::from_utf8_lossy(&said.stdout),

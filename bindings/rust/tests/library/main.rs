@@ -12,6 +12,7 @@ mod layout;
 mod leaves;
 mod left;
 mod lent;
+mod linked;
 mod many;
 mod mistyped;
 mod norms;
