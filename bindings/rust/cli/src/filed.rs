@@ -11,8 +11,8 @@ const VERSION: &str = env!("CARGO_PKG_VERSION");
 
 /// The reference and the date that were given.
 pub struct Filed {
-    pub reference: Option<String>,
-    pub date: Option<String>,
+    reference: Option<String>,
+    date: Option<String>,
 }
 
 /// A line of text.
@@ -25,7 +25,7 @@ fn reference(text: &str) -> Result<String, End> {
 
 /// The days of a month.
 fn days(year: u32, month: u32) -> u32 {
-    let is_leap = year % 4 == 0 && (year % 100 != 0 || year % 400 == 0);
+    let is_leap = year.is_multiple_of(4) && (!year.is_multiple_of(100) || year.is_multiple_of(400));
     match month {
         2 if is_leap => 29,
         2 => 28,
@@ -93,7 +93,7 @@ pub fn version() -> String {
     format!("labrador {VERSION}")
 }
 
-/// SHA-256 of a file in hex, of which these words were read and at most so many would have been; none where there may be more.
+/// SHA-256 in hex of the file of these words; none where the reading ended at so many words, since the file may go on.
 pub fn sha256_of(words: &[u32], most: u64) -> Option<String> {
     ((words.len() as u64) < most).then(|| hex(&sha256_of_words(words)))
 }

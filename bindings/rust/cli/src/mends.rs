@@ -8,8 +8,8 @@ use crate::json::Json;
 
 /// What is to be said beside the list.
 pub const WARNING: &str =
-    "a mended constant is another claim: the randomness was drawn before it was made, and no other check is judged \
-                           here; the store states it in a job of its own and proves that anew";
+    "a mended constant is another claim: the randomness was drawn before it was made, and no other \
+                           check is judged here; the store states it in a job of its own and proves that anew";
 
 /// Adding `added` to entry `index` of b0, which is `before`, makes it `after`, with which check 22 passes.
 pub struct Mend {

@@ -1,6 +1,6 @@
 //! `labrador mistyped`
 
-use std::path::{Path, PathBuf};
+use std::path::PathBuf;
 
 use labrador::Refusal;
 
@@ -37,7 +37,7 @@ pub fn run(command: &Command, args: &Args) -> Outcome {
     let names: Vec<PathBuf> = names.into_iter().collect::<Result<_, End>>()?;
     let progress = Progress::start();
     progress.step("reading the job, the randomness and the transcript");
-    let words = |k: usize| read_slice(SLICES[k], Path::new(&names[k])).map(|file| file.words);
+    let words = |k: usize| read_slice(SLICES[k], &names[k]).map(|file| file.words);
     let (job, randomness, transcript) = (words(0)?, words(1)?, words(2)?);
     progress.step("verifying, and looking for the constant");
     let found = mends(&job, &randomness, &transcript)

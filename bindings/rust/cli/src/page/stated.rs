@@ -1,16 +1,21 @@
 //! What the job states: each constraint with its right side and the vectors that it touches.
 
 use labrador::statement::Stated;
+use labrador::HALF;
 
 use super::html::{escape, section, table, Row};
 use super::Report;
 use crate::constraints::{constraints, name, right, total, touched};
 
-/// So many rows stand on one sheet; a longer table goes on on the next.
-const SHEET: usize = 24;
+/// A table of more rows may go on on the next sheet.
+const SHEET: usize = 12;
 
-const CAPTION: &str = "A term is a linear coefficient that is not 0: a line of the vector with its factor. A product is an inner product of \
-                       the vector with a vector.";
+fn caption() -> String {
+    format!(
+        "Right sides hold modulo Q; centred they are within ±{HALF}. A term is a linear coefficient that is not 0: a line of the vector with its \
+         factor. A product is an inner product of the vector with itself or another."
+    )
+}
 
 /// In the words of a statement file, where it is a total.
 fn words(stated: &Stated) -> String {
@@ -29,7 +34,7 @@ fn row(stated: &Stated) -> Row {
 pub fn table_of(job: &[u32]) -> String {
     let rows: Vec<Row> = constraints(job).iter().map(row).collect();
     let class = if rows.len() > SHEET { "states long" } else { "states" };
-    table(class, CAPTION, &["constraint", "states", "right side", "touches"], &rows)
+    table(class, &caption(), &["constraint", "states", "right side", "touches"], &rows)
 }
 
 pub fn list(report: &Report) -> String {

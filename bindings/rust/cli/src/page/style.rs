@@ -45,7 +45,7 @@ dt { display: inline; font-weight: 600; }
 dd { display: inline; margin: 0; overflow-wrap: anywhere; }
 dd small { display: block; color: #454545; font-size: inherit; }
 footer { margin-top: .8rem; font-size: .9rem; color: #454545; }
-@media (max-width: 44rem) {
+@media screen and (max-width: 44rem) {
   main { padding: .6rem; }
   .pair, .three, .four { grid-template-columns: minmax(0, 1fr); }
   .states thead { display: none; }
