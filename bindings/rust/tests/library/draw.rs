@@ -61,7 +61,10 @@ fn signs_are_bits_and_shuffle_words_are_free() {
     assert_eq!(randomness[1..11], [1, 0, 1, 0, 0, 0, 0, 0, 1, 1]);
     assert!(randomness[1..=signs].iter().all(|&sign| sign < 2));
     assert_eq!(randomness[signs + 1], 63 * P.r);
-    assert!(randomness[signs + 2..].iter().all(|&word| word > 0xffff), "words above Q are kept");
+    let mut greatest = Vec::new();
+    draw(Round::Five, &P, &mut Words::new(&[u32::MAX], usize::MAX), &mut greatest).unwrap();
+    assert!(greatest[1..=signs].iter().all(|&sign| sign == 1));
+    assert!(greatest[signs + 2..].iter().all(|&word| word == u32::MAX));
 }
 
 #[test]
