@@ -1,49 +1,10 @@
 //! Constraints that say nothing, repeat another or contradict it, and vectors that none touches.
 
-use super::{Finding, Kind};
+use super::Finding;
+use crate::constraints::{zero, Constraints};
 use crate::section_one::Parameters;
-use crate::sections::{placed, Placed, Slice};
 
-/// The constraints of one kind: their quadratic and linear coefficients and their right sides.
-struct Constraints<'a> {
-    kind: Kind,
-    count: usize,
-    a: (u64, &'a [u32]),
-    phi: &'a [u32],
-    right: &'a [u32],
-}
-
-impl<'a> Constraints<'a> {
-    fn of(kind: Kind, count: u32, sections: &[Placed], job: &'a [u32]) -> Constraints<'a> {
-        let names = match kind {
-            Kind::ConstantTerm => ["a'", "phi'", "b0"],
-            Kind::Ring => ["a", "phi", "b"],
-        };
-        let [a, phi, right] =
-            names.map(|name| sections.iter().find(|s| s.section.name == name).expect("a section of the job"));
-        Constraints {
-            kind,
-            count: count as usize,
-            a: (a.begin(), a.words(job)),
-            phi: phi.words(job),
-            right: right.words(job),
-        }
-    }
-
-    /// Constraint k's part of words that are laid out constraint after constraint.
-    fn part(&self, words: &'a [u32], k: usize) -> &'a [u32] {
-        let length = words.len() / self.count;
-        &words[k * length..(k + 1) * length]
-    }
-
-    fn parts(&self, k: usize) -> [&'a [u32]; 3] {
-        [self.part(self.a.1, k), self.part(self.phi, k), self.part(self.right, k)]
-    }
-
-    fn begin(&self, k: usize) -> u64 {
-        self.a.0 + (k * (self.a.1.len() / self.count)) as u64
-    }
-
+impl Constraints<'_> {
     /// What is wrong with constraint k, held against those before it, and against the constraints that say more than one of this
     /// kind: the constant term of a ring constraint is a constant-term constraint.
     fn finding(&self, k: usize, more: Option<&Constraints>) -> Option<Finding> {
@@ -66,29 +27,12 @@ impl<'a> Constraints<'a> {
 
     /// Whether some constraint has a coefficient of vector i.
     fn touches(&self, p: &Parameters, i: usize) -> bool {
-        let length = 64 * p.n as usize;
-        (0..self.count).any(|k| {
-            let [a, phi, _] = self.parts(k);
-            !zero(&phi[i * length..(i + 1) * length])
-                || cells_of(i, p.r as usize).any(|c| !zero(&a[64 * c..64 * (c + 1)]))
-        })
+        (0..self.count).any(|k| !zero(self.linear(p, k, i)) || self.quadratic(p, k, i).any(|cell| !zero(cell)))
     }
 }
 
-/// The cells of a triangle of r rows in row or column i.
-fn cells_of(i: usize, r: usize) -> impl Iterator<Item = usize> {
-    let cell = |row: usize, column: usize| row * (row + 1) / 2 + column;
-    (0..r).map(move |j| cell(i.max(j), i.min(j)))
-}
-
-pub(super) fn zero(words: &[u32]) -> bool {
-    words.iter().all(|&word| word == 0)
-}
-
 pub(super) fn review(p: &Parameters, job: &[u32]) -> Vec<Finding> {
-    let sections = placed(Slice::Job, p);
-    let kinds = [(Kind::ConstantTerm, p.l), (Kind::Ring, p.K)]
-        .map(|(kind, count)| Constraints::of(kind, count, &sections, job));
+    let kinds = Constraints::both(p, job);
     let [constant_terms, rings] = &kinds;
     let mut found: Vec<Finding> =
         (0..constant_terms.count).filter_map(|k| constant_terms.finding(k, Some(rings))).collect();

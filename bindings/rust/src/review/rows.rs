@@ -1,7 +1,7 @@
 //! Rows of the matrices that are zero or repeat another, rows of A that are multiples of one row, and zero columns of A.
 
-use super::constraints::zero;
 use super::Finding;
+use crate::constraints::zero;
 use crate::element::Element;
 use crate::norms::elements;
 use crate::section_one::Parameters;

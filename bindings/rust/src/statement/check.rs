@@ -3,6 +3,7 @@
 use super::job::totals;
 use super::total::{centred, factors_of, Total};
 use super::Stock;
+use crate::constraints::Constraints;
 use crate::element::Element;
 use crate::norms::{elements, norm_of};
 use crate::refusal::Refusal;
@@ -120,12 +121,6 @@ fn weighted(weights: &[u32], of: &[Element]) -> Result<Element, Refusal> {
     Ok(sum)
 }
 
-/// Part k of words that are laid out constraint after constraint.
-fn part(words: &[u32], count: usize, k: usize) -> &[u32] {
-    let length = words.len() / count;
-    &words[k * length..(k + 1) * length]
-}
-
 /// What the lines of a total add up to, its factors centred.
 fn added(phi: &[u32], stock: &Stock) -> i128 {
     let factors = factors_of(phi).map(|word| i128::from(centred(word)));
@@ -136,21 +131,21 @@ fn added(phi: &[u32], stock: &Stock) -> i128 {
 pub fn check(job: &[u32], witness: &[u32]) -> Result<Checked, Refusal> {
     let one = admitted(job, witness)?;
     let p = &one.parameters;
-    let words = |name: &str| words_of(Slice::Job, p, name, job);
+    let [constant_terms, rings] = Constraints::both(p, job);
     let said = totals(job)?;
     let quadratic = said.iter().any(|total| total.is_err());
     let vectors = Vectors::of(p, witness, quadratic)?;
     let stock = Stock::of_witness(p, witness);
     let mut sides = Vec::new();
-    for (k, total) in said.into_iter().take(p.l as usize).enumerate() {
-        let (a, phi) = (part(words("a'"), p.l as usize, k), part(words("phi'"), p.l as usize, k));
+    for (k, total) in said.into_iter().take(constant_terms.count).enumerate() {
+        let [a, phi, b_0] = constant_terms.parts(k);
         let left = centred(vectors.left(a, phi)?.coeffs[0]);
         let total = total.ok().map(|total| (total, added(phi, &stock)));
-        let right = centred(words("b0")[k]);
+        let right = centred(b_0[0]);
         sides.push(Side { kind: Kind::ConstantTerm, index: k as u64, coefficient: 0, left, right, total });
     }
-    for k in 0..p.K as usize {
-        let [a, phi, b] = ["a", "phi", "b"].map(|name| part(words(name), p.K as usize, k));
+    for k in 0..rings.count {
+        let [a, phi, b] = rings.parts(k);
         let left = vectors.left(a, phi)?.coeffs;
         let coefficient = (0..64).find(|&c| left[c] != b[c]).unwrap_or(0);
         let (left, right) = (centred(left[coefficient]), centred(b[coefficient]));

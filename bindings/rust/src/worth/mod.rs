@@ -18,12 +18,14 @@ use crate::section_one::SectionOne;
 
 mod fraction;
 mod joint;
+mod marks;
 mod modulus;
 mod natural;
 mod together;
 mod zero;
 
 pub use fraction::Fraction;
+pub use marks::{repeats_of, Marker, Marks};
 pub use modulus::{Divisor, Modulus, DEFAULT, MODULUS, PRIME};
 pub use together::{repeats, Repeat, Shared};
 pub use zero::{zero_sections, ZeroSection};

@@ -160,10 +160,6 @@ fn each_verdict_is_that_of_verify() {
 #[test]
 fn the_whole_call_is_refused() {
     let desk = three("many_refused");
-    let nine = format!("{THREE} r1 t1 r1 t1 r1 t1 r1 t1 r1 t1 r1 t1");
-    let told = run(&desk, &nine);
-    let line = "labrador: refusal 35: there are 9 transcripts, and a call takes 1 to 8\n";
-    assert_eq!((told.status, told.line.as_str(), told.out.as_str()), (2, line, ""));
     let mut job = desk.words("job");
     job[1] = 65;
     desk.put("job", &job);

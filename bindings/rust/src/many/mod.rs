@@ -2,18 +2,37 @@
 
 use crate::ffi;
 use crate::handed::Handed;
-use crate::needs::{buffer, scratch_need};
 use crate::refusal::Refusal;
 use crate::section_one::SectionOne;
 use crate::sections::Slice;
 use crate::verdict::Verdict;
-use crate::verifier::{told, verify};
+use crate::verifier::told;
+
+use self::group::Group;
+
+mod any;
+mod group;
+mod threads;
+
+pub use any::{verify_all, verify_each};
+
+/// So many transcripts are the most of one call.
+const MOST: usize = 8;
 
 /// A transcript with its randomness.
 #[derive(Clone, Copy, Debug)]
 pub struct Sent<'a> {
     pub randomness: &'a [u32],
     pub transcript: &'a [u32],
+}
+
+impl Sent<'_> {
+    /// Appends its words to others; it never fails.
+    fn append<E>(&self, randomness: &mut Vec<u32>, transcript: &mut Vec<u32>) -> Result<(), E> {
+        randomness.extend_from_slice(self.randomness);
+        transcript.extend_from_slice(self.transcript);
+        Ok(())
+    }
 }
 
 /// Part `m` of `count` parts that lie end to end, each of this length: what ends early cuts short or empties those at its end,
@@ -73,25 +92,12 @@ pub fn verify_many_with(
 /// # Ok::<(), labrador::Refusal>(())
 /// ```
 pub fn verify_many(job: &[u32], sent: &[Sent<'_>]) -> Result<Vec<Verdict>, Refusal> {
-    if !(1..=8).contains(&sent.len()) {
+    if !(1..=MOST).contains(&sent.len()) {
         return Err(Refusal::TranscriptCount { count: sent.len() as u64 });
     }
-    let need = scratch_need(job)?;
-    let p = SectionOne::read(job).expect("the job is fit").parameters;
-    let lengths = [Slice::Randomness, Slice::Transcript].map(|slice| slice.length(&p));
-    let is_whole = |one: &Sent<'_>| [one.randomness.len() as u64, one.transcript.len() as u64] == lengths;
-    let whole: Vec<&Sent<'_>> = sent.iter().filter(|one| is_whole(one)).collect();
-    let mut judged = Vec::new();
-    if !whole.is_empty() {
-        let randomness: Vec<u32> = whole.iter().flat_map(|one| one.randomness).copied().collect();
-        let transcripts: Vec<u32> = whole.iter().flat_map(|one| one.transcript).copied().collect();
-        let mut scratch = buffer(need * whole.len() as u64);
-        judged = verify_many_with(job, whole.len() as u32, &randomness, &transcripts, &mut scratch)?;
+    let mut group = Group::new(job, sent.len())?;
+    for one in sent {
+        group.add(|randomness, transcript| one.append(randomness, transcript))?;
     }
-    let mut judged = judged.into_iter();
-    let verdict = |one: &Sent<'_>| {
-        let in_the_call = if is_whole(one) { judged.next() } else { None };
-        in_the_call.unwrap_or_else(|| verify(job, one.randomness, one.transcript))
-    };
-    Ok(sent.iter().map(verdict).collect())
+    group.verdicts()
 }
