@@ -1,7 +1,5 @@
 //! The calls of `bindings/labrador.h` over slices, and all that is `unsafe` in this crate. The structs are the header's,
-//! field by field.
-
-use crate::section_one::PARAMETERS;
+//! field by field. Nothing else of the crate is needed here: tests and the oracle read this file too.
 
 #[repr(C)]
 #[derive(Clone, Copy)]
@@ -19,7 +17,7 @@ pub struct ChallengeWords {
 #[repr(C)]
 #[derive(Clone, Copy)]
 pub struct Parameters {
-    pub words: [u32; PARAMETERS.len()],
+    pub words: [u32; 12],
 }
 
 #[repr(C)]
