@@ -136,7 +136,8 @@ pub fn joined(hi: u64, lo: u64) -> u128 {
 macro_rules! by_value {
     ($($name:ident = $call:ident($($a:ident: $t:ty),*) -> $r:ty;)*) => {
         extern "C" { $(fn $call($($a: $t),*) -> $r;)* }
-        $(pub fn $name($($a: $t),*) -> $r {
+        $(#[inline]
+        pub fn $name($($a: $t),*) -> $r {
             // SAFETY: the call answers all words, is handed no pointer, and its types are the header's.
             unsafe { $call($($a),*) }
         })*
