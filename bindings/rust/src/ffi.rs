@@ -277,6 +277,7 @@ pub fn recompose(base: u32, digits: &[u32]) -> WordAnswer {
     unsafe { labrador_recompose(base, digits.as_ptr(), digits.len()) }
 }
 
+#[inline]
 pub fn rq_digits(base: u32, parts: u32, a: Element, out: &mut [u32]) -> Status {
     // SAFETY: the pointer is a slice's that is lent alone, so it is not null and that many words can be written.
     unsafe { labrador_rq_digits(base, parts, a, out.as_mut_ptr(), out.len()) }
