@@ -2,23 +2,23 @@
 
    On numbers modulo Q (LABRADOR_Q below), ring elements modulo X^64 + 1 and challenges:
      labrador_zq_add             the sum of two numbers
-     labrador_zq_sub             their difference
-     labrador_zq_mul             their product
+     labrador_zq_sub             the difference of two numbers
+     labrador_zq_mul             the product of two numbers
      labrador_zq_neg             a number's negative
      labrador_zq_centre          a number as a signed one
      labrador_zq_digits          a number's digits in a base
-     labrador_recompose          the number of its digits
+     labrador_recompose          a number from its digits
      labrador_parts_needed       how many digits leave nothing of any number
      labrador_projection_entry   the projection's entry of a word
      labrador_rq_add             the sum of two elements
-     labrador_rq_sub             their difference
-     labrador_rq_mul             their product
-     labrador_rq_mul_fast        their product by transforms
+     labrador_rq_sub             the difference of two elements
+     labrador_rq_mul             the product of two elements
+     labrador_rq_mul_fast        the same product by transforms
      labrador_rq_scale           an element times a number
      labrador_rq_conj            an element's conjugate
      labrador_rq_norm            an element's norm
      labrador_rq_digits          an element's digits in a base
-     labrador_rq_left            what is left after them
+     labrador_rq_left            what is left of an element after its digits
      labrador_challenge          the challenge of its words
    On whole slices of words:
      labrador_scratch_need       how much scratch a job needs
@@ -26,16 +26,16 @@
      labrador_load_needs         how long the slices of a test load are
      labrador_load               a test load: a job, a witness that meets it, randomness
      labrador_prove              the transcript of a job, a witness and randomness
-     labrador_round_1            the same in rounds: u1
-     labrador_round_2            p
-     labrador_round_3            b''
-     labrador_round_4            u2
-     labrador_round_5            z, t, g and h
+     labrador_round_1            its first round: u1
+     labrador_round_2            its second: p
+     labrador_round_3            its third: b''
+     labrador_round_4            its fourth: u2
+     labrador_round_5            its fifth: z, t, g and h
      labrador_shed_projection    p of a run of witness vectors
      labrador_shed_rows          rows of t of a run of witness vectors
      labrador_add_projections    the sum of two p
      labrador_verify             the verdict on a transcript
-     labrador_verify_many        the verdicts on up to eight
+     labrador_verify_many        the verdicts on one to eight transcripts
      labrador_mistyped           which constant was mistyped, after a failed check 22
      labrador_ranges             norms of a witness that is known within ranges
 
