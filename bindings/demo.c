@@ -1,7 +1,9 @@
 /* Writes the job of a statement of four totals and the witness of a stock, proves it eight times, each with randomness of its own, whole and
    once in rounds, and judges the eight in one call. Then transcripts and the statement are damaged, and each verdict is told in words. C99, but for
    the clock. */
+#ifndef _POSIX_C_SOURCE
 #define _POSIX_C_SOURCE 199309L
+#endif
 
 #include <inttypes.h>
 #include <stdio.h>
