@@ -1,7 +1,5 @@
 //! The calls of `bindings/labrador.h` over slices, and all that is `unsafe` in this crate. The structs are the header's,
-//! field by field.
-
-use crate::section_one::PARAMETERS;
+//! field by field. Nothing else of the crate is needed here: tests and the oracle read this file too.
 
 #[repr(C)]
 #[derive(Clone, Copy)]
@@ -19,7 +17,7 @@ pub struct ChallengeWords {
 #[repr(C)]
 #[derive(Clone, Copy)]
 pub struct Parameters {
-    pub words: [u32; PARAMETERS.len()],
+    pub words: [u32; 12],
 }
 
 #[repr(C)]
@@ -138,7 +136,8 @@ pub fn joined(hi: u64, lo: u64) -> u128 {
 macro_rules! by_value {
     ($($name:ident = $call:ident($($a:ident: $t:ty),*) -> $r:ty;)*) => {
         extern "C" { $(fn $call($($a: $t),*) -> $r;)* }
-        $(pub fn $name($($a: $t),*) -> $r {
+        $(#[inline]
+        pub fn $name($($a: $t),*) -> $r {
             // SAFETY: the call answers all words, is handed no pointer, and its types are the header's.
             unsafe { $call($($a),*) }
         })*
@@ -278,6 +277,7 @@ pub fn recompose(base: u32, digits: &[u32]) -> WordAnswer {
     unsafe { labrador_recompose(base, digits.as_ptr(), digits.len()) }
 }
 
+#[inline]
 pub fn rq_digits(base: u32, parts: u32, a: Element, out: &mut [u32]) -> Status {
     // SAFETY: the pointer is a slice's that is lent alone, so it is not null and that many words can be written.
     unsafe { labrador_rq_digits(base, parts, a, out.as_mut_ptr(), out.len()) }
