@@ -12,6 +12,7 @@ mod lent;
 mod many;
 mod mistyped;
 mod norms;
+mod ratios;
 mod review;
 mod sheds;
 mod statement;
