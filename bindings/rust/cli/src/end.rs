@@ -30,7 +30,7 @@ pub struct End {
     pub out: String,
     /// For standard error before the line, a line each.
     pub warnings: Vec<String>,
-    /// For standard error; nothing is said where it is empty.
+    /// For standard error; nothing is said where it is empty. Of several mistakes it has several lines.
     pub line: String,
     /// For machines, beside the status and the line.
     pub fields: Vec<(&'static str, Json)>,
@@ -69,9 +69,7 @@ impl End {
         let out = if json { self.to_json() } else { self.out.clone() };
         let printed = print(&out);
         self.warnings.iter().for_each(|warning| complain(&format!("warning: {warning}")));
-        if !self.line.is_empty() {
-            complain(&self.line);
-        }
+        self.line.lines().for_each(complain);
         match printed {
             Ok(()) => ExitCode::from(self.status as u8),
             Err(error) => {

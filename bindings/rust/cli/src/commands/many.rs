@@ -14,7 +14,7 @@ use crate::help::Command;
 use crate::json::Json;
 use crate::progress::Progress;
 use crate::stated::Given;
-use crate::worth::{together, warnings, Told};
+use crate::worth::{together, together_sentence, warnings, Told};
 
 fn refused(refusal: Refusal) -> End {
     end::refused(&refusal, refusal.to_string())
@@ -57,7 +57,7 @@ fn counted(job: &[u32], judged: &[Judged]) -> (u32, Vec<String>) {
     ((can.len() - repeats.len()) as u32, told)
 }
 
-/// What the transcripts are worth together; nothing is said where one is not accepted.
+/// What all transcripts are worth together; nothing for machines where one is not accepted.
 fn worth(job: &Told, judged: &[Judged], counted: u32) -> Option<String> {
     let all = judged.iter().all(|one| one.verdict.is_accepted());
     all.then(|| together(&job.worth, counted))
@@ -67,17 +67,9 @@ fn worth(job: &Told, judged: &[Judged], counted: u32) -> Option<String> {
 fn end_line(job: &Told, judged: &[Judged], counted: u32) -> String {
     let accepted = judged.iter().filter(|one| one.verdict.is_accepted()).count();
     let few = if counted as usize == accepted { String::new() } else { format!(", {counted} of them counted") };
-    let told = format!("{accepted} of {} transcripts accepted", judged.len());
-    match worth(job, judged, counted) {
-        Some(worth) => format!(
-            "{told}{few}; together: {worth}, if the desk drew the randomness and nothing was tried again; {}",
-            job.things()
-        ),
-        None => format!(
-            "{told}; what they are worth together is said only where all are accepted, and nothing was tried again; {}",
-            job.things()
-        ),
-    }
+    let told = format!("{accepted} of {} transcripts accepted{few}", judged.len());
+    let worth = together_sentence(&job.worth, judged.len(), accepted, counted);
+    [Some(told), worth, Some(job.things())].into_iter().flatten().collect::<Vec<_>>().join("; ")
 }
 
 /// Each transcript's line and object, and the worst status.
