@@ -26,7 +26,7 @@ const JOB: Opt = opt("--job", "FILE", "the job: the statement");
 const RANDOMNESS: Opt = opt("--randomness", "FILE", "the randomness of the transcript");
 const WITNESS: Opt = opt("--witness", "FILE", "the witness; it is secret");
 const STRICT: Opt =
-    opt("--strict", "", "exit status 1 also where under this job any statement is accepted or a check can never fail, or weights are all zero");
+    opt("--strict", "", "exit status 1 also where a check can never fail or any statement is accepted under this job, or weights are all zero");
 const TRANSCRIPT: Opt = opt("--transcript", "FILE", "the transcript");
 
 pub const LOAD: Command = Command {

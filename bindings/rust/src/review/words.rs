@@ -33,12 +33,13 @@ fn totals(passes: &[(u32, Fraction)]) -> String {
     format!("totals are forced modulo {least} only: one that is wrong {}", each.join(", "))
 }
 
-/// How the left sides of two constraints stand to each other.
-fn left_sides(ratio: &Ratio) -> String {
+/// How the sides of two constraints stand to each other that contradict.
+fn sides(ratio: &Ratio) -> String {
+    let number = "the left sides are the same up to a number, the right sides are not by that number";
     match ratio {
-        Ratio::Same => "the left sides are the same".to_string(),
-        Ratio::Multiple => "the left sides are the same up to a number".to_string(),
-        Ratio::Modulo(d) => format!("modulo {d}, which divides Q, the left sides are the same up to a number"),
+        Ratio::Same => "the left sides are the same, the right sides are not".to_string(),
+        Ratio::Multiple => number.to_string(),
+        Ratio::Modulo(divisor) => format!("modulo {divisor}, which divides Q, {number}"),
     }
 }
 
@@ -96,8 +97,8 @@ impl Finding {
                 format!("{kind} {index} repeats {of_kind} {of}{times}")
             }
             Finding::Contradicts { kind, index, of_kind, of, ratio, .. } => format!(
-                "{kind} {index} contradicts {of_kind} {of}: {}, the right sides are not, and no witness meets both",
-                left_sides(ratio)
+                "{kind} {index} contradicts {of_kind} {of}: {}, and no witness meets both",
+                sides(ratio)
             ),
             Finding::Untouched { vector } => format!("witness vector {vector} is in no constraint"),
             Finding::ZeroA { .. } => "A is zero: t says nothing of the witness".to_string(),

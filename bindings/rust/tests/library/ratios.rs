@@ -23,14 +23,13 @@ fn repeats(index: u32, of: u32) -> String {
     format!("constant-term constraint {index} repeats constant-term constraint {of}: {TIMES}")
 }
 
-fn contradicts(index: u32, of: u32, left: &str) -> String {
+fn contradicts(index: u32, of: u32, sides: &str) -> String {
     format!(
-        "constant-term constraint {index} contradicts constant-term constraint {of}: {left}, the right sides are not, and no witness \
-         meets both"
+        "constant-term constraint {index} contradicts constant-term constraint {of}: {sides}, and no witness meets both"
     )
 }
 
-const NUMBER: &str = "the left sides are the same up to a number";
+const NUMBER: &str = "the left sides are the same up to a number, the right sides are not by that number";
 
 #[test]
 fn factors_that_are_units() {
@@ -50,7 +49,10 @@ fn factors_that_are_units() {
 fn the_same_words() {
     let same = "constant-term constraint 1 repeats constant-term constraint 0";
     assert_eq!(told(&["60 = s0", "60 = 2 * s0 - s0"]), [same]);
-    assert_eq!(told(&["60 = s0", "61 = s0"]), [contradicts(1, 0, "the left sides are the same")]);
+    assert_eq!(
+        told(&["60 = s0", "61 = s0"]),
+        [contradicts(1, 0, "the left sides are the same, the right sides are not")]
+    );
 }
 
 /// 3 divides 2^32 - 1: three times a total says less than the total, and modulo 3 nothing.
@@ -65,8 +67,8 @@ fn factors_that_share_a_divisor_with_q() {
     assert_eq!((found.len(), found.last()), (over(2, 1), Some(&contradicts(1, 0, NUMBER))));
     // both say the same of s0 modulo the other primes; modulo 3 only the second says something, modulo 5 only the first
     assert_eq!(told(&["180 = 3 * s0", "300 = 5 * s0"]), over::<&[String]>(&[], &[repeats(1, 0)]));
-    let but_for_15 = "modulo 286331153, which divides Q, the left sides are the same up to a number";
-    assert_eq!(told(&["180 = 3 * s0", "305 = 5 * s0"]), [contradicts(1, 0, over(but_for_15, NUMBER))]);
+    let but_for_15 = format!("modulo 286331153, which divides Q, {NUMBER}");
+    assert_eq!(told(&["180 = 3 * s0", "305 = 5 * s0"]), [contradicts(1, 0, over(but_for_15.as_str(), NUMBER))]);
     // a factor of 3·5 and one of 3: neither is a unit, and one is a multiple of the other
     assert_eq!(told(&["180 = 3 * s0", "900 = 15 * s0"]), [repeats(1, 0)]);
     assert_eq!(told(&["900 = 15 * s0", "180 = 3 * s0"]), [over(repeats(0, 1).as_str(), &repeats(1, 0))]);
@@ -75,9 +77,9 @@ fn factors_that_share_a_divisor_with_q() {
 /// Equal modulo 3 alone: 4 is 1 modulo 3.
 #[test]
 fn left_sides_that_are_the_same_modulo_a_divisor() {
-    let modulo = "modulo 3, which divides Q, the left sides are the same up to a number";
+    let modulo = format!("modulo 3, which divides Q, {NUMBER}");
     let found = told(&["60 = s0", "61 = s0 + 3 * s0[0]"]);
-    assert_eq!(found, over::<&[String]>(&[contradicts(1, 0, modulo)], &[]));
+    assert_eq!(found, over::<&[String]>(&[contradicts(1, 0, &modulo)], &[]));
     // 63 is 60 modulo 3: no witness is excluded, and neither implies the other
     assert_eq!(told(&["60 = s0", "63 = s0 + 3 * s0[0]"]), Vec::<String>::new());
 }
