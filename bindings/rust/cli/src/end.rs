@@ -32,7 +32,7 @@ pub struct End {
     pub out: String,
     /// For standard error before the line, a line each.
     pub warnings: Vec<String>,
-    /// Nothing is said where it is empty.
+    /// Nothing is said where it is empty. Of several mistakes it has several lines.
     pub line: String,
     /// Whether the line is a verdict.
     pub judges: bool,
@@ -85,8 +85,8 @@ impl End {
     pub fn say(self, json: bool) -> ExitCode {
         let printed = print(&if json { self.to_json() } else { shown::lines(&self.to_text()) });
         self.warnings.iter().for_each(|warning| complain(&format!("warning: {warning}")));
-        if !self.line.is_empty() && (json || !self.judges) {
-            complain(&self.line);
+        if json || !self.judges {
+            self.line.lines().for_each(complain);
         }
         match printed {
             Ok(()) => ExitCode::from(self.status as u8),

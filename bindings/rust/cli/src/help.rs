@@ -32,7 +32,7 @@ const JOB: Opt = opt("--job", "FILE", "the job: the statement");
 const RANDOMNESS: Opt = opt("--randomness", "FILE", "the randomness of the transcript");
 const WITNESS: Opt = opt("--witness", "FILE", "the witness; it is secret");
 const STRICT: Opt =
-    opt("--strict", "", "exit status 1 also where a check can never fail under this job, or weights are all zero");
+    opt("--strict", "", "exit status 1 also where a check can never fail or any statement is accepted under this job, or weights are all zero");
 const TRANSCRIPT: Opt = opt("--transcript", "FILE", "the transcript");
 const REFERENCE: Opt = opt("--reference", "TEXT", "what it is filed under: a line of text");
 const DATE: Opt = opt("--date", "YYYY-MM-DD", "the day that it is filed under; no clock is read");
@@ -165,9 +165,9 @@ pub const VERIFY_MANY: Command = Command {
     name: "verify-many",
     usage: "labrador verify-many [--report PAGE.html] [--reference TEXT] [--date YYYY-MM-DD] [--statement FILE] [--strict] [--threads N] --job FILE \
             RANDOMNESS TRANSCRIPT [RANDOMNESS TRANSCRIPT]…",
-    about: "Judges any number of transcripts for one job, each with its own randomness, and prints a line for each. Where all are accepted it \
-            says what they are worth together if the desk drew the randomness and nothing was tried again; what is handed in twice counts \
-            once. They are judged in groups of at most eight, on several threads; no more than eight are held in memory at a time, or \
+    about: "Judges any number of transcripts for one job, each with its own randomness, and prints a line for each. It says what \
+            the accepted ones are worth together if the desk drew the randomness and nothing was tried again; each that failed was another \
+            chance, and what is handed in twice counts once. They are judged in groups of at most eight, on several threads; no more than eight are held in memory at a time, or \
             as many as there are threads. Exit status 0 all accepted, 1 a failed check, 2 one is refused.",
     options: &[
         JOB,
@@ -278,8 +278,8 @@ pub const STOCK: Command = Command {
 pub const CHECK: Command = Command {
     name: "check",
     usage: "labrador check --job FILE --witness FILE",
-    about: "Says before anything is proved which totals a witness meets. It says by how much it misses the others, and each vector's norm \
-            against A's bound. Exit status 0 all met, 1 something is missed, 2 unfit.",
+    about: "Says before anything is proved which totals a witness meets. It says by how many grams it misses the others, and each vector's norm \
+            against A's bound. Exit status 0 all met, 1 something is missed or met modulo Q only, 2 unfit.",
     options: &[JOB, WITNESS, JSON, HELP],
     example: "labrador check --job sheds.job --witness sheds.witness",
 };
@@ -288,7 +288,8 @@ pub const BOUNDS: Command = Command {
     name: "bounds",
     usage: "labrador bounds --statement FILE --stock FILE [--slack PERCENT] [--sessions N]",
     about: "Prints the bounds that honest transcripts of a statement and a stock need. They are the six lines of a statement file, which \
-            may lack them here. Exit status 1 where one of the transcripts would not pass.",
+            may lack them here. Exit status 1 where the stock misses a total, which is told with its line, or \
+            one of the transcripts would not pass.",
     options: &[
         opt("--statement", "FILE", "the statement file"),
         opt("--stock", "FILE", "the stock list; it is secret"),

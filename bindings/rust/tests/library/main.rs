@@ -16,6 +16,7 @@ mod linked;
 mod many;
 mod mistyped;
 mod norms;
+mod ratios;
 mod review;
 mod sheds;
 mod statement;

@@ -20,7 +20,7 @@ use crate::page::record;
 use crate::progress::Progress;
 use crate::shown;
 use crate::stated::Given;
-use crate::worth::{together, warnings, Told};
+use crate::worth::{together, together_sentence, warnings, Told};
 
 fn refused(refusal: Refusal) -> End {
     end::refused(&refusal, refusal.to_string()).judging()
@@ -47,6 +47,8 @@ pub struct Together {
     pub counted: u32,
     /// What they are worth, where all are accepted.
     pub worth: Option<String>,
+    /// What the accepted ones are worth and on what that rests, where there is one.
+    says: Option<String>,
     /// What is to be told of randomness, and of what is handed in twice.
     pub warnings: Vec<String>,
 }
@@ -92,37 +94,45 @@ impl Desk {
         let counted = (can.len() - repeats.len()) as u32;
         let accepted = judged.iter().filter(|one| one.verdict.is_accepted()).count();
         let worth = (accepted == judged.len()).then(|| together(&self.told.worth, counted));
-        Together { accepted, counted, worth, warnings }
+        let says = together_sentence(&self.told.worth, judged.len(), accepted, counted);
+        Together { accepted, counted, worth, says, warnings }
     }
 }
 
 impl Together {
-    /// `8 of 8 transcripts accepted; together: 1 in 1.9·10^15 (50.7 bits)`
-    pub fn short(&self, judged: usize) -> String {
-        let accepted = format!("{} of {judged} transcripts accepted", self.accepted);
+    /// `8 of 8 transcripts accepted`
+    fn counted_of(&self, judged: usize) -> String {
         let few = match self.counted as usize == self.accepted {
             true => String::new(),
             false => format!(", {} of them counted", self.counted),
         };
+        format!("{} of {judged} transcripts accepted{few}", self.accepted)
+    }
+
+    /// `8 of 8 transcripts accepted; together: 1 in 1.9·10^15 (50.7 bits)`
+    pub fn short(&self, judged: usize) -> String {
         match &self.worth {
-            Some(worth) => format!("{accepted}{few}; together: {worth}"),
-            None => accepted,
+            Some(worth) => format!("{}; together: {worth}", self.counted_of(judged)),
+            None => self.counted_of(judged),
         }
     }
 
-    /// On what the short line rests.
-    pub fn rests_on(&self) -> &'static str {
+    /// On what the short line rests; where not all are accepted, what those that are would be worth.
+    pub fn rests_on(&self) -> Option<String> {
         match self.worth {
-            Some(_) => "if the desk drew the randomness and nothing was tried again",
-            None => "what they are worth together is said only where all are accepted, and nothing was tried again",
+            Some(_) => Some(
+                "what is said of them together holds if the desk drew the randomness and nothing was tried again"
+                    .to_string(),
+            ),
+            None => self.says.clone(),
         }
     }
 }
 
 /// The line on all of them.
 fn end_line(desk: &Desk, judged: &[Judged], together: &Together) -> String {
-    let comma = if together.worth.is_some() { "," } else { ";" };
-    format!("{}{comma} {}; {}", together.short(judged.len()), together.rests_on(), desk.told.things())
+    let told = [Some(together.counted_of(judged.len())), together.says.clone(), Some(desk.told.things())];
+    told.into_iter().flatten().collect::<Vec<_>>().join("; ")
 }
 
 /// Each transcript's line and object, and the worst status.

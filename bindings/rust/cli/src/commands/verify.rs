@@ -73,13 +73,14 @@ pub fn line(verdict: &Verdict, slices: [&[u32]; 3], job: Option<&Told>, warnings
     }
 }
 
-/// An end of acceptances is a failure under --strict where a check can never fail, or weights are all zero.
+/// An end of acceptances is a failure under --strict where any statement is accepted, a check can never fail, or weights are all zero.
 pub fn strict(end: End, job: Option<&Told>, zero_weights: bool, args: &Args) -> End {
     let never = job.map(Told::never_fail).unwrap_or_default();
     let tests = if never.len() == 1 { "test" } else { "tests" };
     let never = (!never.is_empty()).then(|| format!("{tests} {} can never fail", listed(&never)));
     let zero = zero_weights.then(|| "weights are all zero".to_string());
-    let reasons: Vec<String> = never.into_iter().chain(zero).collect();
+    let certain = job.is_some_and(|job| job.worth.certain).then(|| "any statement is accepted".to_string());
+    let reasons: Vec<String> = certain.into_iter().chain(never).chain(zero).collect();
     if end.status != Status::Fine || !args.flag("--strict") || reasons.is_empty() {
         return end;
     }

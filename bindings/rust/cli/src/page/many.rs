@@ -56,11 +56,7 @@ fn header(report: &Report) -> String {
     let (class, mark) = report.mark();
     let warnings = report.together.warnings.iter().map(|warning| format!("warning: {warning}"));
     let worth = format!("{}; {}", chance_sentence(&report.told.worth), drawn_sentence(&report.told.worth));
-    let rests = match report.together.worth {
-        Some(_) => format!("what is said of them together holds {}", report.together.rests_on()),
-        None => report.together.rests_on().to_string(),
-    };
-    let told = warnings.chain([rests, worth]);
+    let told = warnings.chain(report.together.rests_on()).chain([worth]);
     let told: String = told.map(|text| format!("<p>{}</p>\n", escape(&sentence(&text)))).collect();
     let heading = escape(&report.title());
     format!(
