@@ -77,7 +77,7 @@ fn row((number, one): (usize, &Judged)) -> Row {
 fn verdicts(report: &Report) -> String {
     let rows: Vec<Row> = (1..).zip(report.judged).map(row).collect();
     let caption = "Each transcript with its randomness, in the order in which they were handed in";
-    section("verdicts", "Verdicts", &table("num long", caption, &["", "files", "verdict"], &rows))
+    section("verdicts", "Verdicts", &table("num long", caption, &["no.", "files", "verdict"], &rows))
 }
 
 /// What the job states, and how it stands to the statement file.
