@@ -46,7 +46,7 @@ fn stopped_in_writing(desk: &Desk, before: &[&str]) -> Child {
     let nameless = |path: &Path| path.starts_with(&folder) && path.to_string_lossy().ends_with(" (deleted)");
     let writes = |run: &Child| open_files(run).iter().filter(|path| nameless(path)).count() == 3;
     loop {
-        FILES.map(|name| drop(fs::remove_file(desk.path(name))));
+        FILES.iter().for_each(|name| drop(fs::remove_file(desk.path(name))));
         before.iter().for_each(|name| fs::write(desk.path(name), name).unwrap());
         let mut run = spawned(desk, &format!("{LOAD} n=64 r=16 --seed 3 --force"));
         while !writes(&run) && run.try_wait().expect("the run's end").is_none() {
