@@ -262,7 +262,7 @@ static void judge_all(const char *what, int expected) {
     }
     printf("%-42s%d of %d transcripts accepted (%.2f ms)\n", what, accepted, TRANSCRIPTS, end - begin);
     if (other >= 0) {
-        char name[48];
+        char name[64];
         snprintf(name, sizeof name, "  the first of the others, transcript %d:", other);
         tell(name, &all.verdicts[other]);
         printf("\n");
