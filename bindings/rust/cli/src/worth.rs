@@ -127,12 +127,12 @@ pub fn together(worth: &Worth, transcripts: u32) -> String {
 /// none is accepted.
 pub fn together_sentence(worth: &Worth, judged: usize, accepted: usize, counted: u32) -> Option<String> {
     let (chance, drawn) = (together(worth, counted), "if the desk drew the randomness and nothing was tried again");
+    let best = format!("at best {chance}, {drawn}, and each that failed was another chance");
     match accepted {
         0 => None,
         all if all == judged => Some(format!("together: {chance}, {drawn}")),
-        some => Some(format!(
-            "the {some} accepted together: at best {chance}, {drawn}, and each that failed was another chance"
-        )),
+        1 => Some(format!("the 1 accepted: {best}")),
+        some => Some(format!("the {some} accepted together: {best}")),
     }
 }
 

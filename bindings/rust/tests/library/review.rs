@@ -119,8 +119,8 @@ fn a_bound_of_h_without_room() {
         set_bound(&mut job, "bound_D", bound_d);
         review(&job).unwrap()[0].severity() == Severity::Anything
     };
-    // four digits of the base 256, 64 coefficients: 256²/12 each, of the last 255²/12 and less
-    let cell = 64 * (3 * (256 * 256 / 12) + over(255 * 255 / 12, 255 * 255 / 12));
+    // four digits of the base 256 of 64 coefficients: three of 256²/12 each, and a last of 255²/12
+    let cell = 64 * (3 * (256 * 256 / 12) + 255 * 255 / 12);
     assert!(anything((1 << 96) - 1, cell));
     for bound_d in [0, 1000, cell - 1] {
         assert!(!anything((1 << 96) - 1, bound_d), "{bound_d}");
@@ -340,7 +340,7 @@ fn a_matrix_of_zeros() {
         job[a..a + 64 * 4 * n as usize].fill(0);
         assert_eq!(findings(&job), [format!("A is zero: t says nothing of the witness (from word {a})")]);
         job[a] = 1;
-        assert!(findings(&job).iter().all(|line| !line.starts_with("A is zero")) && findings(&job).len() > 3);
+        assert!(findings(&job).iter().all(|line| !line.starts_with("A is zero")) && findings(&job).len() >= 3);
     }
 }
 

@@ -113,8 +113,9 @@ fn zero_weights_count_nothing() {
 /// The line where so many of three are accepted: what these are worth, and that the others were chances.
 fn told_of(accepted: u32, worth: &str) -> String {
     format!(
-        "labrador: {accepted} of 3 transcripts accepted; the {accepted} accepted together: at best {worth}, if the desk drew the randomness and \
-         nothing was tried again, and each that failed was another chance; {THINGS} things that the job does not force\n"
+        "labrador: {accepted} of 3 transcripts accepted; the {accepted} accepted{}: at best {worth}, if the desk drew the randomness and \
+         nothing was tried again, and each that failed was another chance; {THINGS} things that the job does not force\n",
+        if accepted == 1 { "" } else { " together" }
     )
 }
 
