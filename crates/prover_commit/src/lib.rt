@@ -31,7 +31,7 @@ fn check_t(p: EnvironmentParameters, q: Regions, scratch: &[u32]) -> Proved
         cells,
         parts: p.t_1,
     };
-    if common_instances::digits_within(scratch, digits, p.b, p.bound_b).within {
+    if common_instances::digits_within(scratch, digits, p.b, p.bound_b) {
         Proved::Made
     } else {
         Proved::Refused(Refusal::DigitsOfT)
@@ -48,7 +48,7 @@ fn check_g(p: EnvironmentParameters, q: Regions, scratch: &[u32]) -> Proved
         cells: slices::triangle(p.multiplicity),
         parts: p.t_2,
     };
-    if common_instances::digits_within(scratch, digits, p.b, p.bound_c).within {
+    if common_instances::digits_within(scratch, digits, p.b, p.bound_c) {
         Proved::Made
     } else {
         Proved::Refused(Refusal::DigitsOfG)

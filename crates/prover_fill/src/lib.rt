@@ -38,7 +38,7 @@ fn check_h(p: EnvironmentParameters, q: Regions, scratch: &[u32]) -> Proved
         cells: slices::triangle(p.multiplicity),
         parts: p.t_1,
     };
-    if common_instances::digits_within(scratch, digits, p.b, p.bound_d).within {
+    if common_instances::digits_within(scratch, digits, p.b, p.bound_d) {
         Proved::Made
     } else {
         Proved::Refused(Refusal::DigitsOfH)
