@@ -1,4 +1,4 @@
-// The projection's entries (`generate_projections` of transcript/mod.rs). Every reader of a projection word goes by `by_entry`.
+// The projection's entries (`generate_projections` of transcript/mod.rs). The leaf call, p and φ'' go by `by_entry`.
 use zq::zq::Zq;
 ghost use mathlib.Core.Path.{_≡_};
 ghost use Rattle.definitions.specs.Projection.{entry};
