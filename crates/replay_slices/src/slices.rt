@@ -32,8 +32,8 @@ fn length(run: &[u32], which: usize) -> usize {
     }
 }
 
-// The words of the run from a place on; none where it has too few.
-fn part(run: &[u32], from: usize, length: usize) -> &[u32] {
+// The words of the run, or of a slice, from a place on; none where it has too few.
+pub fn part(run: &[u32], from: usize, length: usize) -> &[u32] {
     if from > run.len() {
         return &run[..0];
     }
@@ -48,9 +48,9 @@ pub fn slice(run: &[u32], which: usize) -> &[u32] {
     part(run, start(which), length(run, which))
 }
 
-// Words of the transcript, which may lie past its length.
-pub fn of_transcript(run: &[u32], from: u32, length: usize) -> &[u32] {
-    part(run, start(3) + from as usize, length)
+// The words of the transcript and those past its length.
+pub fn transcript(run: &[u32]) -> &[u32] {
+    part(run, start(3), 8192)
 }
 
 fn store(run: &mut [u32], at: usize, word: u32) {

@@ -4,8 +4,8 @@ use Prim.Native.Nat.{_≤_, _-_}
 use native.Mathlib.Omega.{arith}
 use borrow.Author.Needs.{needs}
 use lib.ListN.{length}
-use Rattle.replay_calls.proofs.slices.put.Statement.{statement}
-use Rattle.replay_calls.proofs.slices.put.Tie as tie
+use Rattle.replay_slices.proofs.slices.put.Statement.{statement}
+use Rattle.replay_slices.proofs.slices.put.Tie as tie
 
 abbrev Inv-loop : tie.InvT-loop
 Inv-loop body run₀ from count k₀ run k = (length run ≡ length run₀) × (from ≤ 5000000000) × (2 ≤ k)

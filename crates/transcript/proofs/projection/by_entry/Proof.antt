@@ -1,8 +1,8 @@
--- `projection_entry` meets its contract.
+-- `by_entry` meets its contract.
 use native.Mathlib.Omega.{arith}
 use borrow.Author.Tests.{lt-ltb, le-ltb}
-use Rattle.transcript.proofs.projection.projection_entry.Statement.{statement}
-use Rattle.transcript.proofs.projection.projection_entry.Tie as tie
+use Rattle.transcript.proofs.projection.by_entry.Statement.{statement}
+use Rattle.transcript.proofs.projection.by_entry.Tie as tie
 
 returns : tie.Need-returns
 returns c = simp (lt-ltb (c .before .args .word) 1073741824 (omega arith))
@@ -17,5 +17,5 @@ returns-3 c =
     let w = c .before .before .args .word in
     simp (le-ltb w 1073741824 (omega arith), le-ltb w 2147483648 (omega arith))
 
-pub projection-entry-spec : {M : Type 1} → statement M
-projection-entry-spec = tie.close (tie.spec returns returns-2 returns-3)
+pub by-entry-spec : {M : Type 1} → statement M
+by-entry-spec = tie.close (tie.spec returns returns-2 returns-3)
