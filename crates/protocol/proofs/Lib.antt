@@ -23,6 +23,7 @@ pub mod Demand3
 pub mod Stated
 pub mod Acceptance
 pub mod OneKind
+pub mod AsBefore
 pub mod SecondPart
 pub mod LoadSections
 pub mod LoadJob
