@@ -10,7 +10,8 @@ use Rattle.definitions.specs.Zq.{topQ}
 use Rattle.definitions.specs.Answer.{Answer, fine, refused, result, _then_}
 use Rattle.definitions.specs.Leaf.{limited}
 use Rattle.protocol.specs.Parameters.{Parameters, parameters, limits, enough-aggregations}
-use Rattle.protocol.specs.Layout.{span, counted, layout, ranged, first-section, job-sections, job-refusal, randomness-refusal, witness-refusal, transcript-refusal, scratch-refusal, output-refusal, scratch-need}
+use Rattle.protocol.specs.Layout.{span, counted, layout, ranged, first-section, job-sections, job-refusal}
+use Rattle.protocol.specs.Layout.{randomness-refusal, witness-refusal, transcript-refusal, scratch-refusal, output-refusal, scratch-need}
 use Rattle.protocol.specs.Views.{public, message, witness}
 use Rattle.protocol.specs.Prover.{Call, made-sections, prove-refusal, work-refusal, made, zeroed, prove, prove-output, prove-scratch}
 use Rattle.protocol.specs.Verifier.{checks, verify-refusal, verify, verify-scratch}
@@ -96,7 +97,8 @@ module _ (J : List ℕ) (same : job-refusal J ≡ job-refusal-before J) where
     output = λ call R W scratch output.
         let s = witness (parameters J) W in
         let need = span (made-sections call (parameters J)) in
-        ap (λ a. result a (result (work-refusal (public J R) call s) (made (public J R) call s ++ drop need output) (zeroed need output)) output) (prover-refusal call R W (length scratch) (length output));
+        ap (λ a. result a (result (work-refusal (public J R) call s) (made (public J R) call s ++ drop need output) (zeroed need output)) output)
+        (prover-refusal call R W (length scratch) (length output));
     scratch = λ call R W scratch output.
         ap (λ a. result a (zeroed (scratch-need (parameters J)) scratch) scratch) (prover-refusal call R W (length scratch) (length output));
     verdict = λ R T scratch. ap (λ a. a then checks (public J R) (message (parameters J) T)) (verifier-refusal R T scratch);
@@ -126,13 +128,15 @@ both-kinds P e =
     let seven : six then limited 1 64 7 (P .l) ≡ fine =
     then-fine-each (six then limited 1 64 7 (P .l)) (limited 16 32 8 (P .log-q)) (limited 2 topQ 9 (P .b)) (limited 1 32 10 (P .t₁)) (limited 1 32 11 (P .t₂)) e .0
     in
-    (at-least-1 64 6 (P .K) (then-fine-right five (limited 1 64 6 (P .K)) (then-fine-left six (limited 1 64 7 (P .l)) seven)), at-least-1 64 7 (P .l) (then-fine-right six (limited 1 64 7 (P .l)) seven))
+    let of-K = then-fine-right five (limited 1 64 6 (P .K)) (then-fine-left six (limited 1 64 7 (P .l)) seven) in
+    (at-least-1 64 6 (P .K) of-K, at-least-1 64 7 (P .l) (then-fine-right six (limited 1 64 7 (P .l)) seven))
 
 -- "Jobs accepted before answer as before."
 pub accepted-as-before : (J : List ℕ) → job-refusal-before J ≡ fine → As-before J
 unfolding job-refusal-before
 accepted-as-before J e =
     let P = parameters J in
-    let within = then-fine-each (counted 3 J 0 first-section) (first-limits P then limited 1 32 12 (P .L)) (enough-aggregations P) (layout 3 J 31 (job-sections P)) (ranged 6 J 31 (job-sections P)) e .1 in
+    let before = first-limits P then limited 1 32 12 (P .L) in
+    let within = then-fine-each (counted 3 J 0 first-section) before (enough-aggregations P) (layout 3 J 31 (job-sections P)) (ranged 6 J 31 (job-sections P)) e .1 in
     let both = both-kinds P (then-fine-left (first-limits P) (limited 1 32 12 (P .L)) within) in
     as-before J (both .0) (both .1)

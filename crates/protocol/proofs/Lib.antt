@@ -21,6 +21,7 @@ pub mod Rounds
 pub mod Total
 pub mod Demand3
 pub mod Stated
+pub mod Refuses
 pub mod Acceptance
 pub mod OneKind
 pub mod AsBefore

@@ -19,8 +19,9 @@ use Rattle.protocol.specs.Checks.{require}
 use Rattle.protocol.specs.Parameters.{triangular}
 use Rattle.protocol.specs.Layout.{start, transcript-sections}
 use Rattle.protocol.specs.Views.{message}
-use Rattle.protocol.specs.Formulas.{norm-of, two-parts, digits-of, count-left, cells-left-of, t-digits, g-digits, h-digits}
+use Rattle.protocol.specs.Formulas.{norm-of, two-parts, digits-of, count-left, t-digits, g-digits, h-digits}
 use Rattle.protocol.specs.Verifier.{check-21, check-23, z-parts}
+use Rattle.protocol.proofs.CellsLeft.{counted-cells}
 use Rattle.commitments.proofs.Answers.{require-by}
 use Rattle.commitments.proofs.Formula.{vectors-cells, triangle-cells}
 use Rattle.relation.specs.declared.env_params.EnvironmentParameters.{EnvironmentParameters}
@@ -120,7 +121,6 @@ module _ (T : List ℕ) (p : EnvironmentParameters) where
       → g ≡ count-left (p .b) (p .«t_2») (table cells (run T g-at 64))
       → h ≡ count-left (p .b) (p .«t_1») (table cells (run T h-at 64))
       → t + g + h ≡ cells-left (parametersOf p) T
-  unfolding cells-left-of
   cells-left-is cells t-at g-at h-at t g h size t-place g-place h-place t-is g-is h-is =
       let P = parametersOf p in
       ap₂ _+_
@@ -134,3 +134,4 @@ module _ (T : List ℕ) (p : EnvironmentParameters) where
       (h-is
       ∙ ap₂ (λ at cells. count-left (P .b) (P .t₁) (table cells (run T at 64))) h-place size
       ∙ ap (count-left (P .b) (P .t₁)) (triangle-cells T (start (transcript-sections P) 7) (P .r) (message P T .h) (λ i j h l. refl)))
+      ∙ sym (counted-cells (bare P) (message P T .t) (message P T .g) (message P T .h))
