@@ -9,8 +9,9 @@ use Rattle.inner_product.specs.Run.{run}
 use Rattle.protocol.specs.Parameters.{Parameters, triangular}
 use Rattle.protocol.specs.Layout.{start, transcript-sections}
 use Rattle.protocol.specs.Views.{message}
-use Rattle.protocol.specs.Formulas.{norm-of, two-parts, digits-of, count-left, cells-left-of, t-digits, g-digits, h-digits}
+use Rattle.protocol.specs.Formulas.{norm-of, two-parts, digits-of, count-left, t-digits, g-digits, h-digits}
 use Rattle.protocol.specs.Prover.{t-norm, g-norm, h-norm}
+use Rattle.protocol.proofs.CellsLeft.{counted-cells}
 use Rattle.commitments.proofs.Answers.{require-by}
 use Rattle.commitments.proofs.Formula.{vectors-cells, triangle-cells}
 use Rattle.relation.specs.declared.env_params.EnvironmentParameters.{EnvironmentParameters}
@@ -85,7 +86,6 @@ module _ (T : List ℕ) (p : EnvironmentParameters) where
       → g ≡ count-left (p .b) (p .«t_2») (table cells (run T g-at 64))
       → h ≡ count-left (p .b) (p .«t_1») (table cells (run T h-at 64))
       → t + g + h ≡ cells-left (parametersOf p) T
-  unfolding cells-left-of
   cells-left-is cells t-at g-at h-at t g h size t-place g-place h-place t-is g-is h-is =
       let P = parametersOf p in
       ap₂ _+_
@@ -99,6 +99,7 @@ module _ (T : List ℕ) (p : EnvironmentParameters) where
       (h-is
       ∙ ap₂ (λ at cells. count-left (P .b) (P .t₁) (table cells (run T at 64))) h-place size
       ∙ ap (count-left (P .b) (P .t₁)) (triangle-cells T (start (transcript-sections P) 7) (P .r) (message P T .h) (λ i j h l. refl)))
+      ∙ sym (counted-cells (bare P) (message P T .t) (message P T .g) (message P T .h))
 
 module _ (P : Parameters) (T : List ℕ) (d : SentDigits) (found : Taken P T d) where
   -- 14 and 15 are what is found of t and g
