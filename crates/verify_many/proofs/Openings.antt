@@ -1,31 +1,22 @@
 -- What two openings of one commitment give away (document 02, Item 13), over two of the eight verdicts that the call's contract ensures.
-use mathlib.Core.Path.{_≡_, refl, sym, ap, _∙_}
-use mathlib.Core.List.{List, [], _∷_}
+use mathlib.Core.Path.{_≡_, sym, ap, _∙_}
+use mathlib.Core.List.{List}
 use Prim.Native.Nat.{ℕ, _<_}
 use native.Mathlib.Decide.{decLt}
 use native.Mathlib.Omega.{arith}
 use lib.ListN.{length, getD, replicate}
 use Rattle.lists.proofs.Padded.{padded-below, padded-past}
-use Rattle.definitions.specs.Answer.{Answer, fine, accepted, refused, failed, number, result}
+use Rattle.definitions.specs.Answer.{accepted, number, result}
 use Rattle.protocol.specs.Many.{part-verdict}
 use Rattle.protocol.proofs.Acceptance.{many-no}
 use Rattle.call_answers.specs.declared.verdicts.LabradorVerdict.{LabradorVerdict}
 use Rattle.call_answers.specs.Calls.{labradorVerdict, failedCheck}
+use Rattle.call_answers.proofs.Number.{same-number}
 use Rattle.binding.specs.Openings.{opening-1, opening-2, Equal-u1, Equal-u2, Given-away-1, Given-away-2}
 use Rattle.binding.proofs.Many.{part, zero-part, binding-1-of-parts, binding-2-of-parts}
 use Rattle.verify_many.specs.declared.answers.LabradorVerdicts.{LabradorVerdicts}
 use Rattle.many_verdicts.specs.Windows.{unused, verdicts-of}
 use Rattle.verify_many.specs.Answers.{manyVerdicts}
-
--- a verdict's number
-same-number : (a : Answer) → labradorVerdict a .number ≡ number a
-same-number fine = refl
-same-number (accepted cells) = refl
-same-number (refused n p) = refl
-same-number (failed n []) = refl
-same-number (failed n (a ∷ [])) = refl
-same-number (failed n (a ∷ b ∷ [])) = refl
-same-number (failed n (k ∷ a ∷ b ∷ vs)) = refl
 
 -- verdict m of an answer
 abbrev pub verdict-at : LabradorVerdicts → ℕ → LabradorVerdict
