@@ -28,7 +28,7 @@ use Rattle.protocol.proofs.Stated.{stated}
 use Rattle.extraction.specs.Fork.{Node, base, first, second, mixed, Used, Same-weights, Fork}
 use Rattle.extraction.specs.Honest.{Honest-fork, flipped, sign-place, flipped-at}
 use Rattle.extraction.proofs.HonestRandomness.{alike-weights, node-alike}
-use Rattle.extraction.proofs.HonestFlipped.{flipped-fine}
+use Rattle.extraction.proofs.HonestStored.{flipped-fine}
 use Rattle.extraction.proofs.HonestFork.{flipped-fork, flipped-fork-honest, flipped-fork-randomness}
 
 -- 7 and 8 of the randomness of each transcript that is used

@@ -52,8 +52,12 @@ fn a_fixed_seed() {
 }
 
 fn hold(route: &str, p: &Parameters) {
-    let chance = rates::weighed_to_zero(ERROR, p.L);
-    rates::hold(route, chance, |words| statement(p, words), |false_one, desk| verdict(false_one, desk).is_accepted());
+    rates::hold(
+        route,
+        rates::a_third(p.L),
+        |words| statement(p, words),
+        |false_one, desk| verdict(false_one, desk).is_accepted(),
+    );
 }
 
 #[test]
