@@ -76,9 +76,9 @@ pub const REVIEW: Command = Command {
     name: "review",
     usage: "labrador review JOB",
     about: "Says what an acceptance is worth and what the job does not force. Of every job it says what chance one accepted transcript \
-            leaves a false statement, how many transcripts give 64 bits, and what the statement does not force, the worst first: checks that can never fail, rows of A that are multiples of each other, norms and \
-            totals that can be wrong, constraints that say nothing, repeat or contradict another. The chances are those of the attacks \
-            that are known. Exit status 0 where it finds only what holds of every job, 1 with more.",
+            leaves a false statement, how many transcripts give 64 bits, and what the statement does not force, the worst first: checks \
+            that can never fail, rows of A that are multiples of each other, norms and totals that can be wrong, constraints that say \
+            nothing, repeat or contradict another. The chances are those of the attacks that are known. Exit status 0 where it finds only what holds of every job, 1 with more.",
     options: &[JSON, HELP],
     example: "labrador review a.job",
 };
@@ -385,8 +385,9 @@ impl Command {
     }
 }
 
-/// What the program is, files are and the exit status says, a sentence each.
+/// What the program is.
 const ABOUT: &str = "LaBRADOR from the command line, over proved calls.";
+/// What its files are.
 const FILES: &str =
     "Files are words of four bytes, the least byte first. - is no file: standard input is not read, and files are not \
                      written to standard output.";
@@ -421,6 +422,7 @@ pub fn general() -> String {
 /// The name under which the program is called, for its man page and completions.
 fn program() -> String {
     let called = std::env::args_os().next().map(std::path::PathBuf::from);
-    let name = called.as_ref().and_then(|path| path.file_name()).map(|name| name.to_string_lossy().into_owned());
-    name.unwrap_or_else(|| "labrador".to_string())
+    let name = called.and_then(|path| path.file_name()?.to_str().map(str::to_string));
+    let plain = |name: &String| name.chars().all(|c| c.is_ascii_alphanumeric() || "-_.".contains(c));
+    name.filter(plain).unwrap_or_else(|| "labrador".to_string())
 }

@@ -105,3 +105,24 @@ pub fn write(outputs: &[Output], force: bool) -> Result<(), End> {
     }
     Ok(())
 }
+
+#[cfg(test)]
+mod tests {
+    use super::*;
+
+    #[test]
+    fn a_signal_that_came_ends_the_writing() {
+        let signals = PutOff::begin();
+        let id = std::process::id().to_string();
+        assert!(std::process::Command::new("kill").args(["-TERM", &id]).status().expect("kill").success());
+        while !signals.came() {
+            std::thread::yield_now();
+        }
+        let path = std::env::temp_dir().join(format!("labrador-ended-{id}"));
+        let ended = written(&Output { path: path.clone(), secret: true, bytes: vec![1] }, &signals);
+        assert_eq!(ended.err().map(|error| error.kind()), Some(ErrorKind::Interrupted));
+        assert!(!path.exists());
+        // it would end the test
+        std::mem::forget(signals);
+    }
+}

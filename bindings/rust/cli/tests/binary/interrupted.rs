@@ -32,20 +32,22 @@ fn send(signal: &str, run: &Child) {
     assert!(Command::new("kill").args([&format!("-{signal}"), &id]).status().expect("kill").success());
 }
 
-/// Waits until a run is stopped.
+/// Waits until a run is stopped, or over.
 fn until_stopped(run: &Child) {
-    let state = || fs::read_to_string(format!("/proc/{}/stat", run.id())).expect("the run is there");
-    while !state().rsplit(") ").next().expect("its state").starts_with('T') {
+    let stat = || fs::read_to_string(format!("/proc/{}/stat", run.id())).expect("the run is there");
+    while !stat().rsplit(") ").next().expect("its state").starts_with(['T', 'Z']) {
         yield_now();
     }
 }
 
-/// A load of the greatest size that is stopped while it writes, before any file is in its place.
-fn stopped_in_writing(desk: &Desk, before: &[String]) -> Child {
+/// A load of the greatest size that is stopped while it writes, before any file is in its place; before it these files stand there.
+fn stopped_in_writing(desk: &Desk, before: &[&str]) -> Child {
     let folder = desk.folder.canonicalize().unwrap();
     let nameless = |path: &Path| path.starts_with(&folder) && path.to_string_lossy().ends_with(" (deleted)");
     let writes = |run: &Child| open_files(run).iter().filter(|path| nameless(path)).count() == 3;
     loop {
+        FILES.iter().for_each(|name| drop(fs::remove_file(desk.path(name))));
+        before.iter().for_each(|name| fs::write(desk.path(name), name).unwrap());
         let mut run = spawned(desk, &format!("{LOAD} n=64 r=16 --seed 3 --force"));
         while !writes(&run) && run.try_wait().expect("the run's end").is_none() {
             yield_now();
@@ -54,13 +56,12 @@ fn stopped_in_writing(desk: &Desk, before: &[String]) -> Child {
         if run.try_wait().expect("the run's end").is_none() {
             send("STOP", &run);
             until_stopped(&run);
-            if writes(&run) && desk.names() == before {
+            if writes(&run) {
                 return run;
             }
             send("CONT", &run);
         }
         run.wait().expect("the run's end");
-        FILES.map(|name| fs::remove_file(desk.path(name)).expect("a file of the run"));
     }
 }
 
@@ -89,7 +90,6 @@ fn a_killed_run_leaves_nothing() {
         // a signal that came with the last words is put off until all three are in their places
         let left = desk.names();
         assert!(left.is_empty() || (signal != "KILL" && left == FILES), "{signal}: {left:?}");
-        left.iter().for_each(|name| fs::remove_file(desk.path(name)).unwrap());
     }
     // a limit kills it at a known place: in the first file
     let desk = Desk::with("killed_by_limit", &with_answer(0));
@@ -105,19 +105,14 @@ fn a_killed_run_leaves_what_stood_there() {
     if !has_nameless(&desk) {
         return;
     }
-    FILES.map(|name| fs::write(desk.path(name), name).unwrap());
-    let mut run = stopped_in_writing(&desk, &FILES.map(str::to_string));
+    let mut run = stopped_in_writing(&desk, &FILES);
     send("KILL", &run);
     run.wait().expect("the run's end");
     assert_eq!(desk.names(), FILES);
     let stands = FILES.map(|name| fs::read_to_string(desk.path(name)));
     assert_eq!(stands.map(|text| text.unwrap_or_default()), FILES.map(str::to_string));
-    // and stands in no later run's way
-    assert_eq!(run_to_end(&desk), Some(0));
-}
-
-fn run_to_end(desk: &Desk) -> Option<i32> {
-    spawned(desk, &format!("{LOAD} --force")).wait().expect("the run's end").code()
+    // and nothing is in a later run's way
+    assert_eq!(self::run(&desk, &format!("{LOAD} --force")).status, 0);
 }
 
 #[test]

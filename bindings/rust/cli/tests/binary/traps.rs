@@ -44,8 +44,7 @@ fn what_is_overwritten_keeps_its_mode() {
         assert_eq!(mode("transcript"), given);
     }
     // the witness alone is a secret, whatever its mode was
-    ["job", "witness", "randomness"].map(|name| set(name, 0o644));
-    set("job", 0o660);
+    [("job", 0o660), ("witness", 0o644), ("randomness", 0o644)].iter().for_each(|(name, mode)| set(name, *mode));
     assert_eq!(run(&desk, &format!("{LOAD} --force")).status, 0);
     assert_eq!(["job", "witness", "randomness"].map(mode), [0o660, 0o600, 0o644]);
 }
