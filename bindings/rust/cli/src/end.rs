@@ -32,8 +32,10 @@ pub struct End {
     pub out: String,
     /// For standard error before the line, a line each.
     pub warnings: Vec<String>,
-    /// Nothing is said where it is empty. Of several mistakes it has several lines.
+    /// Nothing is said where it is empty.
     pub line: String,
+    /// Whether the line has several lines, each with nothing in it that steers.
+    several: bool,
     /// Whether the line is a verdict.
     pub judges: bool,
     /// For machines, beside the status and the line.
@@ -42,7 +44,13 @@ pub struct End {
 
 impl End {
     pub fn new(status: Status, line: impl Into<String>) -> End {
-        End { status, out: String::new(), warnings: Vec::new(), line: line.into(), judges: false, fields: Vec::new() }
+        End { status, out: String::new(), warnings: Vec::new(), line: line.into(), several: false, judges: false, fields: Vec::new() }
+    }
+
+    /// An end of which several lines are said.
+    pub fn of_lines(status: Status, lines: &[String]) -> End {
+        let lines: Vec<String> = lines.iter().map(|line| shown::line(line)).collect();
+        End { several: true, ..End::new(status, lines.join("\n")) }
     }
 
     /// The end of a command that judges: its line is printed behind the rest.
@@ -85,8 +93,11 @@ impl End {
     pub fn say(self, json: bool) -> ExitCode {
         let printed = print(&if json { self.to_json() } else { shown::lines(&self.to_text()) });
         self.warnings.iter().for_each(|warning| complain(&format!("warning: {warning}")));
-        if json || !self.judges {
-            self.line.lines().for_each(complain);
+        if !self.line.is_empty() && (json || !self.judges) {
+            match self.several {
+                true => self.line.lines().for_each(complain),
+                false => complain(&self.line),
+            }
         }
         match printed {
             Ok(()) => ExitCode::from(self.status as u8),

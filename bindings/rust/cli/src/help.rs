@@ -187,8 +187,8 @@ pub const VERIFY_MANY: Command = Command {
 pub const MISTYPED: Command = Command {
     name: "mistyped",
     usage: "labrador mistyped --job FILE --randomness FILE --transcript FILE",
-    about: "After a failed check 22, lists each entry of b0 that would mend it if a number were added to that entry alone: the number of \
-            smallest size, and what the entry would become. The smallest size comes first, of equal sizes lowered constants. A mended \
+    about: "Lists which constants were perhaps mistyped, after a failed check 22. Each is an entry of b0 that would mend it if a number were \
+            added to that entry alone: told are the number of smallest size and what the entry would become. The smallest size comes first, of equal sizes lowered constants. A mended \
             constant is another claim, which is proved anew. Exit status 0 where there is a list, 2 refused: also where check 22 is not the \
             failed one (32), or no constant alone mends it (33).",
     options: &[JOB, RANDOMNESS, TRANSCRIPT, JSON, HELP],

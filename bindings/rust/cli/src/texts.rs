@@ -6,7 +6,7 @@ use std::path::Path;
 
 use labrador::statement::{text_of, Mistake, Mistakes, Statement};
 
-use crate::end::{file_system, unfit, End};
+use crate::end::{file_system, unfit, End, Status};
 use crate::json::Json;
 
 /// A text has at most so many bytes: the longest that a job can be told in is shorter.
@@ -26,7 +26,7 @@ pub fn wrong(path: &Path, mistakes: &Mistakes) -> End {
     let shown = path.display();
     let lines: Vec<String> = mistakes.all().iter().map(|mistake| format!("{shown}: {mistake}")).collect();
     let all = mistakes.all().iter().map(|mistake| Json::Object(fields(mistake))).collect();
-    let end = unfit(lines.join("\n")).with(vec![("file", Json::text(shown))]);
+    let end = End::of_lines(Status::Unfit, &lines).with(vec![("file", Json::text(shown))]);
     end.with(fields(mistakes.first())).with(vec![("mistakes", Json::List(all))])
 }
 

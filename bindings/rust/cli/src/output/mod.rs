@@ -119,8 +119,7 @@ mod tests {
             std::thread::yield_now();
         }
         let path = std::env::temp_dir().join(format!("labrador-ended-{id}"));
-        let bytes = crate::files::bytes_of(&[1]);
-        let ended = written(&Output { path: path.clone(), secret: true, bytes }, &signals);
+        let ended = written(&Output { path: path.clone(), secret: true, bytes: Bytes::Words(&[1]) }, &signals);
         assert_eq!(ended.err().map(|error| error.kind()), Some(ErrorKind::Interrupted));
         assert!(!path.exists());
         // it would end the test

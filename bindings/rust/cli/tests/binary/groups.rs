@@ -68,7 +68,11 @@ fn one_that_is_refused_in_a_later_group_alters_no_other() {
     desk.put("t9", &words);
     let told = by_threads(&desk, &call(1..=11));
     assert_eq!(told.status, 2);
-    assert!(told.line.starts_with("labrador: 9 of 11 transcripts accepted; what they are worth"), "{}", told.line);
+    assert!(
+        told.line.starts_with("labrador: 9 of 11 transcripts accepted; the 9 accepted together: at best "),
+        "{}",
+        told.line
+    );
     let lines: Vec<&str> = told.out.lines().collect();
     assert!(lines[8].starts_with("t9: check 28 failed: ") && lines[9].starts_with("t10: refusal 9: "), "{}", told.out);
     assert_eq!(lines.iter().filter(|line| line.contains(": accepted; ")).count(), 9);

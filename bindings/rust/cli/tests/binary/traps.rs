@@ -131,7 +131,7 @@ fn describe_says_how_many_sections_there_are() {
     assert!(told[0].ends_with("section 64  from word 64                0 words\n"), "{}", told[0]);
     assert!(told[1].ends_with("  there are 1000 sections, of which the first 64 are shown\n"), "{}", told[1]);
     assert!(told[2].contains("section 100 from word 100               7 words (passes the end)\n"), "{}", told[2]);
-    assert_eq!(told.map(|told| told.lines().count()), [66, 67, 68]);
+    assert_eq!(told.map(|told| told.lines().count()), [67, 68, 69]);
 }
 
 /// A name that would clear the screen, set the title and begin a line.

@@ -30,12 +30,11 @@ impl<'a> Missed<'a> {
         Missed { file, sides }
     }
 
-    /// A line each, then how many there are.
-    fn told(&self, checked: &Checked) -> String {
-        let each =
-            self.sides.iter().map(|(side, line)| format!("{}: line {line}: {}\n", self.file.display(), told(side)));
-        let all = if self.sides.is_empty() { String::new() } else { format!("{}; ", met(checked)) };
-        each.collect::<String>() + &all
+    /// A line each, then how many there are, before what is told of the sessions.
+    fn told(&self, checked: &Checked, sessions: String) -> Vec<String> {
+        let each = self.sides.iter().map(|(side, line)| format!("{}: line {line}: {}", self.file.display(), told(side)));
+        let all = if self.sides.is_empty() { sessions } else { format!("{}; {sessions}", met(checked)) };
+        each.chain([all]).collect()
     }
 
     fn json(&self) -> Json {
@@ -81,5 +80,5 @@ pub fn run(command: &Command, args: &Args) -> Outcome {
     let fields = vec![("bounds", Json::Object(bounds)), ("missed", missed.json())];
     let fine = passed == fit.verdicts.len() && missed.sides.is_empty();
     let status = if fine { Status::Fine } else { Status::Failed };
-    Ok(End::new(status, missed.told(&checked) + &told).printing(out).with(fields).with(counts.to_vec()))
+    Ok(End::of_lines(status, &missed.told(&checked, told)).printing(out).with(fields).with(counts.to_vec()))
 }
