@@ -1,10 +1,9 @@
--- The number of a verdict.
+-- A verdict has the number of its answer.
 use mathlib.Core.Path.{_≡_, refl}
 use mathlib.Core.List.{[], _∷_}
 use Rattle.definitions.specs.Answer.{Answer, fine, accepted, refused, failed, number}
 use Rattle.call_answers.specs.Calls.{labradorVerdict}
 
--- it is that of the answer
 pub same-number : (a : Answer) → labradorVerdict a .number ≡ number a
 same-number fine = refl
 same-number (accepted cells) = refl
