@@ -35,7 +35,7 @@ pub struct End {
     /// Nothing is said where it is empty.
     pub line: String,
     /// Whether the line has several lines, each with nothing in it that steers.
-    several: bool,
+    pub several: bool,
     /// Whether the line is a verdict.
     pub judges: bool,
     /// For machines, beside the status and the line.
@@ -44,7 +44,15 @@ pub struct End {
 
 impl End {
     pub fn new(status: Status, line: impl Into<String>) -> End {
-        End { status, out: String::new(), warnings: Vec::new(), line: line.into(), several: false, judges: false, fields: Vec::new() }
+        End {
+            status,
+            out: String::new(),
+            warnings: Vec::new(),
+            line: line.into(),
+            several: false,
+            judges: false,
+            fields: Vec::new(),
+        }
     }
 
     /// An end of which several lines are said.

@@ -304,8 +304,9 @@ pub const BOUNDS: Command = Command {
 pub const RANGES: Command = Command {
     name: "ranges",
     usage: "labrador ranges --job FILE --lows FILE --highs FILE",
-    about: "Of a witness whose coefficients are known only from a lowest to a highest centred number, says of each vector whether its norm \
-            meets A's bound for every choice, for some choices but not every, or for none, with its smallest and its largest norm. Both files \
+    about: "Says of a witness that is known within ranges whether each vector's norm meets A's bound. Each coefficient is known from a \
+            lowest to a highest centred number; the bound is met for every choice, for some choices but not every, or for none, and the smallest \
+            and the largest norm are told. Both files \
             have 64·r·n words of eight bytes with a sign (i64), the least byte first, in the witness's order and without a count. Exit status \
             0 where all meet it for every choice, 1 where one does not, 2 refused.",
     options: &[

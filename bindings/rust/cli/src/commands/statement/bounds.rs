@@ -32,7 +32,8 @@ impl<'a> Missed<'a> {
 
     /// A line each, then how many there are, before what is told of the sessions.
     fn told(&self, checked: &Checked, sessions: String) -> Vec<String> {
-        let each = self.sides.iter().map(|(side, line)| format!("{}: line {line}: {}", self.file.display(), told(side)));
+        let each =
+            self.sides.iter().map(|(side, line)| format!("{}: line {line}: {}", self.file.display(), told(side)));
         let all = if self.sides.is_empty() { sessions } else { format!("{}; {sessions}", met(checked)) };
         each.chain([all]).collect()
     }
