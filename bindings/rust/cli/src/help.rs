@@ -187,8 +187,8 @@ pub const VERIFY_MANY: Command = Command {
 pub const MISTYPED: Command = Command {
     name: "mistyped",
     usage: "labrador mistyped --job FILE --randomness FILE --transcript FILE",
-    about: "After a failed check 22, lists each entry of b0 that would mend it if a number were added to that entry alone: the number of \
-            smallest size, and what the entry would become. The smallest size comes first, of equal sizes lowered constants. A mended \
+    about: "Says after a failed check 22 which entry of b0 may be mistyped. Lists each entry that would mend the check if a number were added \
+            to that entry alone: the number of smallest size, and what the entry would become. The smallest size comes first, of equal sizes lowered constants. A mended \
             constant is another claim, which is proved anew. Exit status 0 where there is a list, 2 refused: also where check 22 is not the \
             failed one (32), or no constant alone mends it (33).",
     options: &[JOB, RANDOMNESS, TRANSCRIPT, JSON, HELP],
@@ -303,8 +303,9 @@ pub const BOUNDS: Command = Command {
 pub const RANGES: Command = Command {
     name: "ranges",
     usage: "labrador ranges --job FILE --lows FILE --highs FILE",
-    about: "Of a witness whose coefficients are known only from a lowest to a highest centred number, says of each vector whether its norm \
-            meets A's bound for every choice, for some choices but not every, or for none, with its smallest and its largest norm. Both files \
+    about: "Says whether a witness that is known within ranges meets A's bound. Its coefficients are known from a lowest to a highest centred \
+            number; of each vector it says whether the norm meets the bound for every choice, for some choices but not every, or for none, \
+            with its smallest and its largest norm. Both files \
             have 64·r·n words of eight bytes with a sign (i64), the least byte first, in the witness's order and without a count. Exit status \
             0 where all meet it for every choice, 1 where one does not, 2 refused.",
     options: &[

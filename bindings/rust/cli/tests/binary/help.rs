@@ -120,7 +120,7 @@ fn bash_completes_commands_options_and_files() {
         (&["ver"][..], &["verify", "verify-many"][..]),
         (&["--v"], &["--version"]),
         (&["help", "expl"], &["explain"]),
-        (&["verify", "--r"], &["--randomness", "--report"]),
+        (&["verify", "--r"], &["--randomness", "--report", "--reference"]),
         (&["verify", "--job", "j"], &["job"]),
         (&["verify", "--job", "=", "j"], &["job"]),
         (&["describe", "a"], &["a file"]),

@@ -128,10 +128,11 @@ fn describe_says_how_many_sections_there_are() {
     desk.put("b", &[0; 1000]);
     desk.put("c", &[[0; 99].as_slice(), &[7]].concat());
     let told = ["a", "b", "c"].map(|name| run(&desk, &format!("describe {name}")).out);
-    assert!(told[0].ends_with("section 64  from word 64                0 words\n"), "{}", told[0]);
-    assert!(told[1].ends_with("  there are 1000 sections, of which the first 64 are shown\n"), "{}", told[1]);
+    assert!(told[0].contains("section 64  from word 64                0 words\n"), "{}", told[0]);
+    assert!(told[1].contains("  there are 1000 sections, of which the first 64 are shown\n"), "{}", told[1]);
     assert!(told[2].contains("section 100 from word 100               7 words (passes the end)\n"), "{}", told[2]);
-    assert_eq!(told.map(|told| told.lines().count()), [66, 67, 68]);
+    // with the file's hash, and the version behind an empty line
+    assert_eq!(told.map(|told| told.lines().count()), [69, 70, 71]);
 }
 
 /// A name that would clear the screen, set the title and begin a line.
@@ -162,7 +163,7 @@ fn names_do_not_steer_the_terminal() {
         assert!(call.contains("--report") || call.contains("--json") || all.contains(ESCAPED), "{call}: {all}");
     }
     let page = fs::read_to_string(desk.path("page.html")).unwrap();
-    assert!(page.contains(&format!("job {ESCAPED}job (")) && !page.contains('\u{1b}'), "{page}");
+    assert!(page.contains(&format!("<dt>job</dt> <dd>{ESCAPED}job, ")) && !page.contains('\u{1b}'), "{page}");
     let json = run_bytes(&desk, "describe --json", &[&job]).out;
     assert!(json.contains("\"file\":\"a\\u001b[2J\\u001b]0;t\\u0007\\u000a\\u009bb\\u202ejob\""), "{json}");
     assert!(run_bytes(&desk, "help", &[STEERING]).line.contains(ESCAPED));
