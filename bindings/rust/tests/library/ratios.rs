@@ -134,7 +134,7 @@ fn constraints_of_both_kinds() {
 fn the_greatest_statement() {
     let all: String = (0..16).map(|k| format!(" + s{k}")).collect();
     let text = head().replace("n 2\n", "n 64\n").replace("r 3\n", "r 16\n");
-    let last = |k: u32| if k % 2 == 0 { String::new() } else { format!(" + {k} * s15[4095]") };
+    let last = |k: u32| if k.is_multiple_of(2) { String::new() } else { format!(" + {k} * s15[4095]") };
     let totals: String = (0..64).map(|k| format!("total 0 ={all}{}\n", last(k))).collect();
     let found = review(&parsed(&format!("{text}{totals}")).job()).unwrap();
     let repeated = found.iter().filter(|finding| matches!(finding, Finding::Repeated { of: 0, multiple: false, .. }));

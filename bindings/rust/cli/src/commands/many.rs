@@ -186,7 +186,7 @@ fn judge(desk: &Desk, pairs: &[&[&Path]], threads: NonZeroUsize) -> Result<Vec<J
 
 pub fn run(command: &Command, args: &Args) -> Outcome {
     let names: Vec<&Path> = args.rest.iter().map(Path::new).collect();
-    if names.is_empty() || names.len() % 2 != 0 {
+    if names.is_empty() || !names.len().is_multiple_of(2) {
         return Err(usage(format!("verify-many takes a randomness before each transcript; {}", command.hint())));
     }
     let (job, threads, filed) = (args.needed(command, "--job")?, threads(args)?, Filed::of(args)?);
