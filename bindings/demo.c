@@ -1,5 +1,10 @@
 /* Writes the job of a statement of four totals and the witness of a stock, proves it eight times, each with randomness of its own, whole and
-   once in rounds, and judges the eight in one call. Then transcripts and the statement are damaged, and each verdict is told in words. */
+   once in rounds, and judges the eight in one call. Then transcripts and the statement are damaged, and each verdict is told in words. C99, but for
+   the clock. */
+#ifndef _POSIX_C_SOURCE
+#define _POSIX_C_SOURCE 199309L
+#endif
+
 #include <inttypes.h>
 #include <stdio.h>
 #include <stdlib.h>
@@ -7,6 +12,7 @@
 #include <time.h>
 
 #include "labrador.h"
+#include "labrador_texts.h"
 
 #define Q LABRADOR_Q
 
@@ -197,45 +203,41 @@ static double milliseconds(void) {
     return 1e3 * (double)t.tv_sec + 1e-6 * (double)t.tv_nsec;
 }
 
-/* hi * 2^64 + lo in decimal. */
+/* hi * 2^64 + lo in decimal: the four words are divided by ten, the greatest first, until nothing is left. */
 static void print_number(uint64_t hi, uint64_t lo) {
+    uint32_t words[4] = {(uint32_t)(hi >> 32), (uint32_t)hi, (uint32_t)(lo >> 32), (uint32_t)lo};
     char digits[40];
     int at = 39;
     digits[at] = 0;
-    unsigned __int128 value = (unsigned __int128)hi << 64 | lo;
     do {
-        digits[--at] = (char)('0' + (int)(value % 10));
-        value /= 10;
-    } while (value != 0);
+        uint64_t left = 0;
+        for (int k = 0; k < 4; k++) {
+            left = left << 32 | words[k];
+            words[k] = (uint32_t)(left / 10);
+            left %= 10;
+        }
+        digits[--at] = (char)('0' + (int)left);
+    } while ((words[0] | words[1] | words[2] | words[3]) != 0);
     printf("%s", digits + at);
 }
 
-static const char *const checks[9] = {"the projection's norm is above its limit",
-                                      "a constant term is not the one that psi, b0, omega and p give",
-                                      "the digits' norms are above their limit",
-                                      "A times z is not the sum of t_i c_i",
-                                      "<z,z> is not the sum of g_ij c_i c_j",
-                                      "twice the sum of <phi_i,z> c_i is not the sum of h_ij c_i c_j",
-                                      "twice the sum of a_ij g_ij plus the sum of h_ii is not twice b",
-                                      "u1 is not the commitment to t and g",
-                                      "u2 is not the commitment to h"};
-
 static void tell(const char *what, const labrador_verdict *v) {
     printf("%-42s", what);
-    if (v->number == 0)
+    if (v->number == LABRADOR_OK)
         printf("accepted, %" PRIu64 " cells with something left", v->cells_left);
-    else if (v->number < 21)
-        printf("refused with %" PRIu32 " at %" PRIu64, v->number, v->place);
+    else if (v->number < LABRADOR_CHECK_PROJECTION_NORM)
+        printf("refused with %" PRIu32 " at %" PRIu64 ": %s", v->number, v->place, labrador_text(v->number));
     else
-        printf("%" PRIu32 ": %s", v->number, checks[v->number - 21]);
-    if (v->number == 21 || v->number == 23) {
+        printf("%" PRIu32 ": %s", v->number, labrador_text(v->number));
+    if (v->number == LABRADOR_CHECK_PROJECTION_NORM || v->number == LABRADOR_CHECK_NORM_SUM) {
         printf(" (");
         print_number(v->first_hi, v->first_lo);
         printf(", limit ");
         print_number(v->second_hi, v->second_lo);
         printf(")");
     }
-    if (v->number == 22) printf(" (row %" PRIu32 ": sent %" PRIu64 ", worked out %" PRIu64 ")", v->index, v->first_lo, v->second_lo);
+    if (v->number == LABRADOR_CHECK_CONSTANT_TERM)
+        printf(" (row %" PRIu32 ": sent %" PRIu64 ", worked out %" PRIu64 ")", v->index, v->first_lo, v->second_lo);
 }
 
 /* Verifies the first transcript, and tells the verdict in words. */
@@ -260,7 +262,7 @@ static void judge_all(const char *what, int expected) {
     }
     printf("%-42s%d of %d transcripts accepted (%.2f ms)\n", what, accepted, TRANSCRIPTS, end - begin);
     if (other >= 0) {
-        char name[48];
+        char name[64];
         snprintf(name, sizeof name, "  the first of the others, transcript %d:", other);
         tell(name, &all.verdicts[other]);
         printf("\n");
@@ -292,7 +294,8 @@ static void prove_all(void) {
         labrador_answer answer = labrador_prove(job, job_length, randomness + k * randomness_length, randomness_length, witness, witness_length,
                                                 scratch, scratch_length, transcripts + k * transcript_length, transcript_length);
         if (answer.number != 0) {
-            printf("transcript %d: the prover refuses with %" PRIu32 " at %" PRIu64 "\n", k, answer.number, answer.place);
+            printf("transcript %d: the prover refuses with %" PRIu32 " at %" PRIu64 ": %s\n", k, answer.number, answer.place,
+                   labrador_text(answer.number));
             exit(EXIT_FAILURE);
         }
     }

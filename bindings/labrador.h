@@ -1,6 +1,45 @@
-/* The calls of liblabrador.a: on numbers modulo Q (LABRADOR_Q below), ring elements modulo X^64 + 1 and challenges, and on whole slices of
-   words (prove, its five rounds, verify).
-   An answer begins with a refusal's number, 0 where nothing is refused, and the refusal's place among the operands' words.
+/* The calls of liblabrador. Each is told where it is declared; labrador_texts.h has the texts of their numbers.
+
+   On numbers modulo Q (LABRADOR_Q below), ring elements modulo X^64 + 1 and challenges:
+     labrador_zq_add             the sum of two numbers
+     labrador_zq_sub             the difference of two numbers
+     labrador_zq_mul             the product of two numbers
+     labrador_zq_neg             a number's negative
+     labrador_zq_centre          a number as a signed one
+     labrador_zq_digits          a number's digits in a base
+     labrador_recompose          a number from its digits
+     labrador_parts_needed       how many digits leave nothing of any number
+     labrador_projection_entry   the projection's entry of a word
+     labrador_rq_add             the sum of two elements
+     labrador_rq_sub             the difference of two elements
+     labrador_rq_mul             the product of two elements
+     labrador_rq_mul_fast        the same product by transforms
+     labrador_rq_scale           an element times a number
+     labrador_rq_conj            an element's conjugate
+     labrador_rq_norm            an element's norm
+     labrador_rq_digits          an element's digits in a base
+     labrador_rq_left            what is left of an element after its digits
+     labrador_challenge          the challenge of its words
+   On whole slices of words:
+     labrador_scratch_need       how much scratch a job needs
+     labrador_output_need        how long its transcript is
+     labrador_load_needs         how long the slices of a test load are
+     labrador_load               a test load: a job, a witness that meets it, randomness
+     labrador_prove              the transcript of a job, a witness and randomness
+     labrador_round_1            its first round: u1
+     labrador_round_2            its second: p
+     labrador_round_3            its third: b''
+     labrador_round_4            its fourth: u2
+     labrador_round_5            its fifth: z, t, g and h
+     labrador_shed_projection    p of a run of witness vectors
+     labrador_shed_rows          rows of t of a run of witness vectors
+     labrador_add_projections    the sum of two p
+     labrador_verify             the verdict on a transcript
+     labrador_verify_many        the verdicts on one to eight transcripts
+     labrador_mistyped           which constant was mistyped, after a failed check 22
+     labrador_ranges             norms of a witness that is known within ranges
+
+   An answer begins with its number (labrador_number below), 0 where nothing is refused, and a refusal's place among the operands' words.
    On a refusal the result is zero. A word at or above Q is refused with 6. */
 #ifndef LABRADOR_H
 #define LABRADOR_H
@@ -8,11 +47,54 @@
 #include <stddef.h>
 #include <stdint.h>
 
-/* The modulus of the archive that is linked: labrador_zq_neg(1) is LABRADOR_Q - 1. `./install --prime` installs the archive of 4294967197, under other
+/* The version of this header, of the library and of the command line that are installed with it. */
+#define LABRADOR_VERSION_MAJOR 0
+#define LABRADOR_VERSION_MINOR 1
+#define LABRADOR_VERSION_PATCH 0
+#define LABRADOR_VERSION "0.1.0"
+
+/* The modulus of the library that is linked: labrador_zq_neg(1) is LABRADOR_Q - 1. `./install --prime` installs the library of 4294967197, under other
    names and with a header that says so. Both export the same calls: a program links one of them. */
 #ifndef LABRADOR_Q
 #define LABRADOR_Q 4294967295u
 #endif
+
+/* The numbers of answers. */
+enum labrador_number {
+    LABRADOR_OK = 0, /* accepted, or made */
+    LABRADOR_REFUSAL_SCRATCH = 1,
+    LABRADOR_REFUSAL_OUTPUT = 2,
+    LABRADOR_REFUSAL_JOB_LAYOUT = 3,
+    LABRADOR_REFUSAL_PARAMETER = 4,
+    LABRADOR_REFUSAL_AGGREGATIONS = 5,
+    LABRADOR_REFUSAL_JOB_WORD = 6,
+    LABRADOR_REFUSAL_RANDOMNESS_LAYOUT = 7,
+    LABRADOR_REFUSAL_RANDOMNESS_WORD = 8,
+    LABRADOR_REFUSAL_TRANSCRIPT_LAYOUT = 9,
+    LABRADOR_REFUSAL_TRANSCRIPT_WORD = 10,
+    LABRADOR_REFUSAL_WITNESS_LAYOUT = 11,
+    LABRADOR_REFUSAL_WITNESS_WORD = 12,
+    LABRADOR_REFUSAL_WITNESS_NORM = 13,
+    LABRADOR_REFUSAL_DIGITS_OF_T = 14,
+    LABRADOR_REFUSAL_DIGITS_OF_G = 15,
+    LABRADOR_REFUSAL_DIGITS_OF_H = 16,
+    LABRADOR_CHECK_PROJECTION_NORM = 21,
+    LABRADOR_CHECK_CONSTANT_TERM = 22,
+    LABRADOR_CHECK_NORM_SUM = 23,
+    LABRADOR_CHECK_AZ = 24,
+    LABRADOR_CHECK_Z_INNER = 25,
+    LABRADOR_CHECK_PHI = 26,
+    LABRADOR_CHECK_RELATION = 27,
+    LABRADOR_CHECK_FIRST_COMMITMENT = 28,
+    LABRADOR_CHECK_SECOND_COMMITMENT = 29,
+    LABRADOR_REFUSAL_BASE_OR_LENGTH = 31,
+    LABRADOR_REFUSAL_NOT_CHECK_22 = 32,
+    LABRADOR_REFUSAL_NOTHING_MENDS = 33,
+    LABRADOR_REFUSAL_OUTSIDE_RUN = 34,
+    LABRADOR_REFUSAL_TRANSCRIPT_COUNT = 35,
+    LABRADOR_REFUSAL_CROSSED = 36,
+    LABRADOR_REFUSAL_BEYOND = 37
+};
 
 #ifdef __cplusplus
 extern "C" {
@@ -106,7 +188,8 @@ labrador_element_answer labrador_rq_sub(labrador_element a, labrador_element b);
 /* a * b */
 labrador_element_answer labrador_rq_mul(labrador_element a, labrador_element b);
 
-/* The same product and the same refusals, by transforms of length 64 modulo three primes. */
+/* The same product and the same refusals, by transforms of length 64 modulo three primes. One product alone takes 3.4 times labrador_rq_mul's time
+   (bench/RESULTS.md), since transforms pay only where they are kept, as the calls on whole slices keep them: for a product of two elements take labrador_rq_mul. */
 labrador_element_answer labrador_rq_mul_fast(labrador_element a, labrador_element b);
 
 /* a * c; c is place 64. */
@@ -243,8 +326,8 @@ labrador_answer labrador_shed_rows(const uint32_t *job, size_t job_length, uint3
 labrador_answer labrador_add_projections(const uint32_t *p, size_t p_length, const uint32_t *other, size_t other_length, uint32_t *output,
                                          size_t output_length);
 
-/* The verdict on a transcript. With Q = 4294967295 one acceptance leaves a false statement a chance of at least 1 in 81 (L 4) or 1 in 86 (larger L); with either Q it is worth nothing where
-   the sender could know or choose the randomness, or hashed it from the one transcript: ask for eight or more, and see docs/SOUNDNESS.md. */
+/* The verdict on a transcript. With Q = 4294967295 one acceptance leaves a false statement a chance of at least 1 in 81 (L 4) or 1 in 86 (larger L); it is worth nothing there where the
+   randomness was hashed from the one transcript, and with either Q where the sender could know or choose it: ask for eight or more, and see docs/SOUNDNESS.md. */
 labrador_verdict labrador_verify(const uint32_t *job, size_t job_length, const uint32_t *randomness, size_t randomness_length,
                                  const uint32_t *transcript, size_t transcript_length, uint32_t *scratch,
                                  size_t scratch_length);

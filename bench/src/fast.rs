@@ -3,7 +3,7 @@
 use crate::kernels::Kernel;
 use harness::random::Random;
 use harness::rust;
-use library::leaf_calls::*;
+use library::ffi::{self, Element};
 use std::hint::black_box;
 
 #[cfg(kept_calls)]
@@ -47,7 +47,7 @@ fn against_products(random: &mut Random, terms: usize, mut ours: impl FnMut(&Ele
 
 pub fn product(random: &mut Random) -> Kernel {
     against_products(random, 1, |a, b| {
-        black_box(unsafe { labrador_rq_mul_fast(*a, *b) });
+        black_box(ffi::rq_mul_fast(*a, *b));
     })
 }
 

@@ -13,7 +13,7 @@ use labrador::ring::rq::Rq;
 use labrador::ring::zq::Zq;
 use labrador::transcript::sponges::shake::{Playback, Tape};
 use labrador::transcript::LabradorTranscript;
-use library::leaf_calls::*;
+use library::ffi::{self, ChallengeWords, Element};
 use library::slices::{slice_call, SliceCall};
 use model::leaves::Q;
 use model::refusals::output_need;
@@ -66,7 +66,7 @@ pub fn product(random: &mut Random) -> Kernel {
     leaf(
         move || {
             for (a, b) in a.iter().zip(&b) {
-                black_box(unsafe { labrador_rq_mul(*black_box(a), *b) });
+                black_box(ffi::rq_mul(*black_box(a), *b));
             }
         },
         move || {
@@ -86,9 +86,9 @@ pub fn multiply_add(random: &mut Random) -> Kernel {
         move || {
             let mut sum = Element { coeffs: [0; 64] };
             for (a, c) in a.iter().zip(&numbers) {
-                let scaled = unsafe { labrador_rq_scale(*black_box(a), *c) };
+                let scaled = ffi::rq_scale(*black_box(a), *c);
                 let coeffs = scaled.coeffs;
-                sum.coeffs = unsafe { labrador_rq_add(sum, Element { coeffs }) }.coeffs;
+                sum.coeffs = ffi::rq_add(sum, Element { coeffs }).coeffs;
             }
             black_box(sum);
         },
@@ -109,7 +109,7 @@ fn digits(random: &mut Random, base: u32, parts: u32) -> Kernel {
     leaf(
         move || {
             for a in &a {
-                let answer = unsafe { labrador_rq_digits(base, parts, *black_box(a), rows.as_mut_ptr(), rows.len()) };
+                let answer = ffi::rq_digits(base, parts, *black_box(a), &mut rows);
                 black_box((answer.number, &rows));
             }
         },
@@ -135,7 +135,7 @@ fn challenge(random: &mut Random) -> Kernel {
     let kernel = leaf(
         move || {
             for words in &words {
-                black_box(unsafe { labrador_challenge(*black_box(words)) });
+                black_box(ffi::challenge(*black_box(words)));
             }
         },
         move || {

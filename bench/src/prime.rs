@@ -4,26 +4,12 @@
 use crate::kernels::{multiply_add, parameters, product, rounds, whole, Kernel};
 use crate::loads;
 use harness::random::Random;
-use library::leaf_calls::{Element, RqAnswer};
-use library::whole_calls::{Proved, Verdict};
+use library::ffi::{self, Answer, Element, ElementAnswer, LoadNeed, Verdict};
 use library::Handed;
 use model::refusals::output_need;
 use model::words::Parameters;
 use model::Call;
 use std::hint::black_box;
-
-#[repr(C)]
-#[derive(Clone, Copy)]
-struct Twelve {
-    words: [u32; 12],
-}
-
-#[repr(C)]
-struct Need {
-    number: u32,
-    place: u64,
-    lengths: [u64; 3],
-}
 
 macro_rules! provers {
     ($($name:ident)*) => {
@@ -34,7 +20,7 @@ macro_rules! provers {
                 witness: *const u32, witness_length: usize,
                 scratch: *mut u32, scratch_length: usize,
                 output: *mut u32, output_length: usize,
-            ) -> Proved;)*
+            ) -> Answer;)*
         }
     };
 }
@@ -43,22 +29,22 @@ provers!(prime_labrador_prove prime_labrador_round_2);
 
 #[rustfmt::skip]
 extern "C" {
-    fn prime_labrador_load_needs(parameters: Twelve) -> Need;
+    fn prime_labrador_load_needs(parameters: ffi::Parameters) -> LoadNeed;
     fn prime_labrador_load(
-        parameters: Twelve, seed: u32,
+        parameters: ffi::Parameters, seed: u32,
         job: *mut u32, job_length: usize,
         witness: *mut u32, witness_length: usize,
         randomness: *mut u32, randomness_length: usize,
-    ) -> Proved;
+    ) -> Answer;
     fn prime_labrador_verify(
         job: *const u32, job_length: usize,
         randomness: *const u32, randomness_length: usize,
         transcript: *const u32, transcript_length: usize,
         scratch: *mut u32, scratch_length: usize,
     ) -> Verdict;
-    fn prime_labrador_rq_mul(a: Element, b: Element) -> RqAnswer;
-    fn prime_labrador_rq_add(a: Element, b: Element) -> RqAnswer;
-    fn prime_labrador_rq_scale(a: Element, c: u32) -> RqAnswer;
+    fn prime_labrador_rq_mul(a: Element, b: Element) -> ElementAnswer;
+    fn prime_labrador_rq_add(a: Element, b: Element) -> ElementAnswer;
+    fn prime_labrador_rq_scale(a: Element, c: u32) -> ElementAnswer;
 }
 
 /// What a row's first column stands against.
@@ -70,11 +56,11 @@ pub enum Against {
 
 /// Job, witness and randomness by the prime's call.
 fn made(p: &Parameters) -> [Vec<u32>; 3] {
-    let words = Twelve { words: loads::twelve(p) };
+    let words = ffi::Parameters { words: loads::twelve(p) };
     // The calls take any words and buffers of any length.
     let need = unsafe { prime_labrador_load_needs(words) };
     assert_eq!((need.number, need.place), (0, 0));
-    let [mut j, mut w, mut r] = need.lengths.map(|length| vec![0; length as usize]);
+    let [mut j, mut w, mut r] = [need.job, need.witness, need.randomness].map(|length| vec![0; length as usize]);
     let (a, b, c) = (j.len(), w.len(), r.len());
     let made = unsafe { prime_labrador_load(words, 1, j.as_mut_ptr(), a, w.as_mut_ptr(), b, r.as_mut_ptr(), c) };
     assert_eq!(made.number, 0);

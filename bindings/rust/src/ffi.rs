@@ -1,7 +1,5 @@
 //! The calls of `bindings/labrador.h` over slices, and all that is `unsafe` in this crate. The structs are the header's,
-//! field by field.
-
-use crate::section_one::PARAMETERS;
+//! field by field. Nothing else of the crate is needed here: tests and the oracle read this file too.
 
 #[repr(C)]
 #[derive(Clone, Copy)]
@@ -19,7 +17,7 @@ pub struct ChallengeWords {
 #[repr(C)]
 #[derive(Clone, Copy)]
 pub struct Parameters {
-    pub words: [u32; PARAMETERS.len()],
+    pub words: [u32; 12],
 }
 
 #[repr(C)]
@@ -138,7 +136,8 @@ pub fn joined(hi: u64, lo: u64) -> u128 {
 macro_rules! by_value {
     ($($name:ident = $call:ident($($a:ident: $t:ty),*) -> $r:ty;)*) => {
         extern "C" { $(fn $call($($a: $t),*) -> $r;)* }
-        $(pub fn $name($($a: $t),*) -> $r {
+        $(#[inline]
+        pub fn $name($($a: $t),*) -> $r {
             // SAFETY: the call answers all words, is handed no pointer, and its types are the header's.
             unsafe { $call($($a),*) }
         })*
@@ -278,6 +277,7 @@ pub fn recompose(base: u32, digits: &[u32]) -> WordAnswer {
     unsafe { labrador_recompose(base, digits.as_ptr(), digits.len()) }
 }
 
+#[inline]
 pub fn rq_digits(base: u32, parts: u32, a: Element, out: &mut [u32]) -> Status {
     // SAFETY: the pointer is a slice's that is lent alone, so it is not null and that many words can be written.
     unsafe { labrador_rq_digits(base, parts, a, out.as_mut_ptr(), out.len()) }
@@ -454,4 +454,132 @@ pub fn add_projections(p: &[u32], other: &[u32], output: &mut [u32]) -> Answer {
 pub fn ranges(job: &[u32], lows: &[i64], highs: &[i64]) -> RangesAnswer {
     // SAFETY: the pointers are those of slices, so none is null and that many numbers of each can be read; nothing is written.
     unsafe { labrador_ranges(job.as_ptr(), job.len(), lows.as_ptr(), lows.len(), highs.as_ptr(), highs.len()) }
+}
+
+#[cfg(target_os = "linux")]
+extern "C" {
+    fn madvise(address: *mut std::ffi::c_void, length: usize, advice: std::ffi::c_int) -> std::ffi::c_int;
+}
+
+/// Asks Linux to lay the room that a vector has reserved in large pages: of 64 MiB the first touch then takes a fraction of the time. A
+/// hint, which alters no word; elsewhere nothing is asked.
+pub fn large_pages(words: &mut Vec<u32>) {
+    #[cfg(target_os = "linux")]
+    {
+        const PAGE: usize = 1 << 21;
+        const MADV_HUGEPAGE: std::ffi::c_int = 14;
+        let begin = words.as_mut_ptr() as usize;
+        let end = (begin + 4 * words.capacity()) / PAGE * PAGE;
+        let begin = begin.next_multiple_of(PAGE);
+        if begin < end {
+            // SAFETY: the pages lie whole within the room of a vector that is lent alone, and the call alters no byte of them.
+            unsafe { madvise(begin as *mut std::ffi::c_void, end - begin, MADV_HUGEPAGE) };
+        }
+    }
+}
+
+/// What the command line asks of Linux and std does not give.
+#[cfg(feature = "system")]
+pub mod system {
+    use std::ffi::{c_char, c_int, CStr, CString};
+    use std::fs::File;
+    use std::io;
+    use std::os::fd::AsRawFd;
+    use std::sync::atomic::{AtomicBool, AtomicI32, Ordering};
+
+    extern "C" {
+        fn linkat(from: c_int, old: *const c_char, to: c_int, new: *const c_char, flags: c_int) -> c_int;
+        fn signal(number: c_int, action: usize) -> usize;
+        fn raise(number: c_int) -> c_int;
+        fn fcntl(file: c_int, command: c_int, ...) -> c_int;
+    }
+
+    /// Names count from the working folder.
+    const AT_FDCWD: c_int = -100;
+    /// A link to what a name leads to.
+    const AT_SYMLINK_FOLLOW: c_int = 0x400;
+
+    /// Gives an open file a name, if nothing has it. The file may have had none (`O_TMPFILE`).
+    pub fn link(file: &File, name: &CStr) -> io::Result<()> {
+        let open = CString::new(format!("/proc/self/fd/{}", file.as_raw_fd())).expect("no zero byte");
+        // SAFETY: both texts end with a zero byte and live until the call is over, which only reads them.
+        match unsafe { linkat(AT_FDCWD, open.as_ptr(), AT_FDCWD, name.as_ptr(), AT_SYMLINK_FOLLOW) } {
+            0 => Ok(()),
+            _ => Err(io::Error::last_os_error()),
+        }
+    }
+
+    /// HUP, INT and TERM.
+    const ENDING: [c_int; 3] = [1, 2, 15];
+    /// The action of a signal that is ignored.
+    const SIG_IGN: usize = 1;
+
+    /// The signal that came while it was put off; 0 is none.
+    static NOTED: AtomicI32 = AtomicI32::new(0);
+
+    extern "C" fn note(number: c_int) {
+        NOTED.store(number, Ordering::Relaxed);
+    }
+
+    fn act(number: c_int, action: usize) -> usize {
+        // SAFETY: the action is `note`, which only stores a word, or one that the call gave for this signal before.
+        unsafe { signal(number, action) }
+    }
+
+    /// While this lives, the signals HUP, INT and TERM are put off. The one that came ends the program when it is dropped.
+    pub struct PutOff {
+        before: [usize; 3],
+    }
+
+    impl PutOff {
+        pub fn begin() -> PutOff {
+            let before = ENDING.map(|number| act(number, note as *const () as usize));
+            let put_off = PutOff { before };
+            // what was ignored stays so
+            put_off.restore(|before| before == SIG_IGN);
+            put_off
+        }
+
+        /// Whether one came.
+        pub fn came(&self) -> bool {
+            NOTED.load(Ordering::Relaxed) != 0
+        }
+
+        fn restore(&self, which: impl Fn(usize) -> bool) {
+            for (number, before) in ENDING.into_iter().zip(self.before).filter(|(_, before)| which(*before)) {
+                act(number, before);
+            }
+        }
+    }
+
+    impl Drop for PutOff {
+        fn drop(&mut self) {
+            self.restore(|_| true);
+            let number = NOTED.swap(0, Ordering::Relaxed);
+            if number != 0 {
+                // SAFETY: the call takes a number alone; its action is again the one of before.
+                unsafe { raise(number) };
+            }
+        }
+    }
+
+    static OUTPUT_IS_CLOSED: AtomicBool = AtomicBool::new(false);
+
+    extern "C" fn look() {
+        const F_GETFD: c_int = 1;
+        // SAFETY: the call takes numbers alone and alters nothing.
+        OUTPUT_IS_CLOSED.store(unsafe { fcntl(1, F_GETFD) } == -1, Ordering::Relaxed);
+    }
+
+    /// Called before `main`: the runtime of Rust then opens /dev/null in place of a standard output that is closed.
+    #[used]
+    #[link_section = ".init_array"]
+    static LOOK: extern "C" fn() = look;
+
+    /// Whether the program was started with its standard output closed.
+    pub fn output_is_closed() -> bool {
+        // so that it is linked
+        std::hint::black_box(LOOK);
+        OUTPUT_IS_CLOSED.load(Ordering::Relaxed)
+    }
 }

@@ -20,12 +20,22 @@
 //! );
 //! # Ok::<(), labrador::Refusal>(())
 //! ```
+//!
+//! # The archive
+//!
+//! What is linked is `liblabrador.a`, the archive of proved calls, for x86-64: the one that the variable `LABRADOR_ARCHIVE` names when cargo
+//! builds (a relative path counts from the crate's folder); else the repository's `target/staticlib/liblabrador.a`, which `./run` makes, if it
+//! is newer than every file of `crates/`; else the one that cargo has the Rattle kit prove and build, which takes minutes and is said. [`Q`] is
+//! the archive's.
 #![deny(unsafe_code)]
 
+mod constraints;
+mod draw;
 mod element;
 #[allow(unsafe_code)]
 mod ffi;
 mod handed;
+mod hashes;
 mod load;
 mod many;
 pub mod meaning;
@@ -49,9 +59,15 @@ mod verdict;
 mod verifier;
 pub mod worth;
 
+#[cfg(feature = "system")]
+pub use ffi::system;
+
+pub use draw::draw;
 pub use element::{ChallengeWords, DigitRows, Element};
+pub use ffi::large_pages;
+pub use hashes::{sha256_of_words, ARCHIVE_SHA256};
 pub use load::{load, load_into, load_needs, Load, LoadNeeds};
-pub use many::{verify_many, verify_many_with, Sent};
+pub use many::{verify_all, verify_each, verify_many, verify_many_with, Sent};
 pub use mistyped::{mistyped, mistyped_into, Mistyped};
 pub use needs::{output_need, scratch_need};
 pub use number::{parts_needed, projection_entry, recompose, Digits, Zq, HALF, Q};
@@ -62,7 +78,7 @@ pub use refusal::Refusal;
 pub use rounds::{round, round_into, Round};
 pub use section_one::Parameters;
 pub use sections::Slice;
-pub use sha256::sha256;
+pub use sha256::{hex, sha256};
 pub use sheds::{
     add_projections, add_projections_into, shed_projection, shed_projection_into, shed_rows, shed_rows_into, Run,
     RunParts, PROJECTION_NEED,

@@ -81,14 +81,20 @@ fn any_size(p: &Parameters) -> [u128; 2] {
 }
 
 /// The sum of check 23, on the average, of 2·kappa + 2 elements of z and one cell of h that have any size, the rest being zero:
-/// where the limits of 23 and of h have room for it.
+/// where its limit has room for it.
 pub(crate) fn room_for_any_z(one: &SectionOne) -> Option<u128> {
     let [element, cell] = any_size(&one.parameters);
     let sum = u128::from(2 * one.parameters.kappa + 2) * element + cell;
-    (one.bound("beta_prime_sq") >= sum && one.bound("bound_D") >= cell).then_some(sum)
+    (one.bound("beta_prime_sq") >= sum).then_some(sum)
 }
 
-/// Whether the check or refusal of this number can never be answered.
+/// Whether bound_D has room, on the average, for one cell of h that has any size, the rest being zero.
+pub(crate) fn room_for_any_h(one: &SectionOne) -> bool {
+    let [_, cell] = any_size(&one.parameters);
+    one.bound("bound_D") >= cell
+}
+
+/// Whether the check or refusal of this number can never fail.
 pub(crate) fn never_fails(one: &SectionOne, number: u32) -> bool {
     limits(one).iter().any(|limit| limit.number == number && limit.limits_nothing())
 }

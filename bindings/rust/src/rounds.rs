@@ -29,6 +29,11 @@ impl Round {
         self as usize + 1
     }
 
+    /// The round of a number from 1 to 5.
+    pub fn numbered(number: u32) -> Option<Round> {
+        Round::ALL.into_iter().find(|round| round.number() as u64 == number.into())
+    }
+
     /// How many sections of the randomness it takes: 0, 1, 3, 5 or 7.
     pub fn randomness_sections(self) -> usize {
         [0, 1, 3, 5, 7][self as usize]
@@ -52,6 +57,26 @@ impl Round {
             end = end.saturating_add(1).saturating_add(count);
         }
         &whole[..end.min(whole.len())]
+    }
+
+    /// The round's refusal of a job, or of a randomness that should end after the round's sections, before any witness is looked at.
+    ///
+    /// ```
+    /// use labrador::{load, Parameters, Round};
+    ///
+    /// let load = load(&Parameters::SMALL, 1)?;
+    /// let two = Round::Two.randomness(&load.randomness);
+    /// assert_eq!(Round::Two.admits(&load.job, two), Ok(()));
+    /// let refusal = Round::Three.admits(&load.job, two).unwrap_err();
+    /// assert_eq!(refusal.to_string(), "refusal 7: the randomness ends after 196609 words, before the count of section psi");
+    /// # Ok::<(), labrador::Refusal>(())
+    /// ```
+    pub fn admits(self, job: &[u32], randomness: &[u32]) -> Result<(), Refusal> {
+        // without a witness the call goes as far as its refusal, 11
+        match round_into(self, job, randomness, &[], &mut [], &mut []) {
+            Err(refusal) if (3..=8).contains(&refusal.number()) => Err(refusal),
+            _ => Ok(()),
+        }
     }
 
     /// The words of output that it needs with this job, or the job's refusal.

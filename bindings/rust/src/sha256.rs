@@ -49,6 +49,24 @@ fn compress(state: &mut [u32; 8], block: &[u8]) {
     }
 }
 
+/// The digest of a message of this many bytes: its blocks of 64, and the rest.
+pub(crate) fn digest(blocks: impl Iterator<Item = [u8; 64]>, rest: &[u8], length: u64) -> [u8; 32] {
+    let mut state = START;
+    blocks.for_each(|block| compress(&mut state, &block));
+    // the rest, a bit 1, zeros, and the length in bits as eight bytes
+    let mut last = [0u8; 128];
+    last[..rest.len()].copy_from_slice(rest);
+    last[rest.len()] = 0x80;
+    let end = if rest.len() < 56 { 64 } else { 128 };
+    last[end - 8..end].copy_from_slice(&(8 * length).to_be_bytes());
+    last[..end].chunks_exact(64).for_each(|block| compress(&mut state, block));
+    let mut digest = [0; 32];
+    for (four, word) in digest.chunks_exact_mut(4).zip(state) {
+        four.copy_from_slice(&word.to_be_bytes());
+    }
+    digest
+}
+
 /// The digest of a message.
 ///
 /// ```
@@ -56,20 +74,12 @@ fn compress(state: &mut [u32; 8], block: &[u8]) {
 /// assert_eq!(digest[..4], [0xba, 0x78, 0x16, 0xbf]);
 /// ```
 pub fn sha256(message: &[u8]) -> [u8; 32] {
-    let mut state = START;
     let blocks = message.chunks_exact(64);
     let rest = blocks.remainder();
-    blocks.for_each(|block| compress(&mut state, block));
-    // the rest, a bit 1, zeros, and the length in bits as eight bytes
-    let mut last = [0u8; 128];
-    last[..rest.len()].copy_from_slice(rest);
-    last[rest.len()] = 0x80;
-    let end = if rest.len() < 56 { 64 } else { 128 };
-    last[end - 8..end].copy_from_slice(&(8 * message.len() as u64).to_be_bytes());
-    last[..end].chunks_exact(64).for_each(|block| compress(&mut state, block));
-    let mut digest = [0; 32];
-    for (four, word) in digest.chunks_exact_mut(4).zip(state) {
-        four.copy_from_slice(&word.to_be_bytes());
-    }
-    digest
+    digest(blocks.map(|block| block.try_into().expect("64 bytes")), rest, message.len() as u64)
+}
+
+/// A digest as 64 hex digits.
+pub fn hex(digest: &[u8; 32]) -> String {
+    digest.iter().map(|byte| format!("{byte:02x}")).collect()
 }

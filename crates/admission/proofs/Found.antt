@@ -13,10 +13,10 @@ use Rattle.layout.specs.Sections.{ofExamined}
 use Rattle.protocol.specs.Parameters.{Parameters}
 use Rattle.relation.specs.declared.env_params.EnvironmentParameters.{EnvironmentParameters}
 use Rattle.relation.specs.Parameters.{parametersOf}
-use Rattle.admission.specs.declared.answers.Checked.{Checked}
+use Rattle.admission.specs.declared.answers.SliceChecked.{SliceChecked}
 use Rattle.admission.specs.declared.answers.Admitted.{Admitted}
 use Rattle.admission.specs.declared.answers.Admitted.the-variants as A
-use Rattle.admission.specs.Admission.{ofChecked, ofAdmitted, At}
+use Rattle.admission.specs.Admission.{ofSliceChecked, ofAdmitted, At}
 
 -- a slice that is examined against a table, whose sections are those listed
 pub examined : (a b : ℕ) (words : List ℕ) (place : ℕ) {ts ss : List Section} {r x : Examined} → ts ≡ ss
@@ -38,5 +38,5 @@ module _ (number lent need : ℕ) {needed : ℕ} (e : need ≡ needed) where
 pub fitted : (P : Parameters) {r : Admitted} {p : EnvironmentParameters} {a : Answer} → ofAdmitted r ≡ a → At r (λ p. parametersOf p ≡ P) → r ≡ A.Fit p → (fine ≡ a) × (parametersOf p ≡ P)
 fitted P e f is = (sym (ap ofAdmitted is) ∙ e, subst (λ x. At x (λ p. parametersOf p ≡ P)) is f)
 
-pub told : {r x : Checked} {a : Answer} → ofChecked r ≡ a → r ≡ x → ofChecked x ≡ a
-told e is = sym (ap ofChecked is) ∙ e
+pub told : {r x : SliceChecked} {a : Answer} → ofSliceChecked r ≡ a → r ≡ x → ofSliceChecked x ≡ a
+told e is = sym (ap ofSliceChecked is) ∙ e

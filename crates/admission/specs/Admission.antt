@@ -13,8 +13,8 @@ use Rattle.relation.specs.Parameters.{parametersOf}
 use Rattle.relation.specs.SectionOne.{Sound}
 use Rattle.admission.specs.declared.calls.Call.{Call}
 use Rattle.admission.specs.declared.calls.Call.the-variants as C
-use Rattle.admission.specs.declared.answers.Checked.{Checked}
-use Rattle.admission.specs.declared.answers.Checked.the-variants as K
+use Rattle.admission.specs.declared.answers.SliceChecked.{SliceChecked}
+use Rattle.admission.specs.declared.answers.SliceChecked.the-variants as K
 use Rattle.admission.specs.declared.answers.Admitted.{Admitted}
 use Rattle.admission.specs.declared.answers.Admitted.the-variants as A
 
@@ -28,9 +28,9 @@ callOf C.Round4 = P.round₄
 callOf C.Round5 = P.round₅
 
 -- what is refused, with its number and place
-abbrev pub ofChecked : Checked → Answer
-ofChecked K.Fine = fine
-ofChecked (K.Refused r) = ofRefusal r
+abbrev pub ofSliceChecked : SliceChecked → Answer
+ofSliceChecked K.Fine = fine
+ofSliceChecked (K.Refused r) = ofRefusal r
 
 abbrev pub ofAdmitted : Admitted → Answer
 ofAdmitted (A.Refused r) = ofRefusal r

@@ -3,7 +3,7 @@ use definitions::answers::Refusal;
 use relation::env_params::EnvironmentParameters;
 
 // What is found of a slice or a buffer.
-pub enum Checked {
+pub enum SliceChecked {
     Fine,
     Refused(Refusal),
 }

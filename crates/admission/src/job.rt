@@ -1,6 +1,6 @@
 // The job: 3, 4, 5 and 6.
 use crate::answers::Admitted;
-use crate::answers::Checked;
+use crate::answers::SliceChecked;
 use definitions::answers::Refusal;
 use layout::slices::Examined;
 use relation::env_params::EnvironmentParameters;
@@ -11,17 +11,17 @@ ghost use Rattle.protocol.specs.Parameters.{parameters};
 ghost use Rattle.protocol.specs.Layout.{layout, ranged, job-sections, job-refusal};
 ghost use Rattle.relation.specs.Parameters.{parametersOf};
 ghost use Rattle.relation.specs.SectionOne.{Sound};
-ghost use Rattle.admission.specs.Admission.{ofChecked, ofAdmitted, At};
+ghost use Rattle.admission.specs.Admission.{ofSliceChecked, ofAdmitted, At};
 
 // "other job sections 3, 6"
-fn sections(job: &[u32], p: EnvironmentParameters) -> Checked
+fn sections(job: &[u32], p: EnvironmentParameters) -> SliceChecked
     requires { ⌜ Sound (now job) × (parametersOf p ≡ parameters (now job)) ⌝ }
-    ensures { λ r. ⌜ ofChecked r ≡ layout 3 (now (job .entry)) 31 (job-sections (parametersOf p)) then ranged 6 (now (job .entry)) 31 (job-sections (parametersOf p)) ⌝ }
+    ensures { λ r. ⌜ ofSliceChecked r ≡ layout 3 (now (job .entry)) 31 (job-sections (parametersOf p)) then ranged 6 (now (job .entry)) 31 (job-sections (parametersOf p)) ⌝ }
 {
     match layout::slices::examine(job, 31, sizes::slices::job_sections(p)) {
-        Examined::Layout(place) => Checked::Refused(Refusal::JobLayout(place)),
-        Examined::Word(place) => Checked::Refused(Refusal::JobWord(place)),
-        Examined::Fit => Checked::Fine,
+        Examined::Layout(place) => SliceChecked::Refused(Refusal::JobLayout(place)),
+        Examined::Word(place) => SliceChecked::Refused(Refusal::JobWord(place)),
+        Examined::Fit => SliceChecked::Fine,
     }
 }
 
@@ -33,8 +33,8 @@ pub fn check(job: &[u32]) -> Admitted
     match section_one::read(job) {
         SectionOne::Refused(refusal) => Admitted::Refused(refusal),
         SectionOne::Read(p) => match sections(job, p) {
-            Checked::Refused(refusal) => Admitted::Refused(refusal),
-            Checked::Fine => Admitted::Fit(p),
+            SliceChecked::Refused(refusal) => Admitted::Refused(refusal),
+            SliceChecked::Fine => Admitted::Fit(p),
         },
     }
 }

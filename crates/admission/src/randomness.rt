@@ -1,5 +1,5 @@
 // The randomness: 7 and 8.
-use crate::answers::Checked;
+use crate::answers::SliceChecked;
 use crate::calls;
 use crate::calls::Call;
 use definitions::answers::Refusal;
@@ -9,17 +9,17 @@ ghost use mathlib.Core.Path.{_≡_};
 ghost use Rattle.protocol.specs.Layout.{randomness-refusal};
 ghost use Rattle.relation.specs.Parameters.{parametersOf};
 ghost use Rattle.sizes.specs.Sizes.{Sized};
-ghost use Rattle.admission.specs.Admission.{callOf, ofChecked};
+ghost use Rattle.admission.specs.Admission.{callOf, ofSliceChecked};
 
 // "7 layout; 8 a word out of range", of the sections that a call is handed.
-pub fn check(words: &[u32], p: EnvironmentParameters, call: Call) -> Checked
+pub fn check(words: &[u32], p: EnvironmentParameters, call: Call) -> SliceChecked
     requires { ⌜ Sized (parametersOf p) ⌝ }
-    ensures { λ r. ⌜ ofChecked r ≡ randomness-refusal (parametersOf p) (callOf call .handed) (now (words .entry)) ⌝ }
+    ensures { λ r. ⌜ ofSliceChecked r ≡ randomness-refusal (parametersOf p) (callOf call .handed) (now (words .entry)) ⌝ }
 {
     let handed = calls::handed(call);
     match layout::slices::examine(words, 0, sizes::slices::randomness_sections(p, handed)) {
-        Examined::Layout(place) => Checked::Refused(Refusal::RandomnessLayout(place)),
-        Examined::Word(place) => Checked::Refused(Refusal::RandomnessWord(place)),
-        Examined::Fit => Checked::Fine,
+        Examined::Layout(place) => SliceChecked::Refused(Refusal::RandomnessLayout(place)),
+        Examined::Word(place) => SliceChecked::Refused(Refusal::RandomnessWord(place)),
+        Examined::Fit => SliceChecked::Fine,
     }
 }

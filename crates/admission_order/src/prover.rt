@@ -1,6 +1,6 @@
 // The order of refusals before the work of the prover's calls, as one answer.
 use admission::answers::Admitted;
-use admission::answers::Checked;
+use admission::answers::SliceChecked;
 use admission::calls::Call;
 use admission::job;
 use admission::randomness;
@@ -26,14 +26,14 @@ pub fn admit(
     match job::check(job) {
         Admitted::Refused(refusal) => Admitted::Refused(refusal),
         Admitted::Fit(p) => match randomness::check(randomness, p, call) {
-            Checked::Refused(refusal) => Admitted::Refused(refusal),
-            Checked::Fine => match witness::check(witness, p) {
-                Checked::Refused(refusal) => Admitted::Refused(refusal),
-                Checked::Fine => match scratch::check(scratch, p) {
-                    Checked::Refused(refusal) => Admitted::Refused(refusal),
-                    Checked::Fine => match output::check(output, p, call) {
-                        Checked::Refused(refusal) => Admitted::Refused(refusal),
-                        Checked::Fine => Admitted::Fit(p),
+            SliceChecked::Refused(refusal) => Admitted::Refused(refusal),
+            SliceChecked::Fine => match witness::check(witness, p) {
+                SliceChecked::Refused(refusal) => Admitted::Refused(refusal),
+                SliceChecked::Fine => match scratch::check(scratch, p) {
+                    SliceChecked::Refused(refusal) => Admitted::Refused(refusal),
+                    SliceChecked::Fine => match output::check(output, p, call) {
+                        SliceChecked::Refused(refusal) => Admitted::Refused(refusal),
+                        SliceChecked::Fine => Admitted::Fit(p),
                     },
                 },
             },

@@ -1,6 +1,6 @@
 // The order of refusals before the verifier's work, as one answer.
 use admission::answers::Admitted;
-use admission::answers::Checked;
+use admission::answers::SliceChecked;
 use admission::calls::Call;
 use admission::job;
 use admission::randomness;
@@ -18,12 +18,12 @@ pub fn admit(job: &[u32], randomness: &[u32], transcript: &[u32], scratch: usize
     match job::check(job) {
         Admitted::Refused(refusal) => Admitted::Refused(refusal),
         Admitted::Fit(p) => match randomness::check(randomness, p, Call::Whole) {
-            Checked::Refused(refusal) => Admitted::Refused(refusal),
-            Checked::Fine => match transcript::check(transcript, p) {
-                Checked::Refused(refusal) => Admitted::Refused(refusal),
-                Checked::Fine => match scratch::check(scratch, p) {
-                    Checked::Refused(refusal) => Admitted::Refused(refusal),
-                    Checked::Fine => Admitted::Fit(p),
+            SliceChecked::Refused(refusal) => Admitted::Refused(refusal),
+            SliceChecked::Fine => match transcript::check(transcript, p) {
+                SliceChecked::Refused(refusal) => Admitted::Refused(refusal),
+                SliceChecked::Fine => match scratch::check(scratch, p) {
+                    SliceChecked::Refused(refusal) => Admitted::Refused(refusal),
+                    SliceChecked::Fine => Admitted::Fit(p),
                 },
             },
         },

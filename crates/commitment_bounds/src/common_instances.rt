@@ -12,7 +12,7 @@ ghost use lib.ListN.{length};
 ghost use Rattle.definitions.specs.Answer.{value128, ofProved};
 ghost use Rattle.protocol.specs.Checks.{first};
 ghost use Rattle.protocol.specs.Formulas.{norm-of};
-ghost use Rattle.commitments.specs.Cells.{digits-at, left-at, vector-norm, Cells};
+ghost use Rattle.commitments.specs.Cells.{digits-at, vector-norm, Cells};
 
 // 13: the first of r vectors of n elements whose norm is above the bound.
 pub fn check_witness(witness: &[u32], at: usize, n: usize, r: usize, bound: U128) -> Proved
@@ -34,21 +34,11 @@ pub fn check_witness(witness: &[u32], at: usize, n: usize, r: usize, bound: U128
     Proved::Made
 }
 
-// Whether the norm of the digits of cells is at most a bound, and how many of the cells have a coefficient with something left.
-pub struct Bounded {
-    pub within: bool,
-    pub cells_left: usize,
-}
-
-// 14 to 16: the digits of cells against a bound. What the digits lose is counted beside their norm (document 02, Item 5).
-pub fn digits_within(from: &[u32], d: Digits, base: u32, bound: U128) -> Bounded
+// 14 to 16: the digits of cells against a bound.
+pub fn digits_within(from: &[u32], d: Digits, base: u32, bound: U128) -> bool
     requires { ⌜ Cells (now from) d × (1 < base) ⌝ }
-    ensures { λ r. ⌜ r .within ≡ leb (norm-of (digits-at (now (from .entry)) d base)) (value128 bound) ⌝ }
-    ensures { λ r. ⌜ r .«cells_left» ≡ left-at (now (from .entry)) d base ⌝ }
+    ensures { λ r. ⌜ r ≡ leb (norm-of (digits-at (now (from .entry)) d base)) (value128 bound) ⌝ }
 {
     let total = norm::digits_norm(from, d.at, d.cells, base, d.parts);
-    Bounded {
-        within: bound::at_most(total.norm, bound),
-        cells_left: total.cells_left,
-    }
+    bound::at_most(total.norm, bound)
 }

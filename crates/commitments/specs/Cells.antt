@@ -13,17 +13,13 @@ use Rattle.definitions.specs.Ring.{element}
 use Rattle.inner_product.specs.Run.{run}
 use Rattle.digit_products.specs.Forms.{shifted}
 use Rattle.protocol.specs.Checks.{require}
-use Rattle.protocol.specs.Formulas.{_⊕_, dot, flat, rows, norm-of, digit-element, digits-of, count-left, times}
+use Rattle.protocol.specs.Formulas.{_⊕_, dot, flat, rows, norm-of, digit-element, digits-of, times}
 use Rattle.rq_matrix.specs.Region.{vector}
 use Rattle.commitments.specs.declared.outer_commitments.Digits.{Digits}
 
 -- the digits of a slice's cells in base b, cell after cell
 abbrev pub digits-at : List ℕ → Digits → ℕ → List Element
 digits-at words d b = digits-of b (d .parts) (table (d .cells) (run words (d .at) 64))
-
--- how many of a slice's cells have a coefficient with something left (document 02, Item 5)
-abbrev pub left-at : List ℕ → Digits → ℕ → ℕ
-left-at words d b = count-left b (d .parts) (table (d .cells) (run words (d .at) 64))
 
 -- the number of the digits
 abbrev pub width : Digits → ℕ

@@ -1,5 +1,5 @@
 -- The answers of the calls (document 01, "Who can cause which refusal" and "The verifier's checks, in order"; document 02), and what each case of the enums stands for.
-use mathlib.Core.Bool.{cond}
+use mathlib.Core.Bool.{Bool, true, false, cond}
 use mathlib.Core.List.{List, [], _∷_}
 use Prim.Native.Nat.{ℕ, _+_, _*_, _^_}
 use lib.Dec.{ltb}
@@ -45,6 +45,10 @@ result fine value none = value
 result (accepted cells) value none = none
 result (refused n p) value none = none
 result (failed n vs) value none = none
+
+-- whether all is well
+abbrev pub is-fine : Answer → Bool
+is-fine a = result a true false
 
 infixl 20 _then_
 -- the first of two answers that is not fine

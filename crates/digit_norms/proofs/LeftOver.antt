@@ -9,8 +9,7 @@ use Rattle.definitions.specs.Digits.{leftover}
 use Rattle.definitions.specs.Rq.{coeff, isZero, leftRow}
 use Rattle.rq.specs.Words.{AtMostQ}
 use Rattle.definitions.specs.Ring.{words, element}
-use Rattle.protocol.specs.Formulas.{nothing-left}
-use Rattle.protocol.specs.Conditions.{one-if-left}
+use Rattle.protocol.specs.Formulas.{nothing-left, one-if-left}
 use Rattle.rq_vector.proofs.Rows.{of-word, coeff-element}
 
 -- what is left of a word

@@ -17,9 +17,9 @@ use Rattle.protocol.specs.Parameters.{Parameters, parameters}
 use Rattle.protocol.specs.Layout.{span, job-refusal, randomness-refusal, witness-refusal, scratch-refusal, output-refusal}
 use Rattle.protocol.specs.Views.{public, witness}
 use Rattle.protocol.specs.Formulas as Formulas
-use Rattle.protocol.specs.Formulas.{_⊗_}
+use Rattle.protocol.specs.Formulas.{_⊗_, one-if-left}
 use Rattle.protocol.specs.Prover.{whole, made-sections, prove-refusal, work-refusal, prove}
-use Rattle.protocol.specs.Conditions.{p-norm, constant-error, psi-error, digit-sum, one-if-left, cells-left, ring-error, alpha-error, conditions}
+use Rattle.protocol.specs.Conditions.{p-norm, constant-error, psi-error, digit-sum, cells-left, ring-error, alpha-error, conditions}
 use Rattle.protocol.proofs.Fine.{then-both-fine, then-fine-each}
 use Rattle.protocol.proofs.Accepted.{admitted, before-work, in-work}
 use Rattle.protocol.proofs.Alike.{upto, p-alike, h-alike}
@@ -28,7 +28,7 @@ use Rattle.protocol.proofs.Stated.{stated}
 use Rattle.extraction.specs.Fork.{Node, base, first, second, mixed, Used, Same-weights, Fork}
 use Rattle.extraction.specs.Honest.{Honest-fork, flipped, sign-place, flipped-at}
 use Rattle.extraction.proofs.HonestRandomness.{alike-weights, node-alike}
-use Rattle.extraction.proofs.HonestFlipped.{flipped-fine}
+use Rattle.extraction.proofs.HonestStored.{flipped-fine}
 use Rattle.extraction.proofs.HonestFork.{flipped-fork, flipped-fork-honest, flipped-fork-randomness}
 
 -- 7 and 8 of the randomness of each transcript that is used

@@ -22,15 +22,15 @@ use Rattle.extraction.specs.Honest.{other-sign, flipped, sign-place, fli
 use Rattle.extraction.proofs.HonestUnits.{flipped-sign-units}
 
 -- a flipped word: the length, the words elsewhere and the word there
-pub length-flipped : (p : ℕ) (R : List ℕ) → length (flipped p R) ≡ length R
+length-flipped : (p : ℕ) (R : List ℕ) → length (flipped p R) ≡ length R
 unfolding flipped
 length-flipped p R = length-set R p (other-sign (getD R p 0))
 
-pub flipped-other : (p : ℕ) (R : List ℕ) (i : ℕ) → i ≢ p → getD (flipped p R) i 0 ≡ getD R i 0
+flipped-other : (p : ℕ) (R : List ℕ) (i : ℕ) → i ≢ p → getD (flipped p R) i 0 ≡ getD R i 0
 unfolding flipped
 flipped-other p R i d = getD-set-other R p i (other-sign (getD R p 0)) 0 d
 
-pub flipped-there : (p : ℕ) (R : List ℕ) → p < length R → getD (flipped p R) p 0 ≡ other-sign (getD R p 0)
+flipped-there : (p : ℕ) (R : List ℕ) → p < length R → getD (flipped p R) p 0 ≡ other-sign (getD R p 0)
 unfolding flipped
 flipped-there p R h = getD-set-same R p (other-sign (getD R p 0)) 0 h
 
@@ -38,7 +38,7 @@ flipped-there p R h = getD-set-same R p (other-sign (getD R p 0)) 0 h
 pub stored-elsewhere : (p v : ℕ) (R : List ℕ) (from n : ℕ) → ((i : ℕ) → from ≤ i → i < from + n → i ≢ p) → part (set R p v) from n ≡ part R from n
 stored-elsewhere p v R from n apart = part-ext 0 (set R p v) R from n (length-set R p v) (λ i h l. getD-set-other R p i v 0 (apart i h l))
 
-pub part-elsewhere : (p : ℕ) (R : List ℕ) (from n : ℕ) → ((i : ℕ) → from ≤ i → i < from + n → i ≢ p) → part (flipped p R) from n ≡ part R from n
+part-elsewhere : (p : ℕ) (R : List ℕ) (from n : ℕ) → ((i : ℕ) → from ≤ i → i < from + n → i ≢ p) → part (flipped p R) from n ≡ part R from n
 unfolding flipped
 part-elsewhere p R from n apart = stored-elsewhere p (other-sign (getD R p 0)) R from n apart
 

@@ -6,6 +6,7 @@ use native.Mathlib.Decide.{decLt}
 use lib.ListN.{length}
 use Rattle.definitions.specs.Answer.{fine, accepted}
 use Rattle.protocol.specs.Parameters.{Parameters, parameters}
+use Rattle.protocol.specs.Layout.{randomness-refusal}
 use Rattle.protocol.specs.Views.{public, witness}
 use Rattle.protocol.specs.Prover.{whole, prove}
 use Rattle.protocol.specs.Conditions.{digit-sum, conditions}
@@ -13,6 +14,7 @@ use Rattle.extraction.specs.Fork.{Node, base, Used, Fork}
 use Rattle.extraction.specs.Tree.{Place, root, beta, alpha, psi, psi-beta, omega, omega-beta, Within, trunk, Tree}
 use Rattle.extraction.specs.Honest.{Made, Honest-fork, Honest-tree, flipped-at, raised, alpha-place, beta-place, psi-place, omega-place, raised-at}
 use Rattle.extraction.proofs.Honest.{made-u1}
+use Rattle.extraction.proofs.HonestStored.{alpha-fine, beta-fine, psi-fine, omega-fine}
 use Rattle.extraction.proofs.HonestExists.{honest-fork-exists, honest-fork-randomness}
 use Rattle.extraction.proofs.HonestWeights.{made-alpha, made-beta, made-psi, made-omega}
 
@@ -40,6 +42,18 @@ is-itself : (P : Parameters) (p : Place) (d : Dec (Within P p)) → Within P p �
 unfolding within-or-root
 is-itself P p (yes h) within = refl
 is-itself P p (no d) within = absurd (d within)
+
+-- 7 and 8 of the randomness of each fork that is used
+pub place-fine : (J R : List ℕ) (row : ℕ) → row < parameters J .L → (p : Place) → Within (parameters J) p → randomness-refusal (parameters J) 7 R ≡ fine
+    → randomness-refusal (parameters J) 7 (raised-at (parameters J) row R p) ≡ fine
+unfolding raised-at
+place-fine J R row h root within e = e
+place-fine J R row h beta within e = beta-fine J R row h e
+place-fine J R row h (alpha k) within e = alpha-fine J R k within e
+place-fine J R row h (psi x) within e = psi-fine J R row x h within e
+place-fine J R row h (psi-beta x) within e = beta-fine J (raised (psi-place (parameters J) row x) R) row h (psi-fine J R row x h within e)
+place-fine J R row h (omega j) within e = omega-fine J R row j h within e
+place-fine J R row h (omega-beta j) within e = beta-fine J (raised (omega-place (parameters J) row j) R) row h (omega-fine J R row j h within e)
 
 -- what honest trees exist of: the prover's transcripts at each fork's randomness are made, are accepted with no cell left, and check 23 has room for z at the flipped challenges
 module _ (J R W scratch output : List ℕ) (row : ℕ) (row-below : row < parameters J .L)

@@ -99,7 +99,7 @@ module _ {J : List ℕ} (branch : Node → Branch J) where
   challenges-at (second i) = changed c i (y i)
   challenges-at (mixed i j) = changed (changed c i (x i)) j (x j)
 
--- a fork at the challenges: "equal u1, … u2"; "x_i − c_i, y_i − c_i, x_i − y_i are units (inverses handed in)"
+-- a fork at the challenges: "equal u1, … u2"; "x_i − c_i, y_i − c_i, x_i − y_i are units (inverses handed in)". Only of the nodes that are used something is asked; any other may repeat the base
 pub record Fork (J : List ℕ) : Type 0 where
   pub branch : Node → Branch J
   pub same-weights : (v : Node) → Used (parameters J .r) v → Same-weights (values (branch base)) (values (branch v))

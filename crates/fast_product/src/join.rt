@@ -1,14 +1,17 @@
 // A number below the product of the three primes, from its remainders, modulo Q.
-use definitions::modulus;
 use ntt_layers::fold;
 use zq::wide::wide;
+use zq::zq::Zq;
 ghost use mathlib.Core.Path.{_≡_};
 ghost use Prim.Native.Nat.{_<_};
 ghost use Rattle.definitions.specs.Zq.{Q};
 ghost use Rattle.fast_product.specs.Join.{joinOf, joinedOf, Remainders};
 
+// Q as a u64.
+pub const MODULUS: u64 = Zq::Q as u64;
+
 // The product of the first two primes modulo Q.
-const PAIR: u64 = 18014038001972609 % modulus::Q_U64;
+const PAIR: u64 = 18014038001972609 % MODULUS;
 
 // Mixed radix: the digits in base 134217089 and 134215681, then the number modulo Q.
 pub fn join(first: u64, second: u64, third: u64) -> u64
@@ -20,7 +23,7 @@ pub fn join(first: u64, second: u64, third: u64) -> u64
         (third + 268431106 - first) * 32067747 + (268431106 - middle) * 133166994,
         2175,
     );
-    (first + 134217089 * middle + PAIR * top) % modulus::Q_U64
+    (first + 134217089 * middle + PAIR * top) % MODULUS
 }
 
 // Entry by entry.

@@ -1,6 +1,6 @@
 // Transforms that are kept: an inner product of up to 64 elements is a sum of products of their values, with one way back.
 use crate::join;
-use definitions::modulus::Q_U64;
+use crate::join::MODULUS;
 use ntt::transforms;
 use ntt_layers::words;
 use zq::wide::wide;
@@ -89,11 +89,14 @@ pub fn add_product(sums: Sums, x: Transformed, y: Transformed) -> Sums
 }
 
 // 4096·Q² modulo the three primes.
-const FIRST_OFFSET: u64 = (Q_U64 % 134217089) * (Q_U64 % 134217089) % 134217089 * 4096 % 134217089;
+const FIRST_OFFSET: u64 = (MODULUS % 134217089) * (MODULUS % 134217089) % 134217089 * 4096
+    % 134217089;
 
-const SECOND_OFFSET: u64 = (Q_U64 % 134215681) * (Q_U64 % 134215681) % 134215681 * 4096 % 134215681;
+const SECOND_OFFSET: u64 = (MODULUS % 134215681) * (MODULUS % 134215681) % 134215681 * 4096
+    % 134215681;
 
-const THIRD_OFFSET: u64 = (Q_U64 % 134215553) * (Q_U64 % 134215553) % 134215553 * 4096 % 134215553;
+const THIRD_OFFSET: u64 = (MODULUS % 134215553) * (MODULUS % 134215553) % 134215553 * 4096
+    % 134215553;
 
 // From sums of products of values to the coefficients of the inner product. The factors are the inverses of 64, and the offsets the remainders of
 // 4096·Q², which makes every sum of 64 products positive.

@@ -17,7 +17,7 @@ use Rattle.definitions.specs.Ring.{RqOps, IsElement, words, element, scale}
 use Rattle.definitions.proofs.Bridge.{words-sum, words-element, element-rmul, element-rscale, rmul-element, rscale-element}
 use Rattle.definitions.proofs.Suited.{suited, sums-fit}
 use Rattle.rq_product.specs.Product.{growth}
-use Rattle.rq_product.specs.Sums.{Room, Added}
+use Rattle.rq_product.specs.Sums.{SumsRoom, Added}
 use Rattle.inner_product.specs.Run.{run}
 
 -- totals of the first m of the elements f 0, f 1, …, each of which adds so much at most
@@ -45,7 +45,7 @@ totals-next growth totals next m f t a = record {
     step x y z e = omega arith
 
 -- there is room while they are few, since Q lacks little of 2^32
-pub totals-room : (totals : List ℕ) (m : ℕ) (f : ℕ → List ℕ) → Totals growth totals m f → m ≤ 2 ^ 18 → Room totals
+pub totals-room : (totals : List ℕ) (m : ℕ) (f : ℕ → List ℕ) → Totals growth totals m f → m ≤ 2 ^ 18 → SumsRoom totals
 totals-room totals m f t few k h = omega (arith, t .bound k h, sums-fit lackQ m suited few)
 
 -- reduced, they are the words of the elements' sum

@@ -38,9 +38,10 @@ term-le code x h =
 -- a flipped word, with what it lacks, is the entry times the word modulo Q
 flipped-mod : (code x : ℕ) → x ≤ 4294967295 → (flipped code x + is-negative code * flipQ) % Q ≡ (entry code * x) % Q
 flipped-mod code x h =
-    ltb-cases (λ t. (cond t (4294967295 - x) (cond (ltb code 2147483648) x 0) + cond t 1 0 * flipQ) % Q ≡ (cond t (zneg 1) (cond (ltb code 2147483648) 1 0) * x) % Q) code 1073741824
+    let b = ltb code 2147483648 in
+    ltb-cases (λ t. (cond t (4294967295 - x) (cond b x 0) + cond t 1 (cond b 0 0) * flipQ) % Q ≡ (cond t (zneg 1) (cond b 1 0) * x) % Q) code 1073741824
     (λ l. turned)
-    (λ l. ltb-cases (λ t. (cond t x 0 + 0 * flipQ) % Q ≡ (cond t 1 0 * x) % Q) code 2147483648 (λ m. ap (λ y. y % Q) (plain x)) (λ m. ap (λ y. y % Q) (sym (zero-mul x))))
+    (λ l. ltb-cases (λ t. (cond t x 0 + cond t 0 0 * flipQ) % Q ≡ (cond t 1 0 * x) % Q) code 2147483648 (λ m. ap (λ y. y % Q) (plain x)) (λ m. ap (λ y. y % Q) (sym (zero-mul x))))
   where
     whole : 4294967295 - x + 1 * flipQ + x * Q ≡ topQ * x + (4294967295 + flipQ) / Q * Q
     whole = omega arith

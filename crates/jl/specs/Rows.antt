@@ -1,24 +1,23 @@
 -- Rows of the projection over the words of slices.
-use mathlib.Core.Bool.{cond}
 use mathlib.Core.List.{List}
 use Prim.Native.Nat.{ℕ, _+_, _-_, _*_, _%_}
-use lib.Dec.{ltb}
 use lib.ListN.{getD}
 use Rattle.lists.specs.Sum.{Σ}
 use Rattle.definitions.specs.Zq.{Q, lackQ}
 use Rattle.definitions.specs.Projection.{entry}
 use Rattle.zq.specs.Words.{lack}
+use Rattle.transcript.specs.Entries.{by-entry}
 
 -- the product of a projection word's entry and a word, without a product: −x, x or 0 modulo Q
 abbrev pub term : ℕ → ℕ → ℕ
-term code x = cond (ltb code 1073741824) (lack x) (cond (ltb code 2147483648) x 0)
+term code x = by-entry code (lack x) x 0
 
 -- the same with the bits of x changed for −x, which lacks some of it, and whether it does
 abbrev pub flipped : ℕ → ℕ → ℕ
-flipped code x = cond (ltb code 1073741824) (4294967295 - x) (cond (ltb code 2147483648) x 0)
+flipped code x = by-entry code (4294967295 - x) x 0
 
 abbrev pub is-negative : ℕ → ℕ
-is-negative code = cond (ltb code 1073741824) 1 0
+is-negative code = by-entry code 1 0 0
 
 -- what 2^32 − 1, a word and its bits changed, lacks of a multiple of Q
 abbrev pub flipQ : ℕ

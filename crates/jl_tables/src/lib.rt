@@ -31,7 +31,7 @@ fn biased_add(sum: u32, term: u32) -> u32
     }
 }
 
-// The upper two bits of a projection word: 0 where its entry is −1, 1 where it is 1, and 2 or 3 where it is 0.
+// The upper two bits of a projection word, which fix its entry: they are a place, and what stands there is made by the entry of a word that has them (`jl_pairs`).
 fn entry_number(code: u32) -> u32
     ensures { λ r. ⌜ (r ≡ code / 1073741824) × (r < 4) ⌝ }
 {

@@ -12,7 +12,7 @@ use Rattle.lists.proofs.Splice.{length-splice, splice-nil, splice-append, getD-
 use Rattle.lists.proofs.Fill.{getD-splice-table}
 use Rattle.fast_product.proofs.Residue.{Words}
 use Rattle.kept_vectors.specs.Keeps.{values, AllValues}
-use Rattle.kept_sums.specs.Sums.{Room, added}
+use Rattle.kept_sums.specs.Sums.{KeptRoom, added}
 use Rattle.kept_sums.proofs.Laws.{values-small, all-small, room-for}
 use Rattle.kept_mix.proofs.Terms.{value-in}
 use Rattle.kept_forms.specs.Forms.{form-added, forms-added, FormSmall, FormsSmall}
@@ -30,7 +30,7 @@ module _ (e a buffer : List ℕ) (same : a ≡ e) (stored : buffer ≡ splice (r
       ∙ ap (splice forms form) (table-ext 192 (λ k. getD forms (form + k) 0 + getD buffer (0 + k) 0 * getD s (0 + k) 0) (λ k. getD forms (form + k) 0 + getD (values e) k 0 * getD s k 0)
       (λ k l. ap₂ (λ v j. getD forms (form + k) 0 + v * getD s j 0) (value-in e a buffer same stored k l) (zero-add k)))
 
-  pub form-room : (forms : List ℕ) (form : ℕ) (s : List ℕ) → Words e → AllValues s 0 1 → FormSmall forms form → Room forms form buffer 0 s 0
+  pub form-room : (forms : List ℕ) (form : ℕ) (s : List ℕ) → Words e → AllValues s 0 1 → FormSmall forms form → KeptRoom forms form buffer 0 s 0
   form-room forms form s w v small =
       room-for forms form buffer 0 s 0 (small .1) (λ k l. subst (λ x. x ≤ 134285152) (sym (value-in e a buffer same stored k l)) (values-small e w k l)) (s-small s v)
 

@@ -16,7 +16,7 @@ use Rattle.inner_product.specs.Run.{Run}
 use Rattle.kept_vectors.specs.Keeps.{values, Keeps, AllValues}
 use Rattle.kept_vectors.proofs.Stored.{length-values}
 use Rattle.kept_vectors.proofs.Laws.{keeps-values}
-use Rattle.kept_sums.specs.Sums.{Room, added}
+use Rattle.kept_sums.specs.Sums.{KeptRoom, added}
 use Rattle.kept_sums.proofs.Laws.{values-small, part-words, all-small, room-for, added-at}
 use Rattle.kept_mix.specs.Terms.{term-added, terms-added, SumsSmall}
 
@@ -33,7 +33,7 @@ module _ (e a buffer : List ℕ) (same : a ≡ e) (stored : buffer ≡ splice (r
       (λ k l. ap (λ j. getD next j 0) (sym (zero-add k)) ∙ added-at sums next 0 weights p buffer 0 made (omega arith) k l ∙ ap₂ (λ j v. getD sums j 0 + getD weights (p + k) 0 * v) (zero-add k) (value-in k l))
 
   -- has room
-  pub term-room : (sums weights : List ℕ) (p : ℕ) → Words e → AllValues weights p 1 → SumsSmall sums 1 → Room sums 0 weights p buffer 0
+  pub term-room : (sums weights : List ℕ) (p : ℕ) → Words e → AllValues weights p 1 → SumsSmall sums 1 → KeptRoom sums 0 weights p buffer 0
   term-room sums weights p w v s =
       room-for sums 0 weights p buffer 0 (λ k l. subst (λ j. getD sums j 0 ≤ 63 * 18032502047663104) (sym (zero-add k)) (s .small k l))
       (λ k l. subst (λ j. getD weights (j + k) 0 ≤ 134285152) (add-zero p) (all-small weights p 1 v 0 k (omega arith) l)) (λ k l. subst (λ x. x ≤ 134285152) (sym (value-in k l)) (values-small e w k l))

@@ -18,7 +18,7 @@ use Rattle.kept_vectors.specs.Keeps.{values, Keeps, AllValues}
 use Rattle.kept_vectors.proofs.Stored.{values-part}
 use Rattle.kept_vectors.proofs.Sums.{back-words}
 use Rattle.kept_vectors.proofs.Laws.{back-element}
-use Rattle.kept_sums.specs.Sums.{Room, added, back-from, HoldsSums}
+use Rattle.kept_sums.specs.Sums.{KeptRoom, added, back-from, HoldsSums}
 
 -- value k modulo prime i
 value-at : (a : List ℕ) (i k : ℕ) → i < 3 → k < 64 → getD (values a) (64 * i + k) 0 ≡ getD (valuesOf i a) k 0
@@ -53,7 +53,7 @@ all-small slice at n v m k l b =
 
 -- after fewer than 64 terms there is room for one more
 pub room-for : (sums : List ℕ) (at : ℕ) (x : List ℕ) (x-at : ℕ) (y : List ℕ) (y-at : ℕ) → ((k : ℕ) → k < 192 → getD sums (at + k) 0 ≤ 63 * 18032502047663104)
-    → ((k : ℕ) → k < 192 → getD x (x-at + k) 0 ≤ 134285152) → ((k : ℕ) → k < 192 → getD y (y-at + k) 0 ≤ 134285152) → Room sums at x x-at y y-at
+    → ((k : ℕ) → k < 192 → getD x (x-at + k) 0 ≤ 134285152) → ((k : ℕ) → k < 192 → getD y (y-at + k) 0 ≤ 134285152) → KeptRoom sums at x x-at y y-at
 room-for sums at x x-at y y-at s hx hy k l = omega (arith, s k l, product-small (getD x (x-at + k) 0) (getD y (y-at + k) 0) (hx k l) (hy k l))
 
 -- the way back gives an element's words

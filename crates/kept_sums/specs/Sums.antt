@@ -10,8 +10,8 @@ use Rattle.fast_product.specs.Kept.{backOf}
 use Rattle.kept_vectors.specs.Keeps.{values}
 
 -- there is room for the products of 192 values
-abbrev pub Room : List ℕ → ℕ → List ℕ → ℕ → List ℕ → ℕ → Type 0
-Room sums at x x-at y y-at = (k : ℕ) → k < 192 → getD sums (at + k) 0 + getD x (x-at + k) 0 * getD y (y-at + k) 0 < 2 ^ 64
+abbrev pub KeptRoom : List ℕ → ℕ → List ℕ → ℕ → List ℕ → ℕ → Type 0
+KeptRoom sums at x x-at y y-at = (k : ℕ) → k < 192 → getD sums (at + k) 0 + getD x (x-at + k) 0 * getD y (y-at + k) 0 < 2 ^ 64
 
 -- those products added
 unfoldable pub added : List ℕ → ℕ → List ℕ → ℕ → List ℕ → ℕ → List ℕ

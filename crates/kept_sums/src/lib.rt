@@ -8,11 +8,11 @@ ghost use Prim.Native.Nat.{_+_, _≤_};
 ghost use lib.ListN.{length};
 ghost use Rattle.lists.specs.Part.{part, splice};
 ghost use Rattle.ntt.specs.Roots.{twiddleTable};
-ghost use Rattle.kept_sums.specs.Sums.{Room, added, back-from};
+ghost use Rattle.kept_sums.specs.Sums.{KeptRoom, added, back-from};
 
 // The products of 192 values added.
 pub fn add_product(sums: &mut [u64], at: usize, x: &[u32], x_at: usize, y: &[u32], y_at: usize)
-    requires { ⌜ (at + 192 ≤ length (now sums)) × («x_at» + 192 ≤ length (now x)) × («y_at» + 192 ≤ length (now y)) × Room (now sums) at (now x) «x_at» (now y) «y_at» ⌝ }
+    requires { ⌜ (at + 192 ≤ length (now sums)) × («x_at» + 192 ≤ length (now x)) × («y_at» + 192 ≤ length (now y)) × KeptRoom (now sums) at (now x) «x_at» (now y) «y_at» ⌝ }
     ensures { λ _. ⌜ now (sums .exit) ≡ splice (now (sums .entry)) at (added (now (sums .entry)) at (now (x .entry)) «x_at» (now (y .entry)) «y_at») ⌝ }
 {
     for k in 0..192 {

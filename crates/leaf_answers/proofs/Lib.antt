@@ -1,3 +1,4 @@
 pub mod Result
 mod Owned
 pub mod Rows
+pub mod Determined

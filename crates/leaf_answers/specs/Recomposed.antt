@@ -10,6 +10,8 @@ use Rattle.leaf_answers.specs.Answers.{wordAnswer}
 abbrev pub recomposeAnswer : ℕ → List ℕ → WordAnswer
 recomposeAnswer base ds = wordAnswer (recomposeOperands base ds) (recompose base ds)
 
--- "A second call gives, for a base, the smallest number of parts that leaves nothing of any value": r has that number
-abbrev pub PartsAnswer : ℕ → WordAnswer → Type 0
-PartsAnswer base r = (parts : ℕ) × ((2 ≤ base → PartsNeeded base parts) × (r ≡ wordAnswer (baseFound base) parts))
+-- "A second call gives, for a base, the smallest number of parts that leaves nothing of any value": r has that number, where the base is not refused
+pub record PartsAnswer (base : ℕ) (r : WordAnswer) : Type 0 where
+  pub parts : ℕ
+  pub needed : 2 ≤ base → PartsNeeded base parts
+  pub answer : r ≡ wordAnswer (baseFound base) parts

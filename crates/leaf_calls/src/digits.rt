@@ -39,8 +39,7 @@ pub fn rq_left(base: u32, parts: u32, a: Rq) -> ElementAnswer
 {
     let s = answers::status_of(rq_digit_operands(base, parts, a));
     if s.number == 0 {
-        let left = digits::left_over(a, base, parts as usize);
-        let coeffs = left.coeffs;
+        let coeffs = digits::left_over(a, base, parts as usize);
         ElementAnswer {
             number: s.number,
             place: s.place,

@@ -16,7 +16,7 @@ pub fn recompose(base: u32, digits: &[u32]) -> WordAnswer
         WordAnswer {
             number: s.number,
             place: s.place,
-            value: sum::recompose(base, digits),
+            value: sum::recompose(base, digits).0,
         }
     } else {
         WordAnswer {

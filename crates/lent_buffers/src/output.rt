@@ -1,5 +1,5 @@
 // The lent output: 2.
-use admission::answers::Checked;
+use admission::answers::SliceChecked;
 use admission::calls;
 use admission::calls::Call;
 use definitions::answers::Refusal;
@@ -9,18 +9,18 @@ ghost use Rattle.protocol.specs.Layout.{output-refusal};
 ghost use Rattle.protocol.specs.Prover.{made-sections};
 ghost use Rattle.relation.specs.Parameters.{parametersOf};
 ghost use Rattle.sizes.specs.Sizes.{Sized};
-ghost use Rattle.admission.specs.Admission.{callOf, ofChecked};
+ghost use Rattle.admission.specs.Admission.{callOf, ofSliceChecked};
 
 // "Place is the length needed."
-pub fn check(lent: usize, p: EnvironmentParameters, call: Call) -> Checked
+pub fn check(lent: usize, p: EnvironmentParameters, call: Call) -> SliceChecked
     requires { ⌜ Sized (parametersOf p) ⌝ }
-    ensures { λ r. ⌜ ofChecked r ≡ output-refusal (made-sections (callOf call) (parametersOf p)) lent ⌝ }
+    ensures { λ r. ⌜ ofSliceChecked r ≡ output-refusal (made-sections (callOf call) (parametersOf p)) lent ⌝ }
 {
     let made = calls::makes(call);
     let need = sizes::buffers::output_length(p, made.from, made.makes);
     if lent < need {
-        Checked::Refused(Refusal::OutputTooShort(need))
+        SliceChecked::Refused(Refusal::OutputTooShort(need))
     } else {
-        Checked::Fine
+        SliceChecked::Fine
     }
 }

@@ -1,22 +1,22 @@
 // The lent scratch: 1.
-use admission::answers::Checked;
+use admission::answers::SliceChecked;
 use definitions::answers::Refusal;
 use relation::env_params::EnvironmentParameters;
 ghost use mathlib.Core.Path.{_≡_};
 ghost use Rattle.protocol.specs.Layout.{scratch-refusal};
 ghost use Rattle.relation.specs.Parameters.{parametersOf};
 ghost use Rattle.sizes.specs.Sizes.{Sized};
-ghost use Rattle.admission.specs.Admission.{ofChecked};
+ghost use Rattle.admission.specs.Admission.{ofSliceChecked};
 
 // "Place is the length needed."
-pub fn check(lent: usize, p: EnvironmentParameters) -> Checked
+pub fn check(lent: usize, p: EnvironmentParameters) -> SliceChecked
     requires { ⌜ Sized (parametersOf p) ⌝ }
-    ensures { λ r. ⌜ ofChecked r ≡ scratch-refusal (parametersOf p) lent ⌝ }
+    ensures { λ r. ⌜ ofSliceChecked r ≡ scratch-refusal (parametersOf p) lent ⌝ }
 {
     let need = sizes::buffers::scratch_length(p);
     if lent < need {
-        Checked::Refused(Refusal::ScratchTooShort(need))
+        SliceChecked::Refused(Refusal::ScratchTooShort(need))
     } else {
-        Checked::Fine
+        SliceChecked::Fine
     }
 }

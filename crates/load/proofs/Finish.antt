@@ -129,7 +129,7 @@ module _ (G : Given) (seed : ℕ) (fits : seed < 2 ^ 32) (job wit : List ℕ) (r
 
   -- both put into the drawn sections
   replaced : splice (splice (blank-job G seed) (31 + start (job-sections (load-parameters G)) 2) (b₀-words G seed)) (31 + start (job-sections (load-parameters G)) 5) (b-words G seed) ≡ load-job G seed
-  unfolding start blank-job load-job
+  unfolding start blank-job load-job drawn
   replaced =
       ap (λ l. splice l (31 + start (job-sections (load-parameters G)) 5) (b-words G seed)) (section-replaced bare 3 (b₀-words G seed) (omega arith) (length-b₀ G seed fits))
       ∙ section-replaced (whole-filled G (set (job-drawn G seed) 2 (b₀-words G seed)) (job-half-filled G seed fits)) 6 (b-words G seed) (omega arith) (length-b G seed fits)

@@ -40,7 +40,7 @@ module _ (G : Given) (seed : ℕ) (fits : seed < 2 ^ 32) where
 
   -- the lengths of a load's words
   pub job-length : length (load-job G seed) ≡ job-need G
-  unfolding load-job
+  unfolding load-job drawn
   job-length = length-sections (whole-filled G (job-made G seed fits) (job-made-filled G seed fits))
 
   pub witness-length : length (load-witness G seed) ≡ witness-need G

@@ -1,6 +1,6 @@
 // The words of a test load, drawn one after the other (document 02, Item 1).
-use definitions::modulus;
 use layout::sections::Sections;
+use zq::zq::Zq;
 ghost use mathlib.Core.Path.{_≡_};
 ghost use mathlib.Core.List.{_∷_};
 ghost use Prim.Native.Nat.{_+_, _≤_, _<_, _^_};
@@ -47,7 +47,7 @@ fn advance(rule: Rule, state: u32) -> u32
 fn word(state: u32) -> u32
     ensures { λ r. ⌜ r ≡ S.word state ⌝ }
 {
-    if state < modulus::Q { state } else { 0 }
+    if state < Zq::Q { state } else { 0 }
 }
 
 // "sign words take the state's top bit"
@@ -57,14 +57,17 @@ fn sign(state: u32) -> u32
     state / 2147483648
 }
 
+// Q as a u64.
+const MODULUS: u64 = Zq::Q as u64;
+
 // −1 modulo Q.
-const MINUS_ONE: u64 = modulus::Q_U64 - 1;
+const MINUS_ONE: u64 = MODULUS - 1;
 
 // "Witness words are the draw modulo 3, less 1."
 fn ternary(state: u32) -> u32
     ensures { λ r. ⌜ r ≡ S.ternary state ⌝ }
 {
-    (((state % 3) as u64 + MINUS_ONE) % modulus::Q_U64) as u32
+    (((state % 3) as u64 + MINUS_ONE) % MODULUS) as u32
 }
 
 // The word that a state gives.

@@ -71,12 +71,12 @@ kept-ready G p (A.Refused x) ready h = tt
 kept-ready G p (A.Fit q) ready h = subst (Ready G) (sym h) ready
 
 -- buffers of a load that is refused nothing are long enough
-pub record Room (G : Given) (job witness randomness : ℕ) : Type 0 where
+pub record LongEnough (G : Given) (job witness randomness : ℕ) : Type 0 where
   pub job-fits : job-need G ≤ job
   pub witness-fits : witness-need G ≤ witness
   pub randomness-fits : randomness-need G ≤ randomness
 
-pub room : (G : Given) (job witness randomness : ℕ) → load-refusal G job witness randomness ≡ fine → Room G job witness randomness
+pub room : (G : Given) (job witness randomness : ℕ) → load-refusal G job witness randomness ≡ fine → LongEnough G job witness randomness
 unfolding load-refusal
 room G job witness randomness e =
     let P = load-parameters G in

@@ -1,5 +1,4 @@
 // Products of a constraint's elements with a weight, added up where b0 and b stand in a job.
-use definitions::modulus;
 use rq::rq::Rq;
 use zq::zq::Zq;
 ghost use mathlib.Core.Path.{_≡_};
@@ -14,6 +13,9 @@ ghost use Rattle.definitions.specs.Ring.{element};
 ghost use Rattle.protocol.specs.Views.{element-at};
 ghost use Rattle.protocol.specs.Formulas.{_⊕_, _⊗_, flat};
 ghost use Rattle.load_sums.specs.Sums.{Placed, dot-at, plus, term};
+
+// Q as a u64.
+const MODULUS: u64 = Zq::Q as u64;
 
 // Where the sums stand: l numbers from `b0_at` on, k elements from `b_at` on.
 pub struct Target {
@@ -37,7 +39,7 @@ fn dot(coeffs: [u32; 64], words: &[u32], at: usize) -> u32
     let mut sum: u64 = 0;
     let mut k = 0;
     while k < 64 {
-        sum = (sum + wide(coeffs[k]) * wide(words[at + k])) % modulus::Q_U64;
+        sum = (sum + wide(coeffs[k]) * wide(words[at + k])) % MODULUS;
         k += 1;
     }
     sum as u32

@@ -7,12 +7,12 @@ use Rattle.protocol.specs.Parameters.{Parameters}
 use Rattle.protocol.specs.Layout.{transcript-sections}
 use Rattle.protocol.specs.Many.{transcript-part}
 use Rattle.layout.specs.Laid.{Laid}
-use Rattle.admission.specs.declared.answers.Checked.{Checked}
+use Rattle.admission.specs.declared.answers.SliceChecked.{SliceChecked}
 use Rattle.admission.proofs.Ready.{transcript-laid}
 use Rattle.many_admission.specs.Admitted.{TranscriptsFound, found-of, passing}
 use Rattle.many_admission.proofs.Found.{passing-fine}
 
 -- a transcript that passes has its sections
-pub part-laid : (P : Parameters) (count : ℕ) (T : List ℕ) (found : List Checked) → TranscriptsFound P count T found
+pub part-laid : (P : Parameters) (count : ℕ) (T : List ℕ) (found : List SliceChecked) → TranscriptsFound P count T found
     → (m : ℕ) → m < count → passing (found-of found m) ≡ true → Laid (transcript-part P count T m) 0 (transcript-sections P)
 part-laid P count T found all m h pass = transcript-laid P (transcript-part P count T m) (sym (all m h) ∙ passing-fine (found-of found m) pass)

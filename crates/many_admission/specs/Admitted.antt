@@ -10,9 +10,9 @@ use Rattle.protocol.specs.Layout.{job-refusal, transcript-refusal}
 use Rattle.protocol.specs.Many.{many-need, transcript-part}
 use Rattle.relation.specs.declared.env_params.EnvironmentParameters.{EnvironmentParameters}
 use Rattle.relation.specs.Parameters.{parametersOf}
-use Rattle.admission.specs.declared.answers.Checked.{Checked}
-use Rattle.admission.specs.declared.answers.Checked.the-variants as C
-use Rattle.admission.specs.Admission.{ofChecked}
+use Rattle.admission.specs.declared.answers.SliceChecked.{SliceChecked}
+use Rattle.admission.specs.declared.answers.SliceChecked.the-variants as C
+use Rattle.admission.specs.Admission.{ofSliceChecked}
 use Rattle.many_admission.specs.declared.whole.ManyAdmitted.{ManyAdmitted}
 use Rattle.many_admission.specs.declared.whole.ManyAdmitted.the-variants as A
 
@@ -23,7 +23,7 @@ ofManyAdmitted (A.Refused r) = ofRefusal r
 ofManyAdmitted (A.Fit p) = fine
 
 -- a call that is not refused as a whole: its parameters are the job's, and the scratch is long enough
-pub record Given (J : List ℕ) (count scratch : ℕ) (p : EnvironmentParameters) : Type 0 where
+pub record Many-given (J : List ℕ) (count scratch : ℕ) (p : EnvironmentParameters) : Type 0 where
   pub fit : job-refusal J ≡ fine
   pub same : parametersOf p ≡ parameters J
   pub few : count ≤ 8
@@ -36,14 +36,14 @@ AtMany (A.Refused r) F = Unit {0}
 AtMany (A.Fit p) F = F p
 
 -- what is found of transcript m, of so many
-abbrev pub found-of : List Checked → ℕ → Checked
+abbrev pub found-of : List SliceChecked → ℕ → SliceChecked
 found-of found m = getD found m C.Fine
 
 -- each transcript is refused by 9 and 10 what it is refused by itself
-abbrev pub TranscriptsFound : Parameters → (count : ℕ) → (T : List ℕ) → List Checked → Type 0
-TranscriptsFound P count T found = (m : ℕ) → m < count → ofChecked (found-of found m) ≡ transcript-refusal P (transcript-part P count T m)
+abbrev pub TranscriptsFound : Parameters → (count : ℕ) → (T : List ℕ) → List SliceChecked → Type 0
+TranscriptsFound P count T found = (m : ℕ) → m < count → ofSliceChecked (found-of found m) ≡ transcript-refusal P (transcript-part P count T m)
 
 -- whether a transcript passes 9 and 10
-abbrev pub passing : Checked → Bool
+abbrev pub passing : SliceChecked → Bool
 passing C.Fine = true
 passing (C.Refused r) = false

@@ -1,5 +1,5 @@
 // The refusals of each transcript by its own words.
-use admission::answers::Checked;
+use admission::answers::SliceChecked;
 use many_parts::check_transcript;
 use relation::env_params::EnvironmentParameters;
 ghost use mathlib.Core.Path.{_≡_};
@@ -14,11 +14,11 @@ pub fn check_transcripts(
     transcripts: &[u32],
     p: EnvironmentParameters,
     count: usize,
-) -> [Checked; 8]
+) -> [SliceChecked; 8]
     requires { ⌜ Sized (parametersOf p) × (count ≤ 8) ⌝ }
     ensures { λ r. ⌜ TranscriptsFound (parametersOf p) count (now (transcripts .entry)) r ⌝ }
 {
-    let mut found = [Checked::Fine; 8];
+    let mut found = [SliceChecked::Fine; 8];
     let mut m = 0;
     while m < count {
         let v = check_transcript(transcripts, p, count, m);
@@ -29,17 +29,17 @@ pub fn check_transcripts(
 }
 
 // Whether a transcript passes 9 and 10.
-fn passes(found: Checked) -> bool
+fn passes(found: SliceChecked) -> bool
     ensures { λ r. ⌜ r ≡ passing found ⌝ }
 {
     match found {
-        Checked::Fine => true,
-        Checked::Refused(_) => false,
+        SliceChecked::Fine => true,
+        SliceChecked::Refused(_) => false,
     }
 }
 
 // Which transcripts pass 9 and 10.
-pub fn passing_parts(found: [Checked; 8]) -> [bool; 8]
+pub fn passing_parts(found: [SliceChecked; 8]) -> [bool; 8]
     ensures { λ r. ⌜ r ≡ table 8 (λ m. passing (found-of found m)) ⌝ }
 {
     let mut out = [false; 8];

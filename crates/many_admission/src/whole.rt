@@ -1,6 +1,6 @@
 // The refusals of the whole call: 35, the job's, and 1.
 use admission::answers::Admitted;
-use admission::answers::Checked;
+use admission::answers::SliceChecked;
 use admission::job;
 use definitions::answers::Refusal;
 use relation::env_params::EnvironmentParameters;
@@ -12,9 +12,9 @@ ghost use Rattle.sizes.specs.Sizes.{Sized};
 ghost use Rattle.definitions.specs.Answer.{_then_};
 ghost use Rattle.protocol.specs.Parameters.{parameters};
 ghost use Rattle.protocol.specs.Layout.{job-refusal};
-ghost use Rattle.admission.specs.Admission.{ofChecked, ofAdmitted, At};
+ghost use Rattle.admission.specs.Admission.{ofSliceChecked, ofAdmitted, At};
 ghost use Rattle.protocol.specs.Many.{many-need, need-refusal, many-refusal};
-ghost use Rattle.many_admission.specs.Admitted.{ofManyAdmitted, AtMany, Given};
+ghost use Rattle.many_admission.specs.Admitted.{ofManyAdmitted, AtMany, Many-given};
 
 // What the whole call is refused, or the parameters of a job that is refused nothing.
 pub enum ManyAdmitted {
@@ -33,15 +33,15 @@ pub fn need(p: EnvironmentParameters, count: usize) -> usize
 }
 
 // 1, with the length that all need.
-fn check_scratch(lent: usize, p: EnvironmentParameters, count: usize) -> Checked
+fn check_scratch(lent: usize, p: EnvironmentParameters, count: usize) -> SliceChecked
     requires { ⌜ Sized (parametersOf p) × (count ≤ 8) ⌝ }
-    ensures { λ r. ⌜ ofChecked r ≡ need-refusal (parametersOf p) count lent ⌝ }
+    ensures { λ r. ⌜ ofSliceChecked r ≡ need-refusal (parametersOf p) count lent ⌝ }
 {
     let needed = need(p, count);
     if lent < needed {
-        Checked::Refused(Refusal::ScratchTooShort(needed))
+        SliceChecked::Refused(Refusal::ScratchTooShort(needed))
     } else {
-        Checked::Fine
+        SliceChecked::Fine
     }
 }
 
@@ -49,13 +49,13 @@ fn check_scratch(lent: usize, p: EnvironmentParameters, count: usize) -> Checked
 fn admit_job(job: &[u32], count: usize, scratch: usize) -> Admitted
     requires { ⌜ count ≤ 8 ⌝ }
     ensures { λ r. ⌜ ofAdmitted r ≡ job-refusal (now (job .entry)) then need-refusal (parameters (now (job .entry))) count scratch ⌝ }
-    ensures { λ r. ⌜ At r (Given (now (job .entry)) count scratch) ⌝ }
+    ensures { λ r. ⌜ At r (Many-given (now (job .entry)) count scratch) ⌝ }
 {
     match job::check(job) {
         Admitted::Refused(refusal) => Admitted::Refused(refusal),
         Admitted::Fit(p) => match check_scratch(scratch, p, count) {
-            Checked::Refused(refusal) => Admitted::Refused(refusal),
-            Checked::Fine => Admitted::Fit(p),
+            SliceChecked::Refused(refusal) => Admitted::Refused(refusal),
+            SliceChecked::Fine => Admitted::Fit(p),
         },
     }
 }
@@ -63,7 +63,7 @@ fn admit_job(job: &[u32], count: usize, scratch: usize) -> Admitted
 // 35 "before any other test".
 pub fn admit(job: &[u32], count: u32, scratch: usize) -> ManyAdmitted
     ensures { λ r. ⌜ ofManyAdmitted r ≡ many-refusal (now (job .entry)) count scratch ⌝ }
-    ensures { λ r. ⌜ AtMany r (Given (now (job .entry)) count scratch) ⌝ }
+    ensures { λ r. ⌜ AtMany r (Many-given (now (job .entry)) count scratch) ⌝ }
 {
     if count < 1 {
         return ManyAdmitted::Count;

@@ -23,6 +23,9 @@ use Rattle.many_phi.specs.AlphaPart.{alpha-words, Alpha-if, phi-at}
 use Rattle.many_phi.proofs.Parts.{length-alpha}
 use Rattle.verifier_common.specs.Answers.{t-and-g-bounds, h-bound, u1-differs, u2-differs}
 use Rattle.verifier_commitments.specs.Order.{commitments}
+use Rattle.verifier_digits.specs.declared.SentDigits.{SentDigits}
+use Rattle.verifier_digits.specs.Taken.{Taken, t-and-g-found, h-found}
+use Rattle.verifier_digits.proofs.Digits.{t-and-g-is, h-is}
 
 module _ (J R X : List ℕ) (p : EnvironmentParameters) (q : Regions) (W W′ : List ℕ) (ready : Ready J p q W) where
   -- the challenges' region ends before the products
@@ -50,9 +53,11 @@ alpha-placed weighed J R p q W ready held t =
     let place : phi-at (parameters J) ≡ q .phi = omega (arith, laid .first, laid .a2, laid .phi) in
     subst (λ a. Holds W a (alpha-words J R)) place (held t)
 
--- the checks of the commitments by what is found of 28 and 29
-pub found : (J X : List ℕ) (p : EnvironmentParameters) → parametersOf p ≡ parameters J → (u1 u2 : Checked) → ofChecked u1 ≡ u1-differs J X → ofChecked u2 ≡ u2-differs J X
-    → (t-and-g-bounds (parametersOf p) X then ofChecked u1) then (h-bound (parametersOf p) X then ofChecked u2) ≡ commitments J X
-found J X p e u1 u2 f g =
-    ap₂ (λ a b. (t-and-g-bounds (parametersOf p) X then a) then (h-bound (parametersOf p) X then b)) f g
+-- the checks of the commitments by what is found of the digits, of 28 and of 29
+pub found : (J X : List ℕ) (p : EnvironmentParameters) → parametersOf p ≡ parameters J → (d : SentDigits) → Taken (parametersOf p) X d
+    → (u1 u2 : Checked) → ofChecked u1 ≡ u1-differs J X → ofChecked u2 ≡ u2-differs J X
+    → (t-and-g-found d then ofChecked u1) then (h-found d then ofChecked u2) ≡ commitments J X
+found J X p e d taken u1 u2 f g =
+    ap₂ (λ a b. (a then ofChecked u1) then (b then ofChecked u2)) (t-and-g-is (parametersOf p) X d taken) (h-is (parametersOf p) X d taken)
+    ∙ ap₂ (λ a b. (t-and-g-bounds (parametersOf p) X then a) then (h-bound (parametersOf p) X then b)) f g
     ∙ ap (λ P. (t-and-g-bounds P X then u1-differs J X) then (h-bound P X then u2-differs J X)) e

@@ -7,6 +7,7 @@ use regions::Regions;
 use relation::env_params::EnvironmentParameters;
 use verifier_commitments::outer_commitments;
 use verifier_common::verdict;
+use verifier_digits::SentDigits;
 use verifier_norms::norm_checks;
 use verifier_relations::relations;
 use workspace;
@@ -21,8 +22,9 @@ ghost use Rattle.relation.specs.Parameters.{parametersOf};
 ghost use Rattle.admission.specs.Admission.{Verifiable};
 ghost use Rattle.workspace.specs.Ready.{Ready};
 ghost use Rattle.workspace.specs.Holds.{Kept};
-ghost use Rattle.verifier_common.specs.Work.{Sent, Received};
-ghost use Rattle.verifier_common.specs.Answers.{az, t-and-g-bounds, h-bound};
+ghost use Rattle.verifier_common.specs.Work.{Sent};
+ghost use Rattle.verifier_common.specs.Answers.{az};
+ghost use Rattle.verifier_digits.specs.Taken.{Taken, t-and-g-found, h-found};
 ghost use Rattle.verifier_relations.specs.Held.{Challenged};
 ghost use Rattle.verifier_relations.specs.Order.{relations};
 ghost use Rattle.verifier.specs.Order.{rest};
@@ -54,24 +56,18 @@ fn check_relations(
     many_beta::check_aggregated(job, randomness, transcript, p, q, window, weighed)
 }
 
-// 14, 15, 28, 16 and 29, in order, with what is found of 28 and 29.
-fn check_commitments(
-    transcript: &[u32],
-    p: EnvironmentParameters,
-    u1: Checked,
-    u2: Checked,
-) -> Checked
-    requires { ⌜ Received (now transcript) p ⌝ }
-    ensures { λ v. ⌜ ofChecked v ≡ (t-and-g-bounds (parametersOf p) (now (transcript .entry)) then ofChecked u1) then (h-bound (parametersOf p) (now (transcript .entry)) then ofChecked u2) ⌝ }
+// 14, 15, 28, 16 and 29, in order, with what is found of the digits, of 28 and of 29.
+fn check_commitments(digits: SentDigits, u1: Checked, u2: Checked) -> Checked
+    ensures { λ v. ⌜ ofChecked v ≡ (t-and-g-found digits then ofChecked u1) then (h-found digits then ofChecked u2) ⌝ }
 {
-    let bounds = outer_commitments::check_t_and_g(transcript, p);
+    let bounds = outer_commitments::check_t_and_g(digits);
     let Checked::Passed = bounds else {
         return bounds;
     };
     let Checked::Passed = u1 else {
         return u1;
     };
-    let bound = outer_commitments::check_h(transcript, p);
+    let bound = outer_commitments::check_h(digits);
     let Checked::Passed = bound else {
         return bound;
     };
@@ -87,8 +83,9 @@ fn check_rest(
     q: Regions,
     window: &mut [u32],
     weighed: bool,
+    digits: SentDigits,
 ) -> Checked
-    requires { ⌜ Sent (now job) (now randomness) (now transcript) p × Ready (now job) p q (now window) ⌝ }
+    requires { ⌜ Sent (now job) (now randomness) (now transcript) p × Ready (now job) p q (now window) × Taken (parametersOf p) (now transcript) digits ⌝ }
     requires { ⌜ Rows-done (now job) (now transcript) (now window) (row-count (parameters (now job))) × Alpha-if weighed (now job) (now randomness) (q .phi) (now window) ⌝ }
     ensures { λ v. ⌜ ofChecked v ≡ rest (now (job .entry)) (now (randomness .entry)) (now (transcript .entry)) ⌝ }
     ensures { λ v. ⌜ Kept (scratch-need (parameters (now (job .entry)))) (now (window .entry)) (now (window .exit)) ⌝ }
@@ -101,7 +98,7 @@ fn check_rest(
     let Checked::Passed = first else {
         return first;
     };
-    check_commitments(transcript, p, u1, u2)
+    check_commitments(digits, u1, u2)
 }
 
 // All checks, in order; an acceptance has the number of cells with something left.
@@ -121,10 +118,12 @@ pub fn judge(
     ensures { λ v. ⌜ length (now (window .exit)) ≡ length (now (window .entry)) ⌝ }
 {
     let q = regions::lay_out(p.rank, p.multiplicity, p.kappa, p.const_agg_length);
-    let first = norm_checks::check_norms(job, randomness, transcript, p);
-    let Verdict::Accepted(cells_left) = first else {
-        return first;
+    let norms = norm_checks::check_norms(job, randomness, transcript, p);
+    let first = norms.checked;
+    let Checked::Passed = first else {
+        return verdict::verdict_of(first, 0);
     };
-    let rest = check_rest(job, randomness, transcript, p, q, window, weighed);
-    verdict::verdict_of(rest, cells_left)
+    let digits = norms.digits;
+    let rest = check_rest(job, randomness, transcript, p, q, window, weighed, digits);
+    verdict::verdict_of(rest, digits.cells_left)
 }

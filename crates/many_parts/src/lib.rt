@@ -1,5 +1,5 @@
 // Transcripts that lie end to end, and their randomness (document 02, Item 11): each part, and what it is refused by itself.
-use admission::answers::Checked;
+use admission::answers::SliceChecked;
 use admission::calls::Call;
 use admission::randomness;
 use admission::transcript;
@@ -13,7 +13,7 @@ ghost use Rattle.protocol.specs.Layout.{span, randomness-sections, transcript-s
 ghost use Rattle.protocol.specs.Many.{randomness-part, transcript-part};
 ghost use Rattle.relation.specs.Parameters.{parametersOf};
 ghost use Rattle.sizes.specs.Sizes.{Sized};
-ghost use Rattle.admission.specs.Admission.{ofChecked};
+ghost use Rattle.admission.specs.Admission.{ofSliceChecked};
 ghost use Rattle.many_parts.specs.Bounds.{bounded};
 
 // A part of a slice, up to but not including `to`.
@@ -72,9 +72,9 @@ pub fn transcript_bounds(handed: usize, p: EnvironmentParameters, count: usize, 
 }
 
 // 7 and 8 of randomness m.
-fn check_randomness(words: &[u32], p: EnvironmentParameters, count: usize, m: usize) -> Checked
+fn check_randomness(words: &[u32], p: EnvironmentParameters, count: usize, m: usize) -> SliceChecked
     requires { ⌜ (m < count) × (count ≤ 8) × Sized (parametersOf p) ⌝ }
-    ensures { λ r. ⌜ ofChecked r ≡ randomness-refusal (parametersOf p) 7 (randomness-part (parametersOf p) count (now (words .entry)) m) ⌝ }
+    ensures { λ r. ⌜ ofSliceChecked r ≡ randomness-refusal (parametersOf p) 7 (randomness-part (parametersOf p) count (now (words .entry)) m) ⌝ }
 {
     let b = randomness_bounds(words.len(), p, count, m);
     let from = b.from;
@@ -83,9 +83,14 @@ fn check_randomness(words: &[u32], p: EnvironmentParameters, count: usize, m: us
 }
 
 // 9 and 10 of transcript m: "places count from a transcript's own start".
-pub fn check_transcript(words: &[u32], p: EnvironmentParameters, count: usize, m: usize) -> Checked
+pub fn check_transcript(
+    words: &[u32],
+    p: EnvironmentParameters,
+    count: usize,
+    m: usize,
+) -> SliceChecked
     requires { ⌜ (m < count) × (count ≤ 8) × Sized (parametersOf p) ⌝ }
-    ensures { λ r. ⌜ ofChecked r ≡ transcript-refusal (parametersOf p) (transcript-part (parametersOf p) count (now (words .entry)) m) ⌝ }
+    ensures { λ r. ⌜ ofSliceChecked r ≡ transcript-refusal (parametersOf p) (transcript-part (parametersOf p) count (now (words .entry)) m) ⌝ }
 {
     let b = transcript_bounds(words.len(), p, count, m);
     let from = b.from;
@@ -99,13 +104,13 @@ pub fn check_part(
     p: EnvironmentParameters,
     count: usize,
     m: usize,
-    sent: Checked,
-) -> Checked
+    sent: SliceChecked,
+) -> SliceChecked
     requires { ⌜ (m < count) × (count ≤ 8) × Sized (parametersOf p) ⌝ }
-    ensures { λ r. ⌜ ofChecked r ≡ randomness-refusal (parametersOf p) 7 (randomness-part (parametersOf p) count (now (randomness .entry)) m) then ofChecked sent ⌝ }
+    ensures { λ r. ⌜ ofSliceChecked r ≡ randomness-refusal (parametersOf p) 7 (randomness-part (parametersOf p) count (now (randomness .entry)) m) then ofSliceChecked sent ⌝ }
 {
     match check_randomness(randomness, p, count, m) {
-        Checked::Refused(refusal) => Checked::Refused(refusal),
-        Checked::Fine => sent,
+        SliceChecked::Refused(refusal) => SliceChecked::Refused(refusal),
+        SliceChecked::Fine => sent,
     }
 }

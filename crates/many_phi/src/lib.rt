@@ -16,7 +16,7 @@ ghost use Rattle.protocol.specs.Kept.{Kept};
 ghost use Rattle.protocol.specs.Many.{many-need};
 ghost use Rattle.relation.specs.Parameters.{parametersOf};
 ghost use Rattle.sizes.specs.Sizes.{Sized};
-ghost use Rattle.many_admission.specs.Admitted.{Given};
+ghost use Rattle.many_admission.specs.Admitted.{Many-given};
 ghost use Rattle.many_phi.specs.AlphaPart.{windows-of, shares, Alpha-parts, Products-stay};
 
 // The windows of so many transcripts.
@@ -63,7 +63,7 @@ pub fn alpha_parts(
     passes: [bool; 8],
     scratch: &mut [u32],
 ) -> bool
-    requires { ⌜ Given (now job) count (length (now scratch)) p ⌝ }
+    requires { ⌜ Many-given (now job) count (length (now scratch)) p ⌝ }
     ensures { λ r. ⌜ r ≡ shares (windows-of (parameters (now (job .entry))) count) (length (now (randomness .entry))) ⌝ }
     ensures { λ r. ⌜ (r ≡ true → Alpha-parts (now (job .entry)) count (λ m. getD passes m false) (now (randomness .entry)) (now (scratch .exit))) ⌝ }
     ensures { λ r. ⌜ Products-stay (parameters (now (job .entry))) count (now (scratch .entry)) (now (scratch .exit)) ⌝ }

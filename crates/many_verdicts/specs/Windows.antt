@@ -40,10 +40,10 @@ Weighed-if-passing weighed J count R T m scratch = passes (parameters J) count R
 abbrev pub All-weighed : Bool → (J : List ℕ) → (count : ℕ) → (R T scratch : List ℕ) → Type 0
 All-weighed weighed J count R T scratch = weighed ≡ true → Alpha-parts J count (passes (parameters J) count R T) R scratch
 
--- "those past the number marked unused": the number 4294967295 and zeros
-abbrev pub unused : LabradorVerdict
-unused = failedCheck 4294967295 0 0 0
+-- "those past the number marked unused-verdict": the number 4294967295 and zeros
+abbrev pub unused-verdict : LabradorVerdict
+unused-verdict = failedCheck 4294967295 0 0 0
 
 -- "gives eight verdicts"
 abbrev pub verdicts-of : (J : List ℕ) → (count : ℕ) → (R T : List ℕ) → List LabradorVerdict
-verdicts-of J count R T = padded 8 count unused (λ m. labradorVerdict (part-verdict J count R T m))
+verdicts-of J count R T = padded 8 count unused-verdict (λ m. labradorVerdict (part-verdict J count R T m))

@@ -1,6 +1,6 @@
 // The verdicts on all transcripts.
 use crate::part;
-use admission::answers::Checked;
+use admission::answers::SliceChecked;
 use call_answers::verdicts::LabradorVerdict;
 use many_parts::check_part;
 use relation::env_params::EnvironmentParameters;
@@ -10,7 +10,7 @@ ghost use Rattle.protocol.specs.Parameters.{parameters};
 ghost use Rattle.protocol.specs.Kept.{Kept};
 ghost use Rattle.protocol.specs.Many.{many-need};
 ghost use Rattle.call_answers.specs.Calls.{failedCheck};
-ghost use Rattle.many_admission.specs.Admitted.{Given, TranscriptsFound};
+ghost use Rattle.many_admission.specs.Admitted.{Many-given, TranscriptsFound};
 ghost use Rattle.many_verdicts.specs.Windows.{Rows-ready, All-weighed, verdicts-of};
 
 // Eight times a number and zeros.
@@ -36,11 +36,11 @@ pub fn verdicts(
     transcripts: &[u32],
     p: EnvironmentParameters,
     count: usize,
-    found: [Checked; 8],
+    found: [SliceChecked; 8],
     scratch: &mut [u32],
     weighed: bool,
 ) -> [LabradorVerdict; 8]
-    requires { ⌜ Given (now job) count (length (now scratch)) p × TranscriptsFound (parameters (now job)) count (now transcripts) found ⌝ }
+    requires { ⌜ Many-given (now job) count (length (now scratch)) p × TranscriptsFound (parameters (now job)) count (now transcripts) found ⌝ }
     requires { ⌜ Rows-ready (now job) count (now randomness) (now transcripts) (now scratch) × All-weighed weighed (now job) count (now randomness) (now transcripts) (now scratch) ⌝ }
     ensures { λ r. ⌜ r ≡ verdicts-of (now (job .entry)) count (now (randomness .entry)) (now (transcripts .entry)) ⌝ }
     ensures { λ r. ⌜ Kept (many-need (parameters (now (job .entry))) count) (now (scratch .entry)) (now (scratch .exit)) ⌝ }

@@ -1,5 +1,5 @@
 // The verdict on one transcript.
-use admission::answers::Checked;
+use admission::answers::SliceChecked;
 use call_answers::verdicts;
 use call_answers::verdicts::LabradorVerdict;
 use definitions::answers::Verdict;
@@ -17,9 +17,9 @@ ghost use Rattle.protocol.specs.Layout.{scratch-need};
 ghost use Rattle.protocol.specs.Kept.{Kept};
 ghost use Rattle.protocol.specs.Mistyped.{verdict-of};
 ghost use Rattle.protocol.specs.Many.{many-need, part-refusal, part-verdict, row-count, Rows-done, window};
-ghost use Rattle.admission.specs.Admission.{Verifiable, ofChecked};
+ghost use Rattle.admission.specs.Admission.{Verifiable, ofSliceChecked};
 ghost use Rattle.call_answers.specs.Calls.{labradorVerdict};
-ghost use Rattle.many_admission.specs.Admitted.{Given};
+ghost use Rattle.many_admission.specs.Admitted.{Many-given};
 ghost use Rattle.many_phi.specs.AlphaPart.{Alpha-if, phi-at};
 ghost use Rattle.many_verdicts.specs.Windows.{Part-ready, Ready-if-passing, Part-weighed, Weighed-if-passing};
 
@@ -64,7 +64,7 @@ fn judge_part(
     scratch: &mut [u32],
     weighed: bool,
 ) -> Verdict
-    requires { ⌜ Given (now job) count (length (now scratch)) p × (m < count) ⌝ }
+    requires { ⌜ Many-given (now job) count (length (now scratch)) p × (m < count) ⌝ }
     requires { ⌜ part-refusal (parameters (now job)) count (now randomness) (now transcripts) m ≡ fine ⌝ }
     requires { ⌜ Part-ready (now job) count (now transcripts) m (now scratch) × Part-weighed weighed (now job) count (now randomness) m (now scratch) ⌝ }
     ensures { λ v. ⌜ ofVerdict v ≡ part-verdict (now (job .entry)) count (now (randomness .entry)) (now (transcripts .entry)) m ⌝ }
@@ -95,20 +95,20 @@ pub fn verdict(
     p: EnvironmentParameters,
     count: usize,
     m: usize,
-    found: Checked,
+    found: SliceChecked,
     scratch: &mut [u32],
     weighed: bool,
 ) -> LabradorVerdict
-    requires { ⌜ Given (now job) count (length (now scratch)) p × (m < count) ⌝ }
-    requires { ⌜ ofChecked found ≡ part-refusal (parameters (now job)) count (now randomness) (now transcripts) m ⌝ }
+    requires { ⌜ Many-given (now job) count (length (now scratch)) p × (m < count) ⌝ }
+    requires { ⌜ ofSliceChecked found ≡ part-refusal (parameters (now job)) count (now randomness) (now transcripts) m ⌝ }
     requires { ⌜ Ready-if-passing (now job) count (now randomness) (now transcripts) m (now scratch) ⌝ }
     requires { ⌜ Weighed-if-passing weighed (now job) count (now randomness) (now transcripts) m (now scratch) ⌝ }
     ensures { λ v. ⌜ v ≡ labradorVerdict (part-verdict (now (job .entry)) count (now (randomness .entry)) (now (transcripts .entry)) m) ⌝ }
     ensures { λ v. ⌜ Kept (many-need (parameters (now (job .entry))) (m + 1)) (now (scratch .entry)) (now (scratch .exit)) ⌝ }
 {
     match found {
-        Checked::Refused(refusal) => verdicts::verdict_of(Verdict::Refused(refusal)),
-        Checked::Fine => {
+        SliceChecked::Refused(refusal) => verdicts::verdict_of(Verdict::Refused(refusal)),
+        SliceChecked::Fine => {
             let judged = judge_part(job, randomness, transcripts, p, count, m, scratch, weighed);
             verdicts::verdict_of(judged)
         }

@@ -1,3 +1,4 @@
 pub mod Rule
 pub mod Roots
 pub mod Laws
+pub mod Primes

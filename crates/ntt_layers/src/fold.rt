@@ -1,4 +1,4 @@
-// Reduction modulo a prime 2^27 − d, by 2^27 = d: no division.
+// Reduction modulo a prime 2^27 − d without division: by 2^27 = d, and Montgomery's of a product.
 use zq::wide::wide;
 ghost use mathlib.Core.Path.{_≡_};
 ghost use Prim.Native.Nat.{_+_, _*_, _%_, _≤_, _<_, _^_};

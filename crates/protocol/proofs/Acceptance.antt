@@ -2,28 +2,27 @@
 use mathlib.Core.Path.{_≡_, refl, sym, ap₂}
 use mathlib.Core.Bool.{Bool, true, false, cond}
 use mathlib.Core.List.{List, [], _∷_}
-use Prim.Native.Nat.{ℕ, zero, suc, _+_, _*_, _≤_, _<_}
+use Prim.Native.Nat.{ℕ, zero, suc, _*_, _≤_, _<_}
 use native.Mathlib.Decide.{decLe, ℕ-discrete}
 use native.Mathlib.Omega.{arith}
-use lib.Dec.{ltb, eqb}
-use lib.ListN.{length, getD, take}
+use lib.Dec.{ltb}
 use borrow.Author.Tests.{ltb-false}
-use Rattle.lists.specs.Part.{part}
 use Rattle.lists.specs.Table.{table}
 use Rattle.definitions.specs.Zq.{topQ}
 use Rattle.definitions.specs.Norm.{norm}
-use Rattle.definitions.specs.Answer.{Answer, fine, accepted, refused, failed, number, below, _then_}
+use Rattle.definitions.specs.Answer.{Answer, fine, accepted, refused, failed, number, _then_}
 use Rattle.definitions.specs.Leaf.{limited}
 use Rattle.definitions.specs.Rq.{coeff}
 use Rattle.definitions.specs.Ring.{words}
 use Rattle.protocol.specs.Checks.{require, first}
-use Rattle.protocol.specs.Parameters.{Parameters, parameters, rounded-up, some-constraint, limits, enough-aggregations}
-use Rattle.protocol.specs.Layout.{Section, Range, free, under, span, counted, ranged, in-range, layout, first-section, job-sections, randomness-sections, transcript-sections, job-refusal, randomness-refusal, transcript-refusal, scratch-refusal, scratch-need}
+use Rattle.protocol.specs.Parameters.{Parameters, parameters, some-constraint, limits, enough-aggregations}
+use Rattle.protocol.specs.Layout.{counted, ranged, layout, first-section, job-sections, job-refusal, randomness-refusal, transcript-refusal, scratch-refusal}
 use Rattle.protocol.specs.Views.{Public, Message, public, message}
 use Rattle.protocol.specs.Formulas.{_⊕_, _⊗_, sum, dot, pairs, norm-of, t-digits, g-digits, h-digits, a-sum, φ-sum, b-sum, cells-left-of, u₁-of, u₂-of}
 use Rattle.protocol.specs.Prover.{t-norm, g-norm, h-norm}
 use Rattle.protocol.specs.Verifier.{same, twice, check-21, check-22, check-23, check-24, check-25, check-26, check-27, check-28, check-29, checks, verify, verify-refusal}
 use Rattle.protocol.specs.Many.{many-need, many-refusal}
+use Rattle.protocol.proofs.Refuses.{Refuses, well, by, _and_, test, of-job, of-verifier}
 use Rattle.protocol.proofs.Fine.{accepted-not-fine, accepted-same, refused-not-fine, refused-not-accepted, failed-not-fine, failed-not-accepted, then-fine-left, then-fine-right, then-fine-each}
 
 -- no acceptance
@@ -79,100 +78,20 @@ after (failed n vs) b cells x e = absurd (failed-not-accepted n vs cells e)
 pub after-unaccepted : (a : Answer) (last cells : ℕ) → Unaccepted a → a then accepted last ≡ accepted cells → (a ≡ fine) × (last ≡ cells)
 after-unaccepted a last cells x e = let both = after a (accepted last) cells x e in (both .0, accepted-same last cells (both .1))
 
-cond-no : (t : Bool) (a b : Answer) → Told a → Told b → Told (cond t a b)
-cond-no true a b x y = x
-cond-no false a b x y = y
-
-limited-no : (least greatest place x : ℕ) → Told (limited least greatest place x)
-limited-no least greatest place x =
-    cond-no (ltb x least) (refused 4 place) (cond (ltb greatest x) (refused 4 place) fine) (refused-no 4 place (omega arith)) (cond-no (ltb greatest x) (refused 4 place) fine (refused-no 4 place (omega arith)) fine-no)
-
-below-no : (limit number place : ℕ) → 0 < number → (ws : List ℕ) → Told (below limit number place ws)
-unfolding below
-below-no limit number place h [] = fine-no
-below-no limit number place h (w ∷ ws) = cond-no (ltb w limit) (below limit number (place + 1) ws) (refused number place) (below-no limit number (place + 1) h ws) (refused-no number place h)
-
-counted-no : (number : ℕ) → 0 < number → (ws : List ℕ) (place : ℕ) (ss : List Section) → Told (counted number ws place ss)
-unfolding counted
-counted-no number h ws place [] = fine-no
-counted-no number h ws place (s ∷ ss) =
-    let next = place + 1 + s .count in
-    let long = require (decLe next (length ws)) (refused number (length ws)) in
-    cond-no (ltb place (length ws))
-    (cond (eqb (getD ws place 0) (s .count)) (long then counted number ws next ss) (refused number place))
-    (refused number (length ws))
-    (cond-no (eqb (getD ws place 0) (s .count)) (long then counted number ws next ss) (refused number place)
-    (then-no long (counted number ws next ss) (require-no (decLe next (length ws)) (refused number (length ws)) (refused-no number (length ws) h)) (counted-no number h ws next ss))
-    (refused-no number place h))
-    (refused-no number (length ws) h)
-
-layout-no : (number : ℕ) → 0 < number → (ws : List ℕ) (place : ℕ) (ss : List Section) → Told (layout number ws place ss)
-unfolding layout
-layout-no number h ws place ss =
-    let end = place + span ss in
-    then-no (counted number ws place ss) (require (decLe (length ws) end) (refused number end)) (counted-no number h ws place ss)
-    (require-no (decLe (length ws) end) (refused number end) (refused-no number end h))
-
-in-range-no : (range : Range) (number place : ℕ) → 0 < number → (ws : List ℕ) → Told (in-range range number place ws)
-in-range-no free number place h ws = fine-no
-in-range-no (under limit) number place h ws = below-no limit number place h ws
-
-ranged-no : (number : ℕ) → 0 < number → (ws : List ℕ) (place : ℕ) (ss : List Section) → Told (ranged number ws place ss)
-unfolding ranged
-ranged-no number h ws place [] = fine-no
-ranged-no number h ws place (s ∷ ss) =
-    let own = part ws (place + 1) (s .count) in
-    then-no (in-range (s .range) number (place + 1) own) (ranged number ws (place + 1 + s .count) ss) (in-range-no (s .range) number (place + 1) h own) (ranged-no number h ws (place + 1 + s .count) ss)
-
-infixl 20 _and_
--- two answers, one after the other
-_and_ : {a b : Answer} → Told a → Told b → Told (a then b)
-_and_ {a} {b} x y = then-no a b x y
-
-limits-no : (P : Parameters) → Told (limits P)
-unfolding limits
-limits-no P =
-    limited-no 1 64 1 (P .n)
-    and limited-no 1 16 2 (P .r)
-    and limited-no 1 16 3 (P .κ)
-    and limited-no 1 16 4 (P .κ₁)
-    and limited-no 1 16 5 (P .κ₂)
-    and limited-no 0 64 6 (P .K)
-    and limited-no 0 64 7 (P .l)
-    and require-no (decLe 1 (P .K + P .l)) (refused 4 7) (refused-no 4 7 (omega arith))
-    and limited-no 16 32 8 (P .log-q)
-    and limited-no 2 topQ 9 (P .b)
-    and limited-no 1 32 10 (P .t₁)
-    and limited-no 1 32 11 (P .t₂)
-    and limited-no 1 32 12 (P .L)
-
-job-no : (J : List ℕ) → Told (job-refusal J)
-unfolding job-refusal enough-aggregations
-job-no J =
-    let P = parameters J in
-    counted-no 3 (omega arith) J 0 first-section
-    and limits-no P
-    and require-no (decLe (rounded-up (P .log-q)) (P .L)) (refused 5 12) (refused-no 5 12 (omega arith))
-    and layout-no 3 (omega arith) J 31 (job-sections P)
-    and ranged-no 6 (omega arith) J 31 (job-sections P)
+-- a refusal by a number that is not 0
+told-of : {a : Answer} → Refuses (λ n. 0 < n) a → Told a
+told-of well = fine-no
+told-of (by n p h) = refused-no n p h
 
 refusal-no : (J R X : List ℕ) (lent : ℕ) → Told (verify-refusal J R X lent)
-unfolding verify-refusal randomness-refusal transcript-refusal
-refusal-no J R X lent =
-    let P = parameters J in
-    job-no J
-    and (layout-no 7 (omega arith) R 0 (take 7 (randomness-sections P)) and ranged-no 8 (omega arith) R 0 (take 7 (randomness-sections P)))
-    and (layout-no 9 (omega arith) X 0 (transcript-sections P) and ranged-no 10 (omega arith) X 0 (transcript-sections P))
-    and require-no (decLe (scratch-need P) lent) (refused 1 (scratch-need P)) (refused-no 1 (scratch-need P) (omega arith))
+refusal-no J R X lent = told-of (of-verifier (λ n h. h .0) J R X lent)
 
 -- the refusals of a whole call on many transcripts
 pub many-no : (J : List ℕ) (count lent : ℕ) → Told (many-refusal J count lent)
 unfolding many-refusal
 many-no J count lent =
     let need = many-need (parameters J) count in
-    require-no (decLe 1 count) (refused 35 0) (refused-no 35 0 (omega arith))
-    and require-no (decLe count 8) (refused 35 0) (refused-no 35 0 (omega arith))
-    and (job-no J and require-no (decLe need lent) (refused 1 need) (refused-no 1 need (omega arith)))
+    told-of (test (decLe 1 count) 35 0 (omega arith) and test (decLe count 8) 35 0 (omega arith) and (of-job (λ n h. h .0) J and test (decLe need lent) 1 need (omega arith)))
 
 module _ (X : Public) (M : Message) where
   open Public X using (P, A, c)

@@ -21,8 +21,8 @@ use Rattle.definitions.proofs.Recompose.{recompose-iff, enough-more}
 use Rattle.protocol.specs.Parameters.{Parameters, triangular}
 use Rattle.protocol.specs.Views.{Public}
 use Rattle.protocol.specs.Formulas as F
-use Rattle.protocol.specs.Formulas.{nothing-left, count-left, cells-left-of, rows, triangle}
-use Rattle.protocol.specs.Conditions.{one-if-left, cells-left}
+use Rattle.protocol.specs.Formulas.{nothing-left, one-if-left, count-left, cells-left-of, rows, triangle}
+use Rattle.protocol.specs.Conditions.{cells-left}
 use Rattle.protocol.specs.CellsBack.{Back, AllBack}
 
 -- the number of cells with something left adds up
@@ -122,7 +122,12 @@ module _ (X : Public) (t g h : ℕ → ℕ → Element) where
 
   three : cells-left-of X t g h ≡ of-t + of-g + of-h
   unfolding cells-left-of of-t of-g of-h
-  three = ap₂ _+_ (ap₂ _+_ (count-of-rows (P .b) t₁ r κ t) (count-of-triangle (P .b) t₂ r g)) (count-of-triangle (P .b) t₁ r h)
+  three = refl
+
+  -- as the code counts them
+  pub counted-cells : cells-left-of X t g h ≡ count-left (P .b) t₁ (rows r κ t) + count-left (P .b) t₂ (triangle r g) + count-left (P .b) t₁ (triangle r h)
+  unfolding cells-left-of
+  counted-cells = sym (ap₂ _+_ (ap₂ _+_ (count-of-rows (P .b) t₁ r κ t) (count-of-triangle (P .b) t₂ r g)) (count-of-triangle (P .b) t₁ r h))
 
   -- "the number is 0 exactly when t, g and h can be put together again from the digits that were committed to"
   pub none-exactly-when : 0 < P .b → (cells-left-of X t g h ≡ 0) ↔ AllBack X t g h

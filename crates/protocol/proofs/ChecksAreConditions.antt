@@ -27,7 +27,7 @@ use Rattle.protocol.proofs.Fine.{require-holds}
 use Rattle.protocol.proofs.Checks.{then-fine, require-iff, first-ext, first-fine}
 use Rattle.protocol.proofs.PsiRows.{psi-row-met}
 use Rattle.protocol.proofs.Norms.{norm-table, parts-of-table, digits-of-rows, digits-of-triangle}
-use Rattle.protocol.proofs.CellsLeft.{cells-left-by-formulas}
+use Rattle.protocol.proofs.CellsLeft.{cells-left-by-formulas, counted-cells}
 use Rattle.protocol.proofs.Relations.{check-24-fine, check-25-fine, check-26-fine, aggregated-relation}
 
 -- rows of cells that agree
@@ -72,10 +72,10 @@ module _ (X : Public) (s : ℕ → ℕ → Element) (M : Message) (agrees : Agre
 
   -- the number of cells with something left is that of the cells by the formulas
   pub cells-left-is : cells-left-of X (M .t) (M .g) (M .h) ≡ cells-left X s
-  unfolding cells-left-of
   cells-left-is =
-      ap₂ _+_ (ap₂ _+_ (ap (count-left (P .b) (P .t₁)) t-cells) (ap (count-left (P .b) (P .t₂)) g-cells)) (ap (count-left (P .b) (P .t₁)) h-cells)
-      ∙ sym (cells-left-by-formulas X s)
+      counted-cells X (M .t) (M .g) (M .h)
+      ∙ ap₂ _+_ (ap₂ _+_ (ap (count-left (P .b) (P .t₁)) t-cells) (ap (count-left (P .b) (P .t₂)) g-cells)) (ap (count-left (P .b) (P .t₁)) h-cells)
+      ∙ sym (cells-left-by-formulas X s ∙ counted-cells X (F.t X s) (F.g X s) (F.h X s))
 
   -- check 21 is the condition on the norm of p
   pub check-21-is : check-21 X M ≡ require (decLe (p-norm X s) (128 * beta-sq)) (failed 21 (p-norm X s ∷ 128 * beta-sq ∷ []))

@@ -1,16 +1,21 @@
 -- Refusals and their places on short slices, as one table under one proof against the definitions.
 use mathlib.Core.Path.{refl}
+use mathlib.Core.Bool.{true, false}
 use mathlib.Core.List.{List, [], _∷_, _++_}
-use Prim.Native.Nat.{ℕ}
+use Prim.Native.Nat.{ℕ, _+_, _-_}
 use native.Mathlib.Decide.{decLe, ℕ-discrete}
+use lib.IntN.{ℤ, pos, negsuc}
 use lib.ListN.{take, set, replicate}
-use Rattle.definitions.specs.Zq.{Q}
-use Rattle.definitions.specs.Answer.{Answer, fine, refused, below}
+use Rattle.definitions.specs.Zq.{Q, halfQ}
+use Rattle.definitions.specs.Answer.{Answer, fine, accepted, refused, failed, below}
 use Rattle.definitions.proofs.Table.{Row, _is_, Holds}
 use Rattle.protocol.specs.Parameters.{parameters, limits, enough-aggregations}
 use Rattle.protocol.specs.Layout.{span, sections, counted, layout, ranged, job-refusal, randomness-refusal, witness-refusal, transcript-refusal}
+use Rattle.protocol.specs.Checks.{first}
 use Rattle.protocol.specs.Prover.{round₁, prove-refusal}
 use Rattle.protocol.specs.Many.{cut, many-refusal}
+use Rattle.protocol.specs.Mistyped.{Entry, comes-before, judged}
+use Rattle.protocol.specs.Ranges.{beyond-refusal, crossed-refusal, pairs-refusal}
 
 -- words that are all 0
 abbrev pub zeros : ℕ → List ℕ
@@ -59,6 +64,17 @@ transcript-of = transcript-refusal (parameters job)
 abbrev pub first-round : List ℕ → List ℕ → ℕ → ℕ → Answer
 first-round = prove-refusal round₁ job
 
+-- an entry of the list of mistyped constants
+abbrev pub entry : ℕ → ℕ → Entry
+entry index number = record { index = index; number = number }
+
+-- refusals of lows and highs, of which there should be 64 each, and as many zeros as are said
+abbrev pub ranges-of : (lows highs : List ℤ) → Answer
+ranges-of = pairs-refusal (parameters job)
+
+abbrev pub zero-numbers : ℕ → List ℤ
+zero-numbers n = replicate n (pos 0)
+
 -- slices and what they are refused for
 abbrev pub examples : List Row
 examples =
@@ -105,9 +121,24 @@ examples =
     -- three parts of two words: a surplus word is the last one's; a slice that ends early cuts one short and empties the last
     ∷ ((cut 2 3 (1 ∷ 2 ∷ 3 ∷ 4 ∷ 5 ∷ 6 ∷ 7 ∷ []) 1 ∷ cut 2 3 (1 ∷ 2 ∷ 3 ∷ 4 ∷ 5 ∷ 6 ∷ 7 ∷ []) 2 ∷ []) is ((3 ∷ 4 ∷ []) ∷ (5 ∷ 6 ∷ 7 ∷ []) ∷ []))
     ∷ ((cut 2 3 (1 ∷ 2 ∷ 3 ∷ []) 1 ∷ cut 2 3 (1 ∷ 2 ∷ 3 ∷ []) 2 ∷ []) is ((3 ∷ []) ∷ [] ∷ []))
+    -- mistyped constants (document 02, Item 8): 14 to 16 stay themselves; an acceptance, another failed check, a failed 22 without and with an entry
+    ∷ ((judged (refused 14 0) [] ∷ judged (refused 15 0) (entry 0 1 ∷ []) ∷ judged (refused 16 0) [] ∷ judged (accepted 0) []
+    ∷ judged (failed 23 []) [] ∷ judged (failed 22 []) [] ∷ judged (failed 22 []) (entry 0 1 ∷ []) ∷ [])
+    is (refused 14 0 ∷ refused 15 0 ∷ refused 16 0 ∷ refused 32 0 ∷ refused 32 0 ∷ refused 33 0 ∷ fine ∷ []))
+    -- entries of equal size (Item 12): −5 at a higher index before 5 and not after it; 5 at the lower index first; 4 before −5
+    ∷ ((comes-before (entry 3 (Q - 5)) (entry 1 5) ∷ comes-before (entry 1 5) (entry 3 (Q - 5)) ∷ comes-before (entry 1 5) (entry 2 5)
+    ∷ comes-before (entry 2 5) (entry 1 5) ∷ comes-before (entry 3 4) (entry 1 (Q - 5)) ∷ [])
+    is (true ∷ false ∷ true ∷ false ∷ true ∷ []))
+    -- a witness within ranges (Item 14): lows one short with highs too long, lows one too long, highs empty
+    ∷ ((ranges-of (zero-numbers 63) (zero-numbers 66) ∷ ranges-of (zero-numbers 65) (zero-numbers 64) ∷ ranges-of (zero-numbers 64) [] ∷ []) is (refused 11 63 ∷ refused 11 64 ∷ refused 11 0 ∷ []))
+    -- the first pair crossed, and the third pair's high beyond, which is tested over all pairs before; the first pair crossed alone; both numbers at the limit
+    ∷ ((ranges-of (set (zero-numbers 64) 0 (pos 1)) (set (zero-numbers 64) 2 (pos (halfQ + 1))) ∷ ranges-of (set (zero-numbers 64) 0 (pos 1)) (zero-numbers 64)
+    ∷ ranges-of (set (zero-numbers 64) 2 (negsuc (halfQ - 1))) (set (zero-numbers 64) 2 (pos halfQ)) ∷ [])
+    is (refused 37 2 ∷ refused 36 0 ∷ fine ∷ []))
     ∷ []
 
 -- each row of the table holds
 pub examples-hold : Holds examples
-unfolding many-refusal cut job-refusal randomness-refusal witness-refusal transcript-refusal prove-refusal counted limits enough-aggregations layout ranged span sections below decLe ℕ-discrete
-examples-hold = (refl, (refl, (refl, (refl, (refl, (refl, (refl, (refl, (refl, (refl, (refl, (refl, (refl, (refl, (refl, (refl, (refl, (refl, (refl, tt)))))))))))))))))))
+unfolding comes-before pairs-refusal beyond-refusal crossed-refusal first many-refusal cut job-refusal randomness-refusal witness-refusal transcript-refusal prove-refusal counted limits enough-aggregations layout ranged span sections below decLe ℕ-discrete
+examples-hold =
+    (refl, (refl, (refl, (refl, (refl, (refl, (refl, (refl, (refl, (refl, (refl, (refl, (refl, (refl, (refl, (refl, (refl, (refl, (refl, (refl, (refl, (refl, (refl, tt)))))))))))))))))))))))

@@ -21,8 +21,10 @@ pub mod Rounds
 pub mod Total
 pub mod Demand3
 pub mod Stated
+pub mod Refuses
 pub mod Acceptance
 pub mod OneKind
+pub mod AsBefore
 pub mod SecondPart
 pub mod LoadSections
 pub mod LoadJob

@@ -16,7 +16,7 @@ use Rattle.protocol.specs.Layout.{span, sections, transcript-sections, s
 use Rattle.protocol.specs.Views.{public, witness}
 use Rattle.protocol.specs.Prover.{whole, prove-refusal, work-refusal, prove, prove-output}
 use Rattle.protocol.specs.Verifier.{verify}
-use Rattle.protocol.specs.Conditions.{cells-left}
+use Rattle.protocol.specs.Conditions.{cells-left, conditions}
 use Rattle.protocol.specs.Load.{Given, load-parameters, needs-refusal, load-witness, load-randomness, load-job, load-vectors}
 use Rattle.protocol.proofs.Fine.{require-holds, refused-not-fine, then-both-fine, then-fine-left, then-fine-right}
 use Rattle.protocol.proofs.LoadJob.{load-job-fine, load-randomness-fine, load-witness-fine, load-constant-met, load-ring-met}
@@ -76,21 +76,32 @@ module _ (G : Given) (seed : ℕ) (fits : seed < 2 ^ 32) (admitted : needs-refus
   within : limits (load-parameters G) ≡ fine
   within = then-fine-left (limits (load-parameters G)) (enough-aggregations (load-parameters G)) admitted
 
-  -- the prover refuses nothing of a load: it makes a transcript
-  pub load-proved : (scratch output : ℕ) → scratch-need (load-parameters G) ≤ scratch → span (transcript-sections (load-parameters G)) ≤ output
-      → prove whole (load-job G seed) (load-randomness G seed) (load-witness G seed) scratch output ≡ fine
+  -- the prover refuses nothing of a load's job and witness, with any randomness that is refused nothing: it makes a transcript
+  pub load-proved-with : (R : List ℕ) → randomness-refusal (load-parameters G) 7 R ≡ fine → (scratch output : ℕ) → scratch-need (load-parameters G) ≤ scratch
+      → span (transcript-sections (load-parameters G)) ≤ output
+      → prove whole (load-job G seed) R (load-witness G seed) scratch output ≡ fine
   unfolding prove prove-refusal load-job sections
-  load-proved scratch output enough room =
+  load-proved-with R e scratch output enough room =
       let P = load-parameters G in
       then-both-fine
       (then-both-fine
       (then-both-fine
       (then-both-fine
-      (then-both-fine (load-job-fine G seed fits within (then-fine-right (limits P) (enough-aggregations P) admitted)) (load-randomness-fine G seed fits))
+      (then-both-fine (load-job-fine G seed fits within (then-fine-right (limits P) (enough-aggregations P) admitted)) e)
       (load-witness-fine G seed fits))
       (require-holds (decLe (scratch-need P) scratch) (refused 1 (scratch-need P)) enough))
       (require-holds (decLe (span (transcript-sections P)) output) (refused 2 (span (transcript-sections P))) room))
-      (work-fine (public (load-job G seed) (load-randomness G seed)) (load-vectors G seed) (ample G within))
+      (work-fine (public (load-job G seed) R) (load-vectors G seed) (ample G within))
+
+  -- and so of a load
+  pub load-proved : (scratch output : ℕ) → scratch-need (load-parameters G) ≤ scratch → span (transcript-sections (load-parameters G)) ≤ output
+      → prove whole (load-job G seed) (load-randomness G seed) (load-witness G seed) scratch output ≡ fine
+  load-proved = load-proved-with (load-randomness G seed) (load-randomness-fine G seed fits)
+
+  -- the four conditions hold of a load's witness, with any randomness
+  pub load-conditions : (R : List ℕ) → conditions (public (load-job G seed) R) (load-vectors G seed) ≡ accepted (cells-left (public (load-job G seed) R) (load-vectors G seed))
+  unfolding load-job sections
+  load-conditions R = conditions-accepted (public (load-job G seed) R) (load-vectors G seed) (ample G within) (load-constant-met G seed fits R) (load-ring-met G seed fits R)
 
   -- the verifier accepts it, with the number of its cells that have something left
   pub load-accepted : (scratch output : List ℕ) (lent : ℕ) → scratch-need (load-parameters G) ≤ length scratch → span (transcript-sections (load-parameters G)) ≤ length output → scratch-need (load-parameters G) ≤ lent
@@ -99,4 +110,4 @@ module _ (G : Given) (seed : ℕ) (fits : seed < 2 ^ 32) (admitted : needs-refus
   unfolding load-job sections
   load-accepted scratch output lent enough room lent-enough =
       demand-3 (load-job G seed) (load-randomness G seed) (load-witness G seed) scratch output lent (load-proved (length scratch) (length output) enough room) lent-enough
-      ∙ conditions-accepted (public (load-job G seed) (load-randomness G seed)) (load-vectors G seed) (ample G within) (load-constant-met G seed fits (load-randomness G seed)) (load-ring-met G seed fits (load-randomness G seed))
+      ∙ load-conditions (load-randomness G seed)

@@ -128,12 +128,12 @@ module _ (G : Given) (seed : ℕ) (fits : seed < 2 ^ 32) where
 
   -- the parameters of the job's words
   pub load-job-parameters : parameters (load-job G seed) ≡ load-parameters G
-  unfolding load-job sections
+  unfolding load-job sections drawn
   load-job-parameters = refl
 
   -- a load is refused by none of 3 to 8, 11 and 12
   pub load-job-fine : limits (load-parameters G) ≡ fine → enough-aggregations (load-parameters G) ≡ fine → job-refusal (load-job G seed) ≡ fine
-  unfolding load-job
+  unfolding load-job drawn
   load-job-fine = job-of-sections-fine G job-made job-made-filled
 
   pub load-randomness-fine : randomness-refusal (load-parameters G) 7 (load-randomness G seed) ≡ fine
@@ -196,14 +196,14 @@ module _ (G : Given) (seed : ℕ) (fits : seed < 2 ^ 32) where
 
   -- "so that each constraint is met"
   pub load-constant-met : (R : List ℕ) (x : ℕ) → x < l → constant-error (public (load-job G seed) R) (load-vectors G seed) x ≡ 0
-  unfolding constant-error load-job sections
+  unfolding constant-error load-job sections drawn
   load-constant-met R x h =
       let f = left (load-parameters G) (public (load-job G seed) R .a′ x) (public (load-job G seed) R .φ′ x) (load-vectors G seed) in
       let same : coeff (words f) 0 ≡ public (load-job G seed) R .b₀ x = ap (λ e. coeff (words e) 0) (constant-left-same R x h) ∙ sym (b₀-read R x h) in
       zsub-zero (coeff (words f) 0) (public (load-job G seed) R .b₀ x) (coeff-canonical f 0) (subst (λ w. w < Q) same (coeff-canonical f 0)) .1 same
 
   pub load-ring-met : (R : List ℕ) (k : ℕ) → k < K → words (ring-error (public (load-job G seed) R) (load-vectors G seed) k) ≡ rzero
-  unfolding ring-error load-job sections
+  unfolding ring-error load-job sections drawn
   load-ring-met R k h =
       let f = left (load-parameters G) (public (load-job G seed) R .a k) (public (load-job G seed) R .φ k) (load-vectors G seed) in
       let same : public (load-job G seed) R .b k ≡ f = b-read R k h ∙ sym (ring-left-same R k h) in

@@ -51,9 +51,9 @@ from-one : (greatest place x : ℕ) → 1 ≤ x → limited 0 greatest place x �
 from-one greatest place x h = rw (le-ltb x 0 (omega arith), le-ltb x 1 h)
 
 -- "Jobs accepted before answer as before.": where both kinds are there, the limits are document 01's first list, then that of L
-pub as-before : (P : Parameters) → 1 ≤ P .K → 1 ≤ P .l → limits P ≡ first-limits P then limited 1 32 12 (P .L)
+pub limits-as-before : (P : Parameters) → 1 ≤ P .K → 1 ≤ P .l → limits P ≡ first-limits P then limited 1 32 12 (P .L)
 unfolding limits
-as-before P k l =
+limits-as-before P k l =
     let head = limited 1 64 1 (P .n) then limited 1 16 2 (P .r) then limited 1 16 3 (P .κ) then limited 1 16 4 (P .κ₁) then limited 1 16 5 (P .κ₂) in
     ap (λ a. a then limited 16 32 8 (P .log-q) then limited 2 topQ 9 (P .b) then limited 1 32 10 (P .t₁) then limited 1 32 11 (P .t₂) then limited 1 32 12 (P .L))
     (ap (λ a. head then limited 0 64 6 (P .K) then limited 0 64 7 (P .l) then a) (require-holds (decLe 1 (P .K + P .l)) (refused 4 7) (omega arith))

@@ -13,7 +13,7 @@ use lib.ListN.{length}
 use lib.Seq.{ext-getD}
 use Rattle.definitions.specs.Answer.{Answer, fine}
 use Rattle.protocol.specs.Checks.{require}
-use Rattle.protocol.specs.Ranges.{number-at, norm, Choice, Smallest, Largest, Every, Some, Meets, every, some-only, none, Answered, Holds}
+use Rattle.protocol.specs.Ranges.{number-at, norm, Choice, SmallestNorm, LargestNorm, Every, Some, Meets, every, some-only, none, Answered, Holds}
 use Rattle.protocol.proofs.Fine.{require-holds}
 
 -- numbers in order both ways are equal
@@ -25,20 +25,20 @@ antisym (negsuc a) (negsuc b) h k = let e : a ≡ b = le-antisymm (leb→le a b 
 
 -- what is answered of a vector is determined
 module _ (lows highs : List ℤ) where
-  pub smallest-unique : {m k : ℕ} → Smallest lows highs m → Smallest lows highs k → m ≡ k
+  pub smallest-unique : {m k : ℕ} → SmallestNorm lows highs m → SmallestNorm lows highs k → m ≡ k
   smallest-unique {m} {k} s t =
       le-antisymm (subst (λ x. m ≤ x) (t .attained) (s .none-smaller (t .choice) (t .chosen))) (subst (λ x. k ≤ x) (s .attained) (t .none-smaller (s .choice) (s .chosen)))
 
-  pub largest-unique : {m k : ℕ} → Largest lows highs m → Largest lows highs k → m ≡ k
+  pub largest-unique : {m k : ℕ} → LargestNorm lows highs m → LargestNorm lows highs k → m ≡ k
   largest-unique {m} {k} s t =
       le-antisymm (subst (λ x. x ≤ k) (s .attained) (t .none-larger (s .choice) (s .chosen))) (subst (λ x. x ≤ m) (t .attained) (s .none-larger (t .choice) (t .chosen)))
 
   module _ (bound : ℕ) where
     -- where there is a choice, a bound that every choice meets is met by some
-    some-of-every : {m : ℕ} → Smallest lows highs m → Every bound lows highs → Some bound lows highs
+    some-of-every : {m : ℕ} → SmallestNorm lows highs m → Every bound lows highs → Some bound lows highs
     some-of-every s all = (s .choice, s .chosen, all (s .choice) (s .chosen))
 
-    pub meets-unique : {x y m : ℕ} → Smallest lows highs m → Meets bound lows highs x → Meets bound lows highs y → x ≡ y
+    pub meets-unique : {x y m : ℕ} → SmallestNorm lows highs m → Meets bound lows highs x → Meets bound lows highs y → x ≡ y
     meets-unique s (every e f) (every e′ f′) = e ∙ sym e′
     meets-unique s (every e f) (some-only e′ f′ n′) = absurd (n′ f)
     meets-unique s (every e f) (none e′ n′) = absurd (n′ (some-of-every s f))
@@ -57,14 +57,14 @@ module _ (lows highs : List ℤ) where
     }
 
     -- the number by the two norms
-    pub meets-every : {m : ℕ} → Largest lows highs m → m ≤ bound → Meets bound lows highs 1
+    pub meets-every : {m : ℕ} → LargestNorm lows highs m → m ≤ bound → Meets bound lows highs 1
     meets-every l h = every refl (λ xs c. let k = l .none-larger xs c in omega arith)
 
-    pub meets-some : {m k : ℕ} → Smallest lows highs m → Largest lows highs k → m ≤ bound → bound < k → Meets bound lows highs 2
+    pub meets-some : {m k : ℕ} → SmallestNorm lows highs m → LargestNorm lows highs k → m ≤ bound → bound < k → Meets bound lows highs 2
     meets-some s l h g =
         some-only refl (s .choice, s .chosen, rw (s .attained) h) (λ all. let f = all (l .choice) (l .chosen) in let e = l .attained in omega arith)
 
-    pub meets-none : {m : ℕ} → Smallest lows highs m → bound < m → Meets bound lows highs 3
+    pub meets-none : {m : ℕ} → SmallestNorm lows highs m → bound < m → Meets bound lows highs 3
     meets-none s h = none refl (λ some. let k = s .none-smaller (some .0) (some .1) in let l = some .2 in omega arith)
 
 -- "Where low equals high throughout"
@@ -77,10 +77,10 @@ module _ (xs : List ℤ) where
   only-choice ys c = ext-getD (pos 0) ys xs (c .count) (λ j h. let k : j < length xs = subst (λ n. j < n) (c .count) h in antisym (number-at ys j) (number-at xs j) (c .to-high j k) (c .from-low j k))
 
   -- both norms are the vector's
-  pub exact-least : {m : ℕ} → Smallest xs xs m → m ≡ norm xs
+  pub exact-least : {m : ℕ} → SmallestNorm xs xs m → m ≡ norm xs
   exact-least s = sym (s .attained) ∙ ap norm (only-choice (s .choice) (s .chosen))
 
-  pub exact-greatest : {m : ℕ} → Largest xs xs m → m ≡ norm xs
+  pub exact-greatest : {m : ℕ} → LargestNorm xs xs m → m ≡ norm xs
   exact-greatest l = sym (l .attained) ∙ ap norm (only-choice (l .choice) (l .chosen))
 
   module _ (bound : ℕ) where

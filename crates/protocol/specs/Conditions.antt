@@ -1,6 +1,5 @@
 -- Demand 3's four conditions, of job, randomness and witness alone (document 01, "What the prover works out", its last two paragraphs).
 use mathlib.Core.Path.{_≡_}
-use mathlib.Core.Bool.{cond}
 use mathlib.Core.Logic.{_↔_, _⊎_}
 use mathlib.Core.List.{List, [], _∷_}
 use Prim.Native.Nat.{ℕ, _+_, _*_, _%_, _≤_, _<_}
@@ -15,7 +14,7 @@ use mathlib.Core.List.{List-discrete}
 use Rattle.protocol.specs.Checks.{require, first}
 use Rattle.protocol.specs.Parameters.{Parameters}
 use Rattle.protocol.specs.Views.{Public}
-use Rattle.protocol.specs.Formulas.{_⊗_, sum, left, nothing-left, t, g, h, z, p, b″}
+use Rattle.protocol.specs.Formulas.{_⊗_, sum, left, one-if-left, t, g, h, z, p, b″}
 
 -- the norms of digit 0 of an element and of the rest together (document 02, Item 9)
 abbrev pub two-parts-norm : ℕ → Element → ℕ
@@ -24,10 +23,6 @@ two-parts-norm b e = norm (digitRow b (words e) 0) + norm (restRow b (words e))
 -- the norms of an element's digits in a number of parts together
 abbrev pub digits-norm : ℕ → ℕ → Element → ℕ
 digits-norm b parts e = Σ parts (λ q. norm (digitRow b (words e) q))
-
--- 1 of a cell that has a coefficient with something left, 0 of any other (document 02, Item 5)
-abbrev pub one-if-left : ℕ → ℕ → Element → ℕ
-one-if-left b parts e = cond (nothing-left b parts e) 0 1
 
 module _ (X : Public) (s : ℕ → ℕ → Element) where
   open Public X using (P, a′, φ′, b₀, a, φ, b, psi, omega, alpha)

@@ -63,7 +63,11 @@ digits-of b parts = flatMap (λ e. table parts (digit-element b e))
 unfoldable pub nothing-left : ℕ → ℕ → Element → Bool
 nothing-left b parts e = isZero (leftRow b parts (words e))
 
--- how many of the cells "have a coefficient with something left"
+-- 1 of a cell that has "a coefficient with something left", 0 of any other
+abbrev pub one-if-left : ℕ → ℕ → Element → ℕ
+one-if-left b parts e = cond (nothing-left b parts e) 0 1
+
+-- how many of some cells have one, as the code counts them
 unfoldable pub count-left : ℕ → ℕ → List Element → ℕ
 count-left b parts cells = length (flatMap (λ e. cond (nothing-left b parts e) [] (e ∷ [])) cells)
 
@@ -120,9 +124,12 @@ module _ (X : Public) where
   abbrev pub h-digits : (ℕ → ℕ → Element) → List Element
   h-digits h = digits-of (P .b) t₁ (triangle r h)
 
-  -- document 02, Item 5: "how many cells of t, g and h together have a coefficient with something left", in the parts of their digits
+  -- document 02, Item 5: "how many cells of t, g and h together have a coefficient with something left", in the parts of their digits: each cell of a triangle once
   unfoldable pub cells-left-of : (t g h : ℕ → ℕ → Element) → ℕ
-  cells-left-of t g h = count-left (P .b) t₁ (rows r κ t) + count-left (P .b) t₂ (triangle r g) + count-left (P .b) t₁ (triangle r h)
+  cells-left-of t g h =
+      Σ r (λ i. Σ κ (λ k. one-if-left (P .b) t₁ (t i k)))
+      + Σ r (λ i. Σ (i + 1) (λ j. one-if-left (P .b) t₂ (g i j)))
+      + Σ r (λ i. Σ (i + 1) (λ j. one-if-left (P .b) t₁ (h i j)))
 
   unfoldable pub u₁-of : (ℕ → ℕ → Element) → (ℕ → ℕ → Element) → ℕ → Element
   u₁-of t g k = times B (t-digits t) k ⊕ times C (g-digits g) k

@@ -3,7 +3,7 @@ use mathlib.Core.Bool.{cond}
 use mathlib.Core.List.{List, [], _∷_, _++_}
 use Prim.Native.Nat.{ℕ, zero, suc, _+_, _*_, _/_, _%_, _^_}
 use lib.Dec.{ltb}
-use lib.ListN.{length, drop, set, replicate}
+use lib.ListN.{length, getD, drop, replicate}
 use Rattle.lists.specs.Table.{table}
 use Rattle.definitions.specs.Zq.{Q, zsub}
 use Rattle.definitions.specs.Answer.{Answer, result, _then_}
@@ -134,9 +134,26 @@ module _ (G : Given) (seed : ℕ) where
   unfoldable pub b-words : List ℕ
   b-words = flat (table (G .K) (λ k. left (load-parameters G) (blank .a k) (blank .φ k) load-vectors))
 
-  -- the job's words
+  -- section m of the job after section one, as it is drawn
+  abbrev pub job-section : ℕ → List ℕ
+  job-section m = getD job-drawn m []
+
+  -- the job's words: section one, a', φ', b0, a, φ, b, A, B, C, D
   unfoldable pub load-job : List ℕ
-  load-job = sections (section-one G ∷ set (set job-drawn 2 b₀-words) 5 b-words)
+  load-job =
+      sections
+      (section-one G
+      ∷ job-section 0
+      ∷ job-section 1
+      ∷ b₀-words
+      ∷ job-section 3
+      ∷ job-section 4
+      ∷ b-words
+      ∷ job-section 6
+      ∷ job-section 7
+      ∷ job-section 8
+      ∷ job-section 9
+      ∷ [])
 
 -- the sections that the job's words take
 abbrev pub load-job-sections : Given → List Section

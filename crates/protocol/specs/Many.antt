@@ -1,13 +1,13 @@
 -- Many transcripts, one reading of the job (document 02, Item 11): "One call takes them with their randomness and gives eight verdicts".
 use mathlib.Core.Path.{_≡_}
-use mathlib.Core.Bool.{Bool, true, false, cond}
+use mathlib.Core.Bool.{Bool, true, cond}
 use mathlib.Core.List.{List, [], _++_}
 use Prim.Native.Nat.{ℕ, _+_, _-_, _*_, _<_}
 use native.Mathlib.Decide.{decLe}
 use lib.Dec.{ltb}
 use lib.ListN.{length, drop, replicate}
 use Rattle.lists.specs.Table.{table}
-use Rattle.definitions.specs.Answer.{Answer, refused, result, _then_}
+use Rattle.definitions.specs.Answer.{Answer, refused, result, is-fine, _then_}
 use Rattle.definitions.specs.Rq.{Element}
 use Rattle.protocol.specs.Checks.{require}
 use Rattle.protocol.specs.Parameters.{Parameters, parameters}
@@ -52,7 +52,7 @@ module _ (P : Parameters) (count : ℕ) where
 
   -- whether transcript m "passes 7 to 10"
   abbrev pub passes : (R T : List ℕ) → ℕ → Bool
-  passes R T m = result (part-refusal R T m) true false
+  passes R T m = is-fine (part-refusal R T m)
 
 -- verdict m: "Each equals the single call's", with its parts and the scratch that it needs
 unfoldable pub part-verdict : (J : List ℕ) → (count : ℕ) → (R T : List ℕ) → ℕ → Answer
@@ -94,7 +94,7 @@ module _ (J T : List ℕ) where
 abbrev pub window : Parameters → List ℕ → ℕ → List ℕ
 window P scratch m = part scratch (m * scratch-need P) (scratch-need P)
 
--- "after each row, its products for every transcript that passes 7 to 10 are shown done, and those of later rows still zero"
-abbrev pub All-rows-done : (J : List ℕ) → (count : ℕ) → (passes : ℕ → Bool) → (T scratch : List ℕ) → (ρ : ℕ) → Type 0
-All-rows-done J count passes T scratch ρ =
-    (m : ℕ) → m < count → passes m ≡ true → Rows-done J (transcript-part (parameters J) count T m) (window (parameters J) scratch m) ρ
+-- "after each row, its products for every transcript that passes 7 to 10 are shown done, and those of later rows still zero": for every transcript that takes part
+abbrev pub All-rows-done : (J : List ℕ) → (count : ℕ) → (taken : ℕ → Bool) → (T scratch : List ℕ) → (ρ : ℕ) → Type 0
+All-rows-done J count taken T scratch ρ =
+    (m : ℕ) → m < count → taken m ≡ true → Rows-done J (transcript-part (parameters J) count T m) (window (parameters J) scratch m) ρ

@@ -34,14 +34,14 @@ pub record Choice (lows highs xs : List ℤ) : Type 0 where
   pub to-high : (j : ℕ) → j < length lows → number-at xs j ≤ℤ number-at highs j
 
 -- "the smallest […] norm": a choice has it, and none has a smaller one
-pub record Smallest (lows highs : List ℤ) (m : ℕ) : Type 0 where
+pub record SmallestNorm (lows highs : List ℤ) (m : ℕ) : Type 0 where
   pub choice : List ℤ
   pub chosen : Choice lows highs choice
   pub attained : norm choice ≡ m
   pub none-smaller : (xs : List ℤ) → Choice lows highs xs → m ≤ norm xs
 
 -- "and largest norm": a choice has it, and none has a larger one
-pub record Largest (lows highs : List ℤ) (m : ℕ) : Type 0 where
+pub record LargestNorm (lows highs : List ℤ) (m : ℕ) : Type 0 where
   pub choice : List ℤ
   pub chosen : Choice lows highs choice
   pub attained : norm choice ≡ m
@@ -70,8 +70,8 @@ pub record Answered : Type 0 where
 -- what is answered holds of a vector's ranges
 pub record Holds (bound : ℕ) (lows highs : List ℤ) (a : Answered) : Type 0 where
   pub meets : Meets bound lows highs (a .meets)
-  pub least : Smallest lows highs (a .least)
-  pub greatest : Largest lows highs (a .greatest)
+  pub least : SmallestNorm lows highs (a .least)
+  pub greatest : LargestNorm lows highs (a .greatest)
 
 -- "answers past r are marked unused, with both norms zero"
 abbrev pub unused : Answered

@@ -23,11 +23,12 @@ use Rattle.load_needs.proofs.Refusals.{all-refusals}
 use Rattle.load.specs.Exit.{job-exit, witness-exit, randomness-exit}
 use Rattle.load.proofs.Whole.{job-length, witness-length, randomness-length}
 
--- a load that was made: its answer and its three buffers at exit
-module _ (G : Given) (seed : ℕ) (fits : seed < 2 ^ 32) (job wit rnd : List ℕ) (l : Proved) (is : l ≡ P.Made) (answered : ofProved l ≡ load-refusal G (length job) (length wit) (length rnd)) where
-  made : load-refusal G (length job) (length wit) (length rnd) ≡ fine
-  made = sym answered ∙ ap ofProved is
+-- the number of cells with something left of a load's transcript
+abbrev pub load-cells-left : Given → ℕ → ℕ
+load-cells-left G seed = cells-left (public (load-job G seed) (load-randomness G seed)) (load-vectors G seed)
 
+-- a load that was refused nothing, and its three buffers at exit
+module _ (G : Given) (seed : ℕ) (fits : seed < 2 ^ 32) (job wit rnd : List ℕ) (made : load-refusal G (length job) (length wit) (length rnd) ≡ fine) where
   admitted : needs-refusal G ≡ fine
   admitted = then-fine-left (needs-refusal G) (fits-refusal (load-parameters G) (length job) (length wit) (length rnd)) (sym (all-refusals G (length job) (length wit) (length rnd)) ∙ made)
 
@@ -59,16 +60,33 @@ module _ (G : Given) (seed : ℕ) (fits : seed < 2 ^ 32) (job wit rnd : List ℕ
     R-is = needed (load-randomness G seed) rnd ρ (randomness-need G) (randomness-length G seed fits) left-randomness
 
     module _ (scratch output : List ℕ) (enough : scratch-need (load-parameters G) ≤ length scratch) (room : span (transcript-sections (load-parameters G)) ≤ length output) where
-      -- the prover's answer
-      pub load-is-proved : (p : Proved) → ofProved p ≡ prove whole J R W (length scratch) (length output) → ofProved p ≡ fine
-      load-is-proved p answer = answer ∙ (λ i. prove whole (J-is i) (R-is i) (W-is i) (length scratch) (length output)) ∙ load-proved G seed fits admitted (length scratch) (length output) enough room
+      -- the prover refuses nothing
+      pub load-made : prove whole J R W (length scratch) (length output) ≡ fine
+      load-made = (λ i. prove whole (J-is i) (R-is i) (W-is i) (length scratch) (length output)) ∙ load-proved G seed fits admitted (length scratch) (length output) enough room
 
-      -- the verifier's verdict on its output: accepted, with the number of its cells that have something left
-      pub load-is-accepted : (v : Verdict) (exit : List ℕ) (lent : ℕ) → scratch-need (load-parameters G) ≤ lent → exit ≡ prove-output whole J R W scratch output
-          → ofVerdict v ≡ verify J R (take (span (transcript-sections (load-parameters G))) exit) lent
-          → ofVerdict v ≡ accepted (cells-left (public (load-job G seed) (load-randomness G seed)) (load-vectors G seed))
-      load-is-accepted v exit lent lent-enough left judged =
-          judged
-          ∙ ap (λ o. verify J R (take (span (transcript-sections (load-parameters G))) o) lent) left
+      -- the verdict on its output: accepted, with the number of its cells that have something left
+      pub load-judged : (exit : List ℕ) (lent : ℕ) → scratch-need (load-parameters G) ≤ lent → exit ≡ prove-output whole J R W scratch output
+          → verify J R (take (span (transcript-sections (load-parameters G))) exit) lent ≡ accepted (load-cells-left G seed)
+      load-judged exit lent lent-enough left =
+          ap (λ o. verify J R (take (span (transcript-sections (load-parameters G))) o) lent) left
           ∙ (λ i. verify (J-is i) (R-is i) (take (span (transcript-sections (load-parameters G))) (prove-output whole (J-is i) (R-is i) (W-is i) scratch output)) lent)
           ∙ load-accepted G seed fits admitted scratch output lent enough room lent-enough
+
+-- the same of what the three calls answer
+module _ (G : Given) (seed : ℕ) (fits : seed < 2 ^ 32) (job wit rnd : List ℕ) (l : Proved) (is : l ≡ P.Made) (answered : ofProved l ≡ load-refusal G (length job) (length wit) (length rnd)) where
+  made : load-refusal G (length job) (length wit) (length rnd) ≡ fine
+  made = sym answered ∙ ap ofProved is
+
+  module _ (j w ρ : List ℕ) (left-job : j ≡ job-exit G seed job wit rnd) (left-witness : w ≡ witness-exit G seed job wit rnd) (left-randomness : ρ ≡ randomness-exit G seed job wit rnd)
+      (scratch output : List ℕ) (enough : scratch-need (load-parameters G) ≤ length scratch) (room : span (transcript-sections (load-parameters G)) ≤ length output) where
+    -- the prover's answer
+    pub load-is-proved : (p : Proved) → ofProved p ≡ prove whole (take (job-need G) j) (take (randomness-need G) ρ) (take (witness-need G) w) (length scratch) (length output) → ofProved p ≡ fine
+    load-is-proved p answer = answer ∙ load-made G seed fits job wit rnd made j w ρ left-job left-witness left-randomness scratch output enough room
+
+    -- the verifier's verdict on its output
+    pub load-is-accepted : (v : Verdict) (exit : List ℕ) (lent : ℕ) → scratch-need (load-parameters G) ≤ lent
+        → exit ≡ prove-output whole (take (job-need G) j) (take (randomness-need G) ρ) (take (witness-need G) w) scratch output
+        → ofVerdict v ≡ verify (take (job-need G) j) (take (randomness-need G) ρ) (take (span (transcript-sections (load-parameters G))) exit) lent
+        → ofVerdict v ≡ accepted (load-cells-left G seed)
+    load-is-accepted v exit lent lent-enough left judged =
+        judged ∙ load-judged G seed fits job wit rnd made j w ρ left-job left-witness left-randomness scratch output enough room exit lent lent-enough left

@@ -27,7 +27,7 @@ use Rattle.admission.proofs.Stages.{stops-at}
 use Rattle.admission.proofs.Fit.{refusal-none}
 use Rattle.workspace.specs.Ready.{Drawn}
 use Rattle.prover_commit.specs.Refusals.{work, makes}
-use Rattle.prover_commit.specs.Work.{Given}
+use Rattle.prover_commit.specs.Work.{Work-given}
 use Rattle.prover.specs.Worked.{worked}
 
 -- the first place is 0
@@ -86,7 +86,7 @@ laid-drawn m J R h l k b =
 
 -- a call that is refused nothing before its work, with the regions of its scratch
 pub given-of : (call : Call) (J R W : List ℕ) (p : EnvironmentParameters) (q : Regions) (S : List ℕ) (output : ℕ) → call .handed ≤ 7
-    → Provable call J R W (length S) output p → Places.Laid (p .rank) (p .multiplicity) (p .kappa) (p .«const_agg_length») q → Given J W p q S × Drawn (call .handed) J R
+    → Provable call J R W (length S) output p → Places.Laid (p .rank) (p .multiplicity) (p .kappa) (p .«const_agg_length») q → Work-given J W p q S × Drawn (call .handed) J R
 given-of call J R W p q S output few h places = (
   record {
     ready = record {

@@ -50,7 +50,7 @@ use Rattle.workspace.proofs.Aggregated.{a″-symmetric}
 use Rattle.workspace.proofs.Ready.{ready-changed, regions-end, A-within, φ″-end, a″-end, φ-end, a-end, g-end, c-end, t-end, u-end, b″-end}
 use Rattle.prover_commit.specs.Words.{statement, X, s, t-words, g-words, b″-words, h-words}
 use Rattle.prover_commit.specs.Refusals.{t-refusal, g-refusal, h-refusal, first-refusal, t-check, g-check, h-check}
-use Rattle.prover_commit.specs.Work.{Given, Where-made, Ready-for-h, with-h}
+use Rattle.prover_commit.specs.Work.{Work-given, Where-made, Ready-for-h, with-h}
 use Rattle.prover_commit.proofs.Lengths.{length-h}
 use Rattle.prover_commit.proofs.Room.{placed}
 
@@ -88,7 +88,7 @@ bounded number at cells n parts base S bound same b e v w =
     ∙ sym (require-leb (norm-of (digits-at S (digits at n parts) base)) bound (refused number 0))
 
 -- what a call hands the steps
-module _ (J W : List ℕ) (p : EnvironmentParameters) (q : Regions) (S : List ℕ) (h : Given J W p q S) where
+module _ (J W : List ℕ) (p : EnvironmentParameters) (q : Regions) (S : List ℕ) (h : Work-given J W p q S) where
   abbrev P : Parameters
   P = parameters J
 
@@ -96,7 +96,7 @@ module _ (J W : List ℕ) (p : EnvironmentParameters) (q : Regions) (S : List �
   witness-fits = subst (λ k. k + 64 * (P .r * P .n) ≤ length W) (witness-start P) (h .witness)
 
   -- the same with a scratch of the same length
-  pub given-changed : (S′ : List ℕ) → length S′ ≡ length S → Given J W p q S′
+  pub given-changed : (S′ : List ℕ) → length S′ ≡ length S → Work-given J W p q S′
   given-changed S′ e = record { ready = ready-changed J p q S (h .ready) S′ e; witness = h .witness }
 
   -- the ends of the regions within the scratch
@@ -233,7 +233,7 @@ module _ (J W : List ℕ) (p : EnvironmentParameters) (q : Regions) (S : List �
     h-end : q .a + length (h-words J R W) ≤ q .g
     h-end = omega (arith, length-h J R W, a-end J p q S (h .ready))
 
-    pub given-h : Given J W p q S′
+    pub given-h : Work-given J W p q S′
     given-h = given-changed S′ (kept .size ∙ ap length h-is ∙ length-splice S (q .a) (h-words J R W))
 
     pub held-h : Holds S′ (q .a) (h-words J R W)

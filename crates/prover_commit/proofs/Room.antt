@@ -16,7 +16,7 @@ use Rattle.relation.specs.declared.env_params.EnvironmentParameters.{Environmen
 use Rattle.relation.specs.Parameters.{parametersOf}
 use Rattle.workspace.specs.Ready.{Ready}
 use Rattle.workspace.proofs.Ready.{ready-sized, a-end, g-end, c-end, t-end, u-end, b″-end, B-within, C-within, D-within}
-use Rattle.prover_commit.specs.Work.{Given, Placed}
+use Rattle.prover_commit.specs.Work.{Work-given, Placed}
 
 -- a product of two small numbers
 pub small-product : (a b : ℕ) → a ≤ 16 → b ≤ 16 → a * b ≤ 256
@@ -107,6 +107,6 @@ module _ (p : EnvironmentParameters) (q : Regions) (S : List ℕ) (h : Placed p 
   h-cells cells e = record { within = subst (λ k. q .a + 64 * k ≤ length S) (sym (e .0)) (h .h); few-cells = few cells (e .1); few-parts = h .sized .within .t₁ .1 }
 
 -- the witness by the code's parameters
-pub s-room : (J W : List ℕ) (p : EnvironmentParameters) (q : Regions) (S : List ℕ) → Given J W p q S → 1 + 64 * (p .multiplicity * p .rank) ≤ length W
+pub s-room : (J W : List ℕ) (p : EnvironmentParameters) (q : Regions) (S : List ℕ) → Work-given J W p q S → 1 + 64 * (p .multiplicity * p .rank) ≤ length W
 unfolding start
 s-room J W p q S h = subst (λ P. start (witness-sections P) 0 + 64 * (P .r * P .n) ≤ length W) (sym (h .ready .same)) (h .witness)

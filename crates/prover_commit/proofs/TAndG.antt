@@ -19,20 +19,20 @@ use Rattle.workspace.proofs.Kept.{kept-stored}
 use Rattle.workspace.proofs.Ready.{g-end, c-end}
 use Rattle.prover_commit.specs.Words.{t-words, g-words}
 use Rattle.prover_commit.specs.Refusals.{t-refusal, g-refusal, t-check, g-check}
-use Rattle.prover_commit.specs.Work.{Given, Where-made, Committed}
+use Rattle.prover_commit.specs.Work.{Work-given, Where-made, Committed}
 use Rattle.prover_commit.proofs.Lengths.{length-t, length-g}
 use Rattle.prover_commit.proofs.Answers.{passed-on, gone-on}
 use Rattle.prover_commit.proofs.Commitments.{held-stored, held-after, where-made, given-changed, t-room, g-room, t-checked, g-checked}
 
 -- a scratch of which needed words changed, into which t was stored
-module _ (J W : List ℕ) (p : EnvironmentParameters) (q : Regions) (S : List ℕ) (h : Given J W p q S) (S₀ : List ℕ) (kept : Kept (scratch-need (parameters J)) S S₀) (S₁ : List ℕ) (e : S₁ ≡ splice S₀ (q .t) (t-words J W)) where
+module _ (J W : List ℕ) (p : EnvironmentParameters) (q : Regions) (S : List ℕ) (h : Work-given J W p q S) (S₀ : List ℕ) (kept : Kept (scratch-need (parameters J)) S S₀) (S₁ : List ℕ) (e : S₁ ≡ splice S₀ (q .t) (t-words J W)) where
   abbrev P : Parameters
   P = parameters J
 
   size₁ : length S₁ ≡ length S
   size₁ = ap length e ∙ length-splice S₀ (q .t) (t-words J W) ∙ kept .size
 
-  pub given-t : Given J W p q S₁
+  pub given-t : Work-given J W p q S₁
   given-t = given-changed J W p q S h S₁ size₁
 
   held-t : Holds S₁ (q .t) (t-words J W)
@@ -43,7 +43,7 @@ module _ (J W : List ℕ) (p : EnvironmentParameters) (q : Regions) (S : List �
 
   -- and then g
   module _ (S₂ : List ℕ) (e′ : S₂ ≡ splice S₁ (q .g) (g-words J W)) where
-    pub given-g : Given J W p q S₂
+    pub given-g : Work-given J W p q S₂
     given-g = given-changed J W p q S h S₂ (ap length e′ ∙ length-splice S₁ (q .g) (g-words J W) ∙ size₁)
 
     held-g : Holds S₂ (q .g) (g-words J W)

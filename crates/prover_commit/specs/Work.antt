@@ -24,7 +24,7 @@ use Rattle.kept_h.specs.KeptLines.{HRoom}
 use Rattle.prover_commit.specs.Words.{t-words, g-words, b″-words, h-words}
 
 -- a job that is refused nothing, and a witness of the job's size
-pub record Given (J W : List ℕ) (p : EnvironmentParameters) (q : Regions) (scratch : List ℕ) : Type 0 where
+pub record Work-given (J W : List ℕ) (p : EnvironmentParameters) (q : Regions) (scratch : List ℕ) : Type 0 where
   pub ready : Ready J p q scratch
   pub witness : start (witness-sections (parameters J)) 0 + 64 * (parameters J .r * parameters J .n) ≤ length W
 

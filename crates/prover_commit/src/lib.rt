@@ -18,7 +18,7 @@ ghost use Rattle.protocol.specs.Parameters.{parameters};
 ghost use Rattle.protocol.specs.Layout.{scratch-need};
 ghost use Rattle.workspace.specs.Holds.{Kept};
 ghost use Rattle.prover_commit.specs.Refusals.{t-refusal, g-refusal, first-refusal, t-check, g-check};
-ghost use Rattle.prover_commit.specs.Work.{Given, Placed, Where-made, Committed, plain-sizes};
+ghost use Rattle.prover_commit.specs.Work.{Work-given, Placed, Where-made, Committed, plain-sizes};
 
 // "14 digits of t above B's bound", of the cells of its region.
 fn check_t(p: EnvironmentParameters, q: Regions, scratch: &[u32]) -> Proved
@@ -31,7 +31,7 @@ fn check_t(p: EnvironmentParameters, q: Regions, scratch: &[u32]) -> Proved
         cells,
         parts: p.t_1,
     };
-    if common_instances::digits_within(scratch, digits, p.b, p.bound_b).within {
+    if common_instances::digits_within(scratch, digits, p.b, p.bound_b) {
         Proved::Made
     } else {
         Proved::Refused(Refusal::DigitsOfT)
@@ -48,7 +48,7 @@ fn check_g(p: EnvironmentParameters, q: Regions, scratch: &[u32]) -> Proved
         cells: slices::triangle(p.multiplicity),
         parts: p.t_2,
     };
-    if common_instances::digits_within(scratch, digits, p.b, p.bound_c).within {
+    if common_instances::digits_within(scratch, digits, p.b, p.bound_c) {
         Proved::Made
     } else {
         Proved::Refused(Refusal::DigitsOfG)
@@ -71,7 +71,7 @@ fn commit_kept(
     q: Regions,
     scratch: &mut [u32],
 ) -> Proved
-    requires { ⌜ Given (now job) (now witness) p q (now scratch) ⌝ }
+    requires { ⌜ Work-given (now job) (now witness) p q (now scratch) ⌝ }
     ensures { λ result. ⌜ ofProved result ≡ t-refusal (now (job .entry)) (now (witness .entry)) then g-refusal (now (job .entry)) (now (witness .entry)) ⌝ }
     ensures { λ result. ⌜ Kept (scratch-need (parameters (now (job .entry)))) (now (scratch .entry)) (now (scratch .exit)) ⌝ }
     ensures { λ result. ⌜ Where-made result (Committed (now (job .entry)) (now (witness .entry)) q (now (scratch .exit))) ⌝ }
@@ -106,7 +106,7 @@ fn commit_plain(
     q: Regions,
     scratch: &mut [u32],
 ) -> Proved
-    requires { ⌜ Given (now job) (now witness) p q (now scratch) ⌝ }
+    requires { ⌜ Work-given (now job) (now witness) p q (now scratch) ⌝ }
     ensures { λ result. ⌜ ofProved result ≡ t-refusal (now (job .entry)) (now (witness .entry)) then g-refusal (now (job .entry)) (now (witness .entry)) ⌝ }
     ensures { λ result. ⌜ Kept (scratch-need (parameters (now (job .entry)))) (now (scratch .entry)) (now (scratch .exit)) ⌝ }
     ensures { λ result. ⌜ Where-made result (Committed (now (job .entry)) (now (witness .entry)) q (now (scratch .exit))) ⌝ }
@@ -140,7 +140,7 @@ fn commit_t_and_g(
     q: Regions,
     scratch: &mut [u32],
 ) -> Proved
-    requires { ⌜ Given (now job) (now witness) p q (now scratch) ⌝ }
+    requires { ⌜ Work-given (now job) (now witness) p q (now scratch) ⌝ }
     ensures { λ result. ⌜ ofProved result ≡ t-refusal (now (job .entry)) (now (witness .entry)) then g-refusal (now (job .entry)) (now (witness .entry)) ⌝ }
     ensures { λ result. ⌜ Kept (scratch-need (parameters (now (job .entry)))) (now (scratch .entry)) (now (scratch .exit)) ⌝ }
     ensures { λ result. ⌜ Where-made result (Committed (now (job .entry)) (now (witness .entry)) q (now (scratch .exit))) ⌝ }
@@ -160,7 +160,7 @@ pub fn commit(
     q: Regions,
     scratch: &mut [u32],
 ) -> Proved
-    requires { ⌜ Given (now job) (now witness) p q (now scratch) ⌝ }
+    requires { ⌜ Work-given (now job) (now witness) p q (now scratch) ⌝ }
     ensures { λ result. ⌜ ofProved result ≡ first-refusal (now (job .entry)) (now (witness .entry)) ⌝ }
     ensures { λ result. ⌜ Kept (scratch-need (parameters (now (job .entry)))) (now (scratch .entry)) (now (scratch .exit)) ⌝ }
     ensures { λ result. ⌜ Where-made result (Committed (now (job .entry)) (now (witness .entry)) q (now (scratch .exit))) ⌝ }

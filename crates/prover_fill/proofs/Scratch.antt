@@ -17,15 +17,15 @@ use Rattle.workspace.proofs.Holds.{holds-first, holds-second}
 use Rattle.workspace.proofs.Kept.{kept-refl, kept-trans, kept-stored}
 use Rattle.workspace.proofs.Ready.{regions-end, φ″-end, a″-end, φ-end, a-end, g-end, c-end, t-end, u-end, length-φ″, length-a″, length-c, c-requires, c-made}
 use Rattle.prover_commit.specs.Words.{t-words, g-words, b″-words, h-words}
-use Rattle.prover_commit.specs.Work.{Given, Committed, Aggregated}
+use Rattle.prover_commit.specs.Work.{Work-given, Committed, Aggregated}
 use Rattle.prover_commit.proofs.Commitments.{held-stored, held-before, held-after, given-changed}
 use Rattle.prover_commit.proofs.Lengths.{length-t, length-g, length-h, length-b″}
 
 -- the scratch changed before a place
-pub given-kept : (J W : List ℕ) (p : EnvironmentParameters) (q : Regions) (k : ℕ) (S S′ : List ℕ) → Kept k S S′ → Given J W p q S → Given J W p q S′
+pub given-kept : (J W : List ℕ) (p : EnvironmentParameters) (q : Regions) (k : ℕ) (S S′ : List ℕ) → Kept k S S′ → Work-given J W p q S → Work-given J W p q S′
 given-kept J W p q k S S′ e h = given-changed J W p q S h S′ (e .size)
 
-module _ (J R W : List ℕ) (p : EnvironmentParameters) (q : Regions) (S : List ℕ) (h : Given J W p q S) where
+module _ (J R W : List ℕ) (p : EnvironmentParameters) (q : Regions) (S : List ℕ) (h : Work-given J W p q S) where
   abbrev P : Parameters
   P = parameters J
 
@@ -109,8 +109,8 @@ module _ (J R W : List ℕ) (p : EnvironmentParameters) (q : Regions) (S : List 
         }
 
 -- round 3: a scratch with t and g
-module _ (J R W : List ℕ) (p : EnvironmentParameters) (q : Regions) (S : List ℕ) (h : Given J W p q S) (d : Drawn 3 J R) (S₁ : List ℕ) (kept : Kept (scratch-need (parameters J)) S S₁) (k : Committed J W q S₁) where
-  given₁ : Given J W p q S₁
+module _ (J R W : List ℕ) (p : EnvironmentParameters) (q : Regions) (S : List ℕ) (h : Work-given J W p q S) (d : Drawn 3 J R) (S₁ : List ℕ) (kept : Kept (scratch-need (parameters J)) S S₁) (k : Committed J W q S₁) where
+  given₁ : Work-given J W p q S₁
   given₁ = given-kept J W p q (scratch-need (parameters J)) S S₁ kept h
 
   pub double-prime-needs : Ready J p q S₁ × Drawn 3 J R
@@ -118,10 +118,10 @@ module _ (J R W : List ℕ) (p : EnvironmentParameters) (q : Regions) (S : List 
 
   -- then φ'' and a''
   module _ (S₂ : List ℕ) (e₂ : S₂ ≡ splice S₁ 0 (φ″-words J R ++ a″-words J R)) where
-    given₂ : Given J W p q S₂
+    given₂ : Work-given J W p q S₂
     given₂ = given-kept J W p q (scratch-need (parameters J)) S₁ S₂ (double-prime-kept J R W p q S₁ given₁ S₂ e₂) given₁
 
-    pub b″-needs : Given J W p q S₂ × Holds S₂ (q .phi2) (φ″-words J R) × Holds S₂ (q .a2) (a″-words J R) × Holds S₂ (q .g) (g-words J W)
+    pub b″-needs : Work-given J W p q S₂ × Holds S₂ (q .phi2) (φ″-words J R) × Holds S₂ (q .a2) (a″-words J R) × Holds S₂ (q .g) (g-words J W)
     b″-needs = (given₂, φ″-held J R W p q S₁ given₁ S₂ e₂, a″-held J R W p q S₁ given₁ S₂ e₂, g-held J R W p q S₁ given₁ S₂ e₂ k)
 
     -- and b''
@@ -134,8 +134,8 @@ module _ (J R W : List ℕ) (p : EnvironmentParameters) (q : Regions) (S : List 
           kept-trans (scratch-need (parameters J)) S S₂ S₃ (kept-trans (scratch-need (parameters J)) S S₁ S₂ kept (double-prime-kept J R W p q S₁ given₁ S₂ e₂)) (b″-kept J R W p q S₂ given₂ S₃ e₃)
 
 -- the calls that are handed all randomness: a scratch with t, g and h
-module _ (J R W : List ℕ) (p : EnvironmentParameters) (q : Regions) (S : List ℕ) (h : Given J W p q S) (d : Drawn 7 J R) (S₁ : List ℕ) (kept : Kept (scratch-need (parameters J)) S S₁) (k : Aggregated J R W q S₁) where
-  given₇ : Given J W p q S₁
+module _ (J R W : List ℕ) (p : EnvironmentParameters) (q : Regions) (S : List ℕ) (h : Work-given J W p q S) (d : Drawn 7 J R) (S₁ : List ℕ) (kept : Kept (scratch-need (parameters J)) S S₁) (k : Aggregated J R W q S₁) where
+  given₇ : Work-given J W p q S₁
   given₇ = given-kept J W p q (scratch-need (parameters J)) S S₁ kept h
 
   pub challenges-need : Challengeable R p q S₁

@@ -20,7 +20,7 @@ use Rattle.workspace.proofs.Kept.{kept-stored, kept-trans}
 use Rattle.workspace.proofs.Ready.{drawn-fewer, ready-changed, φ″-end, a″-end, φ-end, a-end, g-end, c-end, length-φ″, length-a″, length-φ}
 use Rattle.prover_commit.specs.Words.{t-words, g-words, b″-words, h-words}
 use Rattle.prover_commit.specs.Refusals.{h-refusal, h-check}
-use Rattle.prover_commit.specs.Work.{Given, Where-made, Committed, Weighed, Aggregated, AllMade, Ready-for-h, with-h}
+use Rattle.prover_commit.specs.Work.{Work-given, Where-made, Committed, Weighed, Aggregated, AllMade, Ready-for-h, with-h}
 use Rattle.prover_commit.proofs.Commitments.{from-made, held-stored, held-before, held-after, given-changed, a-room, ready-for-h, given-h, kept-h, stands-h, held-h, h-checked}
 use Rattle.prover_commit.proofs.Lengths.{length-h}
 use Rattle.prover_phi_and_b.specs.Stored.{with-φ, weighed-scratch}
@@ -31,7 +31,7 @@ pub length-weighed : (b : Bool) (J R W : List ℕ) (p : EnvironmentParameters) (
 length-weighed true J R W p q S = length-splice (with-φ J R q S) (q .b2) _ ∙ length-splice S (q .phi) (φ-words J R)
 length-weighed false J R W p q S = length-splice S (q .phi) (φ-words J R)
 
-module _ (J R W : List ℕ) (p : EnvironmentParameters) (q : Regions) (S : List ℕ) (h : Given J W p q S) (d : Drawn 5 J R) where
+module _ (J R W : List ℕ) (p : EnvironmentParameters) (q : Regions) (S : List ℕ) (h : Work-given J W p q S) (d : Drawn 5 J R) where
   abbrev P : Parameters
   P = parameters J
 
@@ -62,7 +62,7 @@ module _ (J R W : List ℕ) (p : EnvironmentParameters) (q : Regions) (S : List 
 
   -- a scratch of which the needed words changed
   module _ (S₁ : List ℕ) (kept : Kept (scratch-need P) S S₁) where
-    given₁ : Given J W p q S₁
+    given₁ : Work-given J W p q S₁
     given₁ = given-changed J W p q S h S₁ (kept .size)
 
     pub double-prime-needs : Ready J p q S₁ × Drawn 3 J R
@@ -79,7 +79,7 @@ module _ (J R W : List ℕ) (p : EnvironmentParameters) (q : Regions) (S : List 
       a″-held : Holds S₂ (q .a2) (a″-words J R)
       a″-held = Scratch.a″-held J R W p q S₁ given₁ S₂ e₂
 
-      pub pass-needs : Given J W p q S₂ × Drawn 5 J R × Holds S₂ (q .phi2) (φ″-words J R)
+      pub pass-needs : Work-given J W p q S₂ × Drawn 5 J R × Holds S₂ (q .phi2) (φ″-words J R)
       pass-needs = (given-changed J W p q S h S₂ size₂, d, φ″-held)
 
       -- then φ
@@ -87,7 +87,7 @@ module _ (J R W : List ℕ) (p : EnvironmentParameters) (q : Regions) (S : List 
         size₃ : length S₃ ≡ length S
         size₃ = ap length e₃ ∙ length-splice S₂ (q .phi) (φ-words J R) ∙ size₂
 
-        pub φ-given : Given J W p q S₃
+        pub φ-given : Work-given J W p q S₃
         φ-given = given-changed J W p q S h S₃ size₃
 
         pub φ-held : Holds S₃ (q .phi) (φ-words J R)
@@ -107,8 +107,8 @@ module _ (J R W : List ℕ) (p : EnvironmentParameters) (q : Regions) (S : List 
             }
 
 -- h after φ: a scratch with t, g and φ
-module _ (J R W : List ℕ) (p : EnvironmentParameters) (q : Regions) (S : List ℕ) (h : Given J W p q S) (S₁ : List ℕ) (kept : Kept (scratch-need (parameters J)) S S₁) (k : Weighed J R W q S₁) where
-  pub weighed-given : Given J W p q S₁
+module _ (J R W : List ℕ) (p : EnvironmentParameters) (q : Regions) (S : List ℕ) (h : Work-given J W p q S) (S₁ : List ℕ) (kept : Kept (scratch-need (parameters J)) S S₁) (k : Weighed J R W q S₁) where
+  pub weighed-given : Work-given J W p q S₁
   weighed-given = given-changed J W p q S h S₁ (kept .size)
 
   g-before-t : q .g ≤ q .t
@@ -149,7 +149,7 @@ module _ (J R W : List ℕ) (p : EnvironmentParameters) (q : Regions) (S : List 
     b-kept : Kept (scratch-need (parameters J)) S S₂
     b-kept = kept-trans (scratch-need (parameters J)) S S₁ S₂ kept (Scratch.b″-kept J R W p q S₁ weighed-given S₂ e)
 
-    b-given : Given J W p q S₂
+    b-given : Work-given J W p q S₂
     b-given = given-changed J W p q S h S₂ (b-kept .size)
 
     pub h-needs : Ready-for-h W p q S₂

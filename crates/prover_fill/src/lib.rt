@@ -25,7 +25,7 @@ ghost use Rattle.workspace.specs.Ready.{Drawn};
 ghost use Rattle.workspace.specs.Holds.{Holds, Kept};
 ghost use Rattle.workspace.specs.Aggregated.{φ″-words};
 ghost use Rattle.prover_commit.specs.Refusals.{work, h-check};
-ghost use Rattle.prover_commit.specs.Work.{Given, Placed, Where-made, AllMade, Filled, Ready-for-h, with-h};
+ghost use Rattle.prover_commit.specs.Work.{Work-given, Placed, Where-made, AllMade, Filled, Ready-for-h, with-h};
 ghost use Rattle.prover_phi_and_b.specs.Stored.{weighed-with-h};
 
 // "16 of h above D's"
@@ -38,7 +38,7 @@ fn check_h(p: EnvironmentParameters, q: Regions, scratch: &[u32]) -> Proved
         cells: slices::triangle(p.multiplicity),
         parts: p.t_1,
     };
-    if common_instances::digits_within(scratch, digits, p.b, p.bound_d).within {
+    if common_instances::digits_within(scratch, digits, p.b, p.bound_d) {
         Proved::Made
     } else {
         Proved::Refused(Refusal::DigitsOfH)
@@ -54,7 +54,7 @@ fn commit_with_b_double_prime(
     q: Regions,
     scratch: &mut [u32],
 ) -> Proved
-    requires { ⌜ Given (now job) (now witness) p q (now scratch) × Drawn 3 (now job) (now randomness) ⌝ }
+    requires { ⌜ Work-given (now job) (now witness) p q (now scratch) × Drawn 3 (now job) (now randomness) ⌝ }
     ensures { λ result. ⌜ ofProved result ≡ work (now (job .entry)) (now (randomness .entry)) (now (witness .entry)) round₃ ⌝ }
     ensures { λ result. ⌜ Kept (scratch-need (parameters (now (job .entry)))) (now (scratch .entry)) (now (scratch .exit)) ⌝ }
     ensures { λ result. ⌜ Where-made result (Filled (now (job .entry)) (now (randomness .entry)) (now (witness .entry)) q (now (scratch .exit)) C.Round3) ⌝ }
@@ -122,7 +122,7 @@ fn weigh(
     scratch: &mut [u32],
     with_b: bool,
 ) -> Proved
-    requires { ⌜ Given (now job) (now witness) p q (now scratch) × Drawn 5 (now job) (now randomness) × Holds (now scratch) (q .phi2) (φ″-words (now job) (now randomness)) ⌝ }
+    requires { ⌜ Work-given (now job) (now witness) p q (now scratch) × Drawn 5 (now job) (now randomness) × Holds (now scratch) (q .phi2) (φ″-words (now job) (now randomness)) ⌝ }
     ensures { λ result. ⌜ ofProved result ≡ h-check p q (now (scratch .exit)) ⌝ }
     ensures { λ result. ⌜ Kept (q .phi) (weighed-with-h «with_b» (now (job .entry)) (now (randomness .entry)) (now (witness .entry)) p q (now (scratch .entry))) (now (scratch .exit)) ⌝ }
 {
@@ -143,7 +143,7 @@ fn commit_with_h(
     q: Regions,
     scratch: &mut [u32],
 ) -> Proved
-    requires { ⌜ Given (now job) (now witness) p q (now scratch) × Drawn 5 (now job) (now randomness) ⌝ }
+    requires { ⌜ Work-given (now job) (now witness) p q (now scratch) × Drawn 5 (now job) (now randomness) ⌝ }
     ensures { λ result. ⌜ ofProved result ≡ work (now (job .entry)) (now (randomness .entry)) (now (witness .entry)) round₄ ⌝ }
     ensures { λ result. ⌜ Kept (scratch-need (parameters (now (job .entry)))) (now (scratch .entry)) (now (scratch .exit)) ⌝ }
     ensures { λ result. ⌜ Where-made result (Filled (now (job .entry)) (now (randomness .entry)) (now (witness .entry)) q (now (scratch .exit)) C.Round4) ⌝ }
@@ -166,7 +166,7 @@ fn commit_with_b_and_h(
     q: Regions,
     scratch: &mut [u32],
 ) -> Proved
-    requires { ⌜ Given (now job) (now witness) p q (now scratch) × Drawn 5 (now job) (now randomness) ⌝ }
+    requires { ⌜ Work-given (now job) (now witness) p q (now scratch) × Drawn 5 (now job) (now randomness) ⌝ }
     ensures { λ result. ⌜ ofProved result ≡ work (now (job .entry)) (now (randomness .entry)) (now (witness .entry)) round₄ ⌝ }
     ensures { λ result. ⌜ Kept (scratch-need (parameters (now (job .entry)))) (now (scratch .entry)) (now (scratch .exit)) ⌝ }
     ensures { λ result. ⌜ Where-made result (AllMade (now (job .entry)) (now (randomness .entry)) (now (witness .entry)) q (now (scratch .exit))) ⌝ }
@@ -189,7 +189,7 @@ fn commit_with_challenges(
     q: Regions,
     scratch: &mut [u32],
 ) -> Proved
-    requires { ⌜ Given (now job) (now witness) p q (now scratch) × Drawn 7 (now job) (now randomness) ⌝ }
+    requires { ⌜ Work-given (now job) (now witness) p q (now scratch) × Drawn 7 (now job) (now randomness) ⌝ }
     ensures { λ result. ⌜ ofProved result ≡ work (now (job .entry)) (now (randomness .entry)) (now (witness .entry)) round₅ ⌝ }
     ensures { λ result. ⌜ Kept (scratch-need (parameters (now (job .entry)))) (now (scratch .entry)) (now (scratch .exit)) ⌝ }
     ensures { λ result. ⌜ Where-made result (Filled (now (job .entry)) (now (randomness .entry)) (now (witness .entry)) q (now (scratch .exit)) C.Round5) ⌝ }
@@ -212,7 +212,7 @@ fn commit_for_all(
     q: Regions,
     scratch: &mut [u32],
 ) -> Proved
-    requires { ⌜ Given (now job) (now witness) p q (now scratch) × Drawn 7 (now job) (now randomness) ⌝ }
+    requires { ⌜ Work-given (now job) (now witness) p q (now scratch) × Drawn 7 (now job) (now randomness) ⌝ }
     ensures { λ result. ⌜ ofProved result ≡ work (now (job .entry)) (now (randomness .entry)) (now (witness .entry)) whole ⌝ }
     ensures { λ result. ⌜ Kept (scratch-need (parameters (now (job .entry)))) (now (scratch .entry)) (now (scratch .exit)) ⌝ }
     ensures { λ result. ⌜ Where-made result (Filled (now (job .entry)) (now (randomness .entry)) (now (witness .entry)) q (now (scratch .exit)) C.Whole) ⌝ }
@@ -236,7 +236,7 @@ pub fn fill(
     q: Regions,
     scratch: &mut [u32],
 ) -> Proved
-    requires { ⌜ Given (now job) (now witness) p q (now scratch) × Drawn (callOf call .handed) (now job) (now randomness) ⌝ }
+    requires { ⌜ Work-given (now job) (now witness) p q (now scratch) × Drawn (callOf call .handed) (now job) (now randomness) ⌝ }
     ensures { λ result. ⌜ ofProved result ≡ work (now (job .entry)) (now (randomness .entry)) (now (witness .entry)) (callOf call) ⌝ }
     ensures { λ result. ⌜ Kept (scratch-need (parameters (now (job .entry)))) (now (scratch .entry)) (now (scratch .exit)) ⌝ }
     ensures { λ result. ⌜ Where-made result (Filled (now (job .entry)) (now (randomness .entry)) (now (witness .entry)) q (now (scratch .exit)) call) ⌝ }

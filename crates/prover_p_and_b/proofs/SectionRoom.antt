@@ -13,7 +13,7 @@ use Rattle.relation.specs.declared.env_params.EnvironmentParameters.{Environmen
 use Rattle.relation.specs.Parameters.{parametersOf}
 use Rattle.workspace.specs.Ready.{Drawn}
 use Rattle.workspace.proofs.Ready.{ready-sized, Π-within}
-use Rattle.prover_commit.specs.Work.{Given}
+use Rattle.prover_commit.specs.Work.{Work-given}
 use Rattle.prover_commit.proofs.Room.{s-room}
 use Rattle.prover_p_and_b.specs.Sections.{Projects}
 use Rattle.prover_p_and_b.proofs.TranscriptSections.{length-one, length-sections-append}
@@ -87,7 +87,7 @@ p-room p R W h at e =
     up′ n k = omega arith
 
 -- the projection of a call that is handed the first section of randomness
-pub projects : (m : ℕ) (J R W : List ℕ) (p : EnvironmentParameters) (q : Regions) (S : List ℕ) → Given J W p q S → Drawn m J R → 0 < m → Projects p R W
+pub projects : (m : ℕ) (J R W : List ℕ) (p : EnvironmentParameters) (q : Regions) (S : List ℕ) → Work-given J W p q S → Drawn m J R → 0 < m → Projects p R W
 projects m J R W p q S h d f =
     record {
       sized = ready-sized J p q S (h .ready);

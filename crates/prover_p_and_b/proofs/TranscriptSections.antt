@@ -9,7 +9,7 @@ use lib.Seq.{sets}
 use Rattle.lists.specs.Part.{part, splice}
 use Rattle.lists.proofs.Splice.{length-splice, splice-append}
 use Rattle.protocol.specs.Layout.{sections}
-use Rattle.prover_p_and_b.specs.Sections.{Room, Put}
+use Rattle.prover_p_and_b.specs.Sections.{SectionsRoom, Put}
 
 -- sections after sections
 pub sections-append : (xs ys : List (List ℕ)) → sections (xs ++ ys) ≡ sections xs ++ sections ys
@@ -77,5 +77,5 @@ pub put-after : (o o₁ o₂ : List ℕ) (at next last : ℕ) (xs ys : List (Lis
 put-after o o₁ o₂ at next last xs ys a b = (place-after at next last xs ys (a .0) (b .0), section-after o o₁ o₂ at next xs ys (a .1) (b .1) (a .0))
 
 -- and their room
-pub put-room : (o o₁ : List ℕ) (at next : ℕ) (xs ys : List (List ℕ)) → Room at (xs ++ ys) o → Put at next o o₁ xs → Room next ys o₁
+pub put-room : (o o₁ : List ℕ) (at next : ℕ) (xs ys : List (List ℕ)) → SectionsRoom at (xs ++ ys) o → Put at next o o₁ xs → SectionsRoom next ys o₁
 put-room o o₁ at next xs ys h a = room-after o o₁ at next xs ys h (a .1) (a .0)

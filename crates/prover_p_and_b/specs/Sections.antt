@@ -25,8 +25,8 @@ module _ (P : Parameters) where
     b″-in = part scratch (q .b2) (64 * L)
 
 -- room for sections from a place on
-abbrev pub Room : ℕ → List (List ℕ) → List ℕ → Type 0
-Room at ws output = at + length (sections ws) ≤ length output
+abbrev pub SectionsRoom : ℕ → List (List ℕ) → List ℕ → Type 0
+SectionsRoom at ws output = at + length (sections ws) ≤ length output
 
 -- sections stored from a place on, and the place after them
 abbrev pub Put : (at next : ℕ) → (entry exit : List ℕ) → List (List ℕ) → Type 0

@@ -6,7 +6,7 @@ use sizes::offsets;
 ghost use mathlib.Core.List.{[], _∷_};
 ghost use Rattle.relation.specs.Parameters.{parametersOf};
 ghost use Rattle.prover_commit.specs.Work.{Placed};
-ghost use Rattle.prover_p_and_b.specs.Sections.{p-in, b″-in, Room, Put, Projects};
+ghost use Rattle.prover_p_and_b.specs.Sections.{p-in, b″-in, SectionsRoom, Put, Projects};
 
 // "p = Σ Π_i·s_i over coefficients"
 pub fn compute_p(
@@ -16,7 +16,7 @@ pub fn compute_p(
     output: &mut [u32],
     at: usize,
 ) -> usize
-    requires { ⌜ Projects p (now randomness) (now witness) × Room at (p-in (parametersOf p) (now randomness) (now witness) ∷ []) (now output) ⌝ }
+    requires { ⌜ Projects p (now randomness) (now witness) × SectionsRoom at (p-in (parametersOf p) (now randomness) (now witness) ∷ []) (now output) ⌝ }
     ensures { λ next. ⌜ Put at next (now (output .entry)) (now (output .exit)) (p-in (parametersOf p) (now (randomness .entry)) (now (witness .entry)) ∷ []) ⌝ }
 {
     let pi_at = offsets::of_randomness(p, 0);
@@ -43,7 +43,7 @@ pub fn put_b_double_prime(
     output: &mut [u32],
     at: usize,
 ) -> usize
-    requires { ⌜ Placed p q (now scratch) × Room at (b″-in (parametersOf p) q (now scratch) ∷ []) (now output) ⌝ }
+    requires { ⌜ Placed p q (now scratch) × SectionsRoom at (b″-in (parametersOf p) q (now scratch) ∷ []) (now output) ⌝ }
     ensures { λ next. ⌜ Put at next (now (output .entry)) (now (output .exit)) (b″-in (parametersOf p) q (now (scratch .entry)) ∷ []) ⌝ }
 {
     let count = 64 * p.const_agg_length;

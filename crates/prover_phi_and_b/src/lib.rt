@@ -7,7 +7,7 @@ ghost use mathlib.Core.Path.{_≡_};
 ghost use Rattle.workspace.specs.Ready.{Drawn};
 ghost use Rattle.workspace.specs.Holds.{Holds};
 ghost use Rattle.workspace.specs.Aggregated.{φ″-words};
-ghost use Rattle.prover_commit.specs.Work.{Given};
+ghost use Rattle.prover_commit.specs.Work.{Work-given};
 ghost use Rattle.prover_phi_and_b.specs.Stored.{with-φ, with-b″};
 
 // φ of the ring constraints and of the φ'' in its region, and then b'' of the a'', φ'' and g in theirs.
@@ -19,7 +19,7 @@ pub fn phi_and_b(
     q: Regions,
     scratch: &mut [u32],
 )
-    requires { ⌜ Given (now job) (now witness) p q (now scratch) × Drawn 5 (now job) (now randomness) × Holds (now scratch) (q .phi2) (φ″-words (now job) (now randomness)) ⌝ }
+    requires { ⌜ Work-given (now job) (now witness) p q (now scratch) × Drawn 5 (now job) (now randomness) × Holds (now scratch) (q .phi2) (φ″-words (now job) (now randomness)) ⌝ }
     ensures { λ _. ⌜ now (scratch .exit) ≡ with-b″ (with-φ (now (job .entry)) (now (randomness .entry)) q (now (scratch .entry))) (now (witness .entry)) p q ⌝ }
 {
     one_pass::phi_and_b(

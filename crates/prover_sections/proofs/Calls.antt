@@ -19,7 +19,7 @@ use Rattle.relation.specs.Parameters.{parametersOf}
 use Rattle.prover_commit.specs.Words.{X, s, u₁-words, p-words, b″-words, u₂-words, z-words, t-words, g-words, h-words}
 use Rattle.prover_commit.specs.Refusals.{makes}
 use Rattle.prover_commit.specs.Work.{Filled}
-use Rattle.prover_p_and_b.specs.Sections.{p-in, b″-in, Room}
+use Rattle.prover_p_and_b.specs.Sections.{p-in, b″-in, SectionsRoom}
 use Rattle.prover_sections.specs.Sections.{u₁-in, u₂-in, last-in, all-in}
 use Rattle.prover_sections.proofs.SectionMade.{u₁-made, p-made, b″-made, u₂-made, z-made, t-made, g-made, h-made}
 
@@ -87,7 +87,7 @@ module _ (J R W : List ℕ) where
     pub filled-known : (q : Regions) (S : List ℕ) → Filled J R W q S call → Filled J R W q S known
     filled-known q S = subst (Filled J R W q S) told
 
-    pub room-known : (O : List ℕ) (ws : List (List ℕ)) → span (made-sections (callOf call) (parameters J)) ≤ length O → sections ws ≡ makes J R W (callOf known) → Room 0 ws O
+    pub room-known : (O : List ℕ) (ws : List (List ℕ)) → span (made-sections (callOf call) (parameters J)) ≤ length O → sections ws ≡ makes J R W (callOf known) → SectionsRoom 0 ws O
     room-known O ws h e =
         at-zero (length (sections ws)) (length O)
         (subst (λ n. n ≤ length O) (sym (ap length (e ∙ ap (λ c. makes J R W (callOf c)) (sym told)) ∙ length-made (callOf call) (X J R) (s J W))) h)

@@ -20,8 +20,8 @@ ghost use Rattle.admission.specs.Admission.{callOf};
 ghost use Rattle.relation.specs.Parameters.{parametersOf};
 ghost use Rattle.workspace.specs.Ready.{Ready, Drawn};
 ghost use Rattle.prover_commit.specs.Refusals.{makes};
-ghost use Rattle.prover_commit.specs.Work.{Given, Placed, Filled};
-ghost use Rattle.prover_p_and_b.specs.Sections.{Room, Put, Vectors, Projects};
+ghost use Rattle.prover_commit.specs.Work.{Work-given, Placed, Filled};
+ghost use Rattle.prover_p_and_b.specs.Sections.{SectionsRoom, Put, Vectors, Projects};
 ghost use Rattle.prover_sections.specs.Sections.{u₁-in, u₂-in, z-in, t-g-h-in, last-in, all-in};
 
 // "u1 = B·digits(t) + C·digits(g)"
@@ -33,7 +33,7 @@ fn compute_u1(
     output: &mut [u32],
     at: usize,
 ) -> usize
-    requires { ⌜ Ready (now job) p q (now scratch) × Room at (u₁-in (parametersOf p) q (now scratch) (now job) ∷ []) (now output) ⌝ }
+    requires { ⌜ Ready (now job) p q (now scratch) × SectionsRoom at (u₁-in (parametersOf p) q (now scratch) (now job) ∷ []) (now output) ⌝ }
     ensures { λ next. ⌜ Put at next (now (output .entry)) (now (output .exit)) (u₁-in (parametersOf p) q (now (scratch .entry)) (now (job .entry)) ∷ []) ⌝ }
 {
     let t = Digits {
@@ -74,7 +74,7 @@ fn compute_u2(
     output: &mut [u32],
     at: usize,
 ) -> usize
-    requires { ⌜ Ready (now job) p q (now scratch) × Room at (u₂-in (parametersOf p) q (now scratch) (now job) ∷ []) (now output) ⌝ }
+    requires { ⌜ Ready (now job) p q (now scratch) × SectionsRoom at (u₂-in (parametersOf p) q (now scratch) (now job) ∷ []) (now output) ⌝ }
     ensures { λ next. ⌜ Put at next (now (output .entry)) (now (output .exit)) (u₂-in (parametersOf p) q (now (scratch .entry)) (now (job .entry)) ∷ []) ⌝ }
 {
     let parts = p.t_1;
@@ -99,7 +99,7 @@ fn compute_z(
     output: &mut [u32],
     at: usize,
 ) -> usize
-    requires { ⌜ Placed p q (now scratch) × Vectors p (now witness) × Room at (z-in (parametersOf p) q (now scratch) (now witness) ∷ []) (now output) ⌝ }
+    requires { ⌜ Placed p q (now scratch) × Vectors p (now witness) × SectionsRoom at (z-in (parametersOf p) q (now scratch) (now witness) ∷ []) (now output) ⌝ }
     ensures { λ next. ⌜ Put at next (now (output .entry)) (now (output .exit)) (z-in (parametersOf p) q (now (scratch .entry)) (now (witness .entry)) ∷ []) ⌝ }
 {
     let vectors = p.multiplicity;
@@ -126,7 +126,7 @@ fn put_t_g_h(
     output: &mut [u32],
     at: usize,
 ) -> usize
-    requires { ⌜ Placed p q (now scratch) × Room at (t-g-h-in (parametersOf p) q (now scratch)) (now output) ⌝ }
+    requires { ⌜ Placed p q (now scratch) × SectionsRoom at (t-g-h-in (parametersOf p) q (now scratch)) (now output) ⌝ }
     ensures { λ next. ⌜ Put at next (now (output .entry)) (now (output .exit)) (t-g-h-in (parametersOf p) q (now (scratch .entry))) ⌝ }
 {
     let cells = 64 * (p.multiplicity * p.kappa);
@@ -148,7 +148,7 @@ fn put_z_t_g_h(
     output: &mut [u32],
     at: usize,
 ) -> usize
-    requires { ⌜ Placed p q (now scratch) × Vectors p (now witness) × Room at (last-in (parametersOf p) q (now scratch) (now witness)) (now output) ⌝ }
+    requires { ⌜ Placed p q (now scratch) × Vectors p (now witness) × SectionsRoom at (last-in (parametersOf p) q (now scratch) (now witness)) (now output) ⌝ }
     ensures { λ next. ⌜ Put at next (now (output .entry)) (now (output .exit)) (last-in (parametersOf p) q (now (scratch .entry)) (now (witness .entry))) ⌝ }
 {
     let t_at = compute_z(witness, p, q, scratch, output, at);
@@ -166,7 +166,7 @@ fn put_all(
     output: &mut [u32],
 ) -> usize
     requires { ⌜ Ready (now job) p q (now scratch) × Projects p (now randomness) (now witness) ⌝ }
-    requires { ⌜ Room 0 (all-in (parametersOf p) q (now scratch) (now job) (now randomness) (now witness)) (now output) ⌝ }
+    requires { ⌜ SectionsRoom 0 (all-in (parametersOf p) q (now scratch) (now job) (now randomness) (now witness)) (now output) ⌝ }
     ensures { λ next. ⌜ Put 0 next (now (output .entry)) (now (output .exit)) (all-in (parametersOf p) q (now (scratch .entry)) (now (job .entry)) (now (randomness .entry)) (now (witness .entry))) ⌝ }
 {
     let p_at = compute_u1(job, p, q, scratch, output, 0);
@@ -187,7 +187,7 @@ pub fn put(
     scratch: &[u32],
     output: &mut [u32],
 ) -> usize
-    requires { ⌜ Given (now job) (now witness) p q (now scratch) × Drawn (callOf call .handed) (now job) (now randomness) ⌝ }
+    requires { ⌜ Work-given (now job) (now witness) p q (now scratch) × Drawn (callOf call .handed) (now job) (now randomness) ⌝ }
     requires { ⌜ Filled (now job) (now randomness) (now witness) q (now scratch) call × (span (made-sections (callOf call) (parameters (now job))) ≤ length (now output)) ⌝ }
     ensures { λ _. ⌜ now (output .exit) ≡ splice (now (output .entry)) 0 (makes (now (job .entry)) (now (randomness .entry)) (now (witness .entry)) (callOf call)) ⌝ }
 {

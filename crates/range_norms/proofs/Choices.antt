@@ -13,7 +13,7 @@ use Rattle.lists.specs.Sum.{Σ}
 use Rattle.lists.proofs.Sum.{Σ-le}
 use Rattle.lists.proofs.Table.{length-table, getD-table, table-ext}
 use Rattle.lists.proofs.Splice.{length-part, getD-part}
-use Rattle.protocol.specs.Ranges.{number-at, square, norm, Choice, Smallest, Largest}
+use Rattle.protocol.specs.Ranges.{number-at, square, norm, Choice, SmallestNorm, LargestNorm}
 use Rattle.range_norms.specs.Ends.{nearest, farthest, picked}
 use Rattle.range_norms.proofs.Ends.{nearest-least, farthest-most, nearest-from-low, nearest-to-high, farthest-from-low, farthest-to-high}
 use Rattle.range_norms.proofs.Picked.{norm-table}
@@ -44,7 +44,7 @@ module _ (lows highs : List ℤ) (ordered : Ordered lows highs) where
   unfolding norm
   norm-choice xs c = ap (λ n. Σ n (λ j. square (number-at xs j))) (c .count)
 
-  pub smallest : Smallest lows highs (norm (each nearest lows highs))
+  pub smallest : SmallestNorm lows highs (norm (each nearest lows highs))
   smallest = record {
     choice = each nearest lows highs;
     chosen = is-choice nearest nearest-from-low nearest-to-high;
@@ -58,7 +58,7 @@ module _ (lows highs : List ℤ) (ordered : Ordered lows highs) where
           (Σ-le (length lows) (λ j. square (nearest (number-at lows j) (number-at highs j))) (λ j. square (number-at xs j))
           (λ j h. square-le (nearest (number-at lows j) (number-at highs j)) (number-at xs j) (nearest-least (number-at lows j) (number-at highs j) (number-at xs j) (c .from-low j h) (c .to-high j h))))
 
-  pub largest : Largest lows highs (norm (each farthest lows highs))
+  pub largest : LargestNorm lows highs (norm (each farthest lows highs))
   largest = record {
     choice = each farthest lows highs;
     chosen = is-choice farthest farthest-from-low farthest-to-high;
@@ -88,8 +88,8 @@ module _ (lows highs : List ℤ) (from count : ℕ) (low-fits : from + count ≤
       ∙ table-ext count (λ j. pick (number-at (part lows from count) j) (number-at (part highs from count) j)) (λ j. pick (number-at lows (from + j)) (number-at highs (from + j)))
       (λ j m. rw (getD-part (pos 0) lows from count j m, getD-part (pos 0) highs from count j m))
 
-  pub run-smallest : Smallest (part lows from count) (part highs from count) (norm (picked nearest lows highs from count))
-  run-smallest = subst (λ xs. Smallest (part lows from count) (part highs from count) (norm xs)) (picked-each nearest) (smallest (part lows from count) (part highs from count) part-ordered)
+  pub run-smallest : SmallestNorm (part lows from count) (part highs from count) (norm (picked nearest lows highs from count))
+  run-smallest = subst (λ xs. SmallestNorm (part lows from count) (part highs from count) (norm xs)) (picked-each nearest) (smallest (part lows from count) (part highs from count) part-ordered)
 
-  pub run-largest : Largest (part lows from count) (part highs from count) (norm (picked farthest lows highs from count))
-  run-largest = subst (λ xs. Largest (part lows from count) (part highs from count) (norm xs)) (picked-each farthest) (largest (part lows from count) (part highs from count) part-ordered)
+  pub run-largest : LargestNorm (part lows from count) (part highs from count) (norm (picked farthest lows highs from count))
+  run-largest = subst (λ xs. LargestNorm (part lows from count) (part highs from count) (norm xs)) (picked-each farthest) (largest (part lows from count) (part highs from count) part-ordered)

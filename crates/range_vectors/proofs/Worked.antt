@@ -12,14 +12,14 @@ use Rattle.lists.specs.Part.{part}
 use Rattle.definitions.specs.declared.answers.U128.{U128}
 use Rattle.definitions.specs.Answer.{value128}
 use Rattle.definitions.proofs.Modulo.{upper-part, lower-part}
-use Rattle.protocol.specs.Ranges.{norm, Smallest, Largest, Meets, Holds}
+use Rattle.protocol.specs.Ranges.{norm, SmallestNorm, LargestNorm, Meets, Holds}
 use Rattle.protocol.proofs.Ranges.{meets-every, meets-some, meets-none}
 use Rattle.range_norms.specs.Ends.{nearest, farthest, picked}
 use Rattle.range_norms.proofs.Choices.{Ordered, run-smallest, run-largest}
 use Rattle.range_vectors.specs.Vectors.{meets-by, worked}
 
 -- the number is that of the choices
-meets-holds : (bound : ℕ) (lows highs : List ℤ) (m k : ℕ) → Smallest lows highs m → Largest lows highs k → Meets bound lows highs (meets-by bound m k)
+meets-holds : (bound : ℕ) (lows highs : List ℤ) (m k : ℕ) → SmallestNorm lows highs m → LargestNorm lows highs k → Meets bound lows highs (meets-by bound m k)
 meets-holds bound lows highs m k s l = by (leb k bound) refl (leb m bound) refl
   where
     by : (a : Bool) → leb k bound ≡ a → (b : Bool) → leb m bound ≡ b → Meets bound lows highs (cond a 1 (cond b 2 3))

@@ -1,6 +1,6 @@
 // The refusals after the job's: 11, 37 and 36.
 use crate::answers::RangesChecked;
-use admission::answers::Checked;
+use admission::answers::SliceChecked;
 use definitions::answers::Refusal;
 use range_pairs::first_beyond;
 use range_pairs::first_crossed;
@@ -9,20 +9,20 @@ ghost use Prim.Native.Nat.{_≤_};
 ghost use lib.ListN.{length};
 ghost use Rattle.definitions.specs.Answer.{_then_};
 ghost use Rattle.protocol.specs.Ranges.{length-refusal, beyond-refusal, crossed-refusal};
-ghost use Rattle.admission.specs.Admission.{ofChecked};
+ghost use Rattle.admission.specs.Admission.{ofSliceChecked};
 ghost use Rattle.ranges.specs.Answers.{ofRangesChecked, lists-refusal};
 
 // 11: a list of another length than needed.
-fn check_length(need: usize, handed: usize) -> Checked
-    ensures { λ r. ⌜ ofChecked r ≡ length-refusal need handed ⌝ }
+fn check_length(need: usize, handed: usize) -> SliceChecked
+    ensures { λ r. ⌜ ofSliceChecked r ≡ length-refusal need handed ⌝ }
 {
     if handed < need {
-        return Checked::Refused(Refusal::WitnessLayout(handed));
+        return SliceChecked::Refused(Refusal::WitnessLayout(handed));
     }
     if need < handed {
-        return Checked::Refused(Refusal::WitnessLayout(need));
+        return SliceChecked::Refused(Refusal::WitnessLayout(need));
     }
-    Checked::Fine
+    SliceChecked::Fine
 }
 
 // 37 over all pairs, then 36.
@@ -46,10 +46,10 @@ pub fn check(lows: &[i64], highs: &[i64], count: usize) -> RangesChecked
     ensures { λ r. ⌜ ofRangesChecked r ≡ lists-refusal count (now (lows .entry)) (now (highs .entry)) ⌝ }
 {
     match check_length(count, lows.len()) {
-        Checked::Refused(refusal) => RangesChecked::Refused(refusal),
-        Checked::Fine => match check_length(count, highs.len()) {
-            Checked::Refused(refusal) => RangesChecked::Refused(refusal),
-            Checked::Fine => check_pairs(lows, highs, count),
+        SliceChecked::Refused(refusal) => RangesChecked::Refused(refusal),
+        SliceChecked::Fine => match check_length(count, highs.len()) {
+            SliceChecked::Refused(refusal) => RangesChecked::Refused(refusal),
+            SliceChecked::Fine => check_pairs(lows, highs, count),
         },
     }
 }

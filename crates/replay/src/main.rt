@@ -1,13 +1,13 @@
 // Replays the published Rust's recorded answers on the leaf calls and on the calls on whole slices.
 // It prints how many of each kind are the same, and a `differs` line for each that is not.
 use replay_calls::calls;
-use replay_calls::slices;
 use replay_leaves::leaves;
 use replay_records::reading;
 use replay_records::reading::Next;
 use replay_records::words;
 use replay_report::counts;
 use replay_report::report;
+use replay_slices::slices;
 
 // The kind of a file's last record, whose body counts the others.
 const END: u32 = 63;

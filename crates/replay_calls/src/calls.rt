@@ -1,14 +1,13 @@
 // Each recorded call on whole slices, made again: its answer and the words that it leaves are compared with the recorded ones.
-use crate::marks;
-use crate::slices;
 use call_answers::verdicts::LabradorAnswer;
 use call_answers::verdicts::LabradorVerdict;
 use labrador::calls;
 use labrador::needs;
 use replay_records::words;
-
-// The verifier's number among the calls; 0 is the prover, 1 to 5 its rounds.
-const VERIFY: u32 = 6;
+use replay_slices::marks;
+use replay_slices::sections;
+use replay_slices::sections::VERIFY;
+use replay_slices::slices;
 
 // What a call leaves: both buffers as they were, zeros in the output, or words of the transcript in the output.
 const UNTOUCHED: u32 = 0;
@@ -102,13 +101,9 @@ fn same_call(body: &[u8], run: &[u32], scratch: &mut [u32], output: &mut [u32]) 
 
 // Whether a worked call leaves what is recorded in the output.
 fn same_output(body: &[u8], run: &[u32], output: &[u32]) -> bool {
-    let length = words::at(body, 17) as usize;
     match words::at(body, 15) {
-        ZEROS => marks::zero_to(output, length),
-        OF_TRANSCRIPT => {
-            let part = slices::of_transcript(run, words::at(body, 16), length);
-            marks::starts_with(output, part, length)
-        }
+        ZEROS => marks::zero_to(output, words::at(body, 17) as usize),
+        OF_TRANSCRIPT => sections::same_made(body, run, output),
         _ => false,
     }
 }
@@ -121,6 +116,7 @@ fn same_left(body: &[u8], run: &[u32], scratch: &[u32], output: &[u32]) -> bool 
     let need = needs::labrador_scratch_need(slices::slice(run, 0));
     need.number == 0
         && marks::zero_to(scratch, need.words as usize)
+        && sections::whole(body, run)
         && same_output(body, run, output)
 }
 

@@ -62,20 +62,20 @@ pub fn decompose(a: Rq, base: u32, parts: usize) -> [[u32; 64]; 32]
 }
 
 // The size left over of each coefficient after its digits (document 02, Item 5).
-pub fn left_over(a: Rq, base: u32, parts: usize) -> Rq
+pub fn left_over(a: Rq, base: u32, parts: usize) -> [u32; 64]
     requires { ⌜ 1 < base ⌝ }
-    ensures { λ r. ⌜ r .coeffs ≡ leftRow base parts (a .coeffs) ⌝ }
+    ensures { λ r. ⌜ r ≡ leftRow base parts (a .coeffs) ⌝ }
 {
     let coeffs = a.coeffs;
-    let mut sizes = sizes_of(coeffs);
+    let mut left = sizes_of(coeffs);
     let mut k = 0;
     while k < parts {
-        let taken = take_row(coeffs, base, sizes);
+        let taken = take_row(coeffs, base, left);
         let next = taken.sizes;
-        sizes = next;
+        left = next;
         k += 1;
     }
-    Rq { coeffs: sizes }
+    left
 }
 
 // Whether nothing goes on: all sizes are zero.

@@ -7,8 +7,8 @@ use Rattle.definitions.specs.Zq.{Q}
 use Rattle.definitions.specs.Rq.{coeff}
 
 -- each sum has room for one more
-abbrev pub Room : List ℕ → Type 0
-Room sums = (k : ℕ) → k < 64 → getD sums k 0 ≤ 2 ^ 63
+abbrev pub SumsRoom : List ℕ → Type 0
+SumsRoom sums = (k : ℕ) → k < 64 → getD sums k 0 ≤ 2 ^ 63
 
 -- an element added to the sums: each is the same modulo Q, and grows by so much at most
 pub record Added (growth : ℕ) (sums element result : List ℕ) : Type 0 where

@@ -8,12 +8,12 @@ ghost use Rattle.lists.specs.Table.{table};
 ghost use Rattle.lists.specs.Part.{part};
 ghost use Rattle.definitions.specs.Zq.{Q};
 ghost use Rattle.definitions.specs.Rq.{rmul, rscale};
-ghost use Rattle.rq_product.specs.Sums.{Room, Added};
+ghost use Rattle.rq_product.specs.Sums.{SumsRoom, Added};
 ghost use Rattle.rq_product.specs.Product.{growth};
 
 // The product of two elements added to the sums.
 pub fn add_product(sums: [u64; 64], a: [u32; 64], b: [u32; 64]) -> [u64; 64]
-    requires { ⌜ Room sums ⌝ }
+    requires { ⌜ SumsRoom sums ⌝ }
     ensures { λ r. ⌜ Added growth sums (rmul a b) r ⌝ }
 {
     let y = product::extend(a);
@@ -32,7 +32,7 @@ pub fn add_product(sums: [u64; 64], a: [u32; 64], b: [u32; 64]) -> [u64; 64]
 
 // The product of the element at `at` with a number added to the sums, each product folded once.
 pub fn add_scaled(sums: &mut [u64], words: &[u32], at: usize, factor: u32)
-    requires { ⌜ (length (now sums) ≡ 64) × (at + 64 ≤ length (now words)) × Room (now sums) ⌝ }
+    requires { ⌜ (length (now sums) ≡ 64) × (at + 64 ≤ length (now words)) × SumsRoom (now sums) ⌝ }
     ensures { λ _. ⌜ (length (now (sums .exit)) ≡ 64) × Added growth (now (sums .entry)) (rscale (part (now (words .entry)) at 64) factor) (now (sums .exit)) ⌝ }
 {
     let c = wide(factor);

@@ -34,14 +34,14 @@ pub record InJob (J : List ℕ) (x : Run) (p : EnvironmentParameters) : Type 0 w
   pub within : x .end ≤ parameters J .r
 
 -- what the work of a call on a run needs: its vectors, and an output that is long enough for the section that it makes
-pub record Given (J : List ℕ) (x : Run) (S : List ℕ) (made : List Section) (output : ℕ) (p : EnvironmentParameters) : Type 0 where
+pub record Run-given (J : List ℕ) (x : Run) (S : List ℕ) (made : List Section) (output : ℕ) (p : EnvironmentParameters) : Type 0 where
   pub in-job : InJob J x p
   pub vectors : Laid S 0 (vectors-section (parameters J) x)
   pub output-fits : span made ≤ output
 
 -- and a scratch that is
 pub record Runnable (J : List ℕ) (x : Run) (S : List ℕ) (scratch : ℕ) (made : List Section) (output : ℕ) (p : EnvironmentParameters) : Type 0 where
-  pub given : Given J x S made output p
+  pub given : Run-given J x S made output p
   pub scratch-fits : scratch-need (parameters J) ≤ scratch
 
 -- and its projection words

@@ -1,6 +1,6 @@
 // The order of refusals before the work of the calls on runs (document 02, Item 10), as one answer.
 use admission::answers::Admitted;
-use admission::answers::Checked;
+use admission::answers::SliceChecked;
 use admission::job;
 use definitions::answers::Refusal;
 use relation::env_params::EnvironmentParameters;
@@ -60,8 +60,8 @@ pub fn admit_projection(
             let matrices = 16384 * p.rank * count;
             let words = 64 * (count * p.rank);
             match check_given(p, matrices, projection, words, vectors, scratch, output) {
-                Checked::Refused(refusal) => RunAdmitted::Refused(refusal),
-                Checked::Fine => RunAdmitted::Fit(p),
+                SliceChecked::Refused(refusal) => RunAdmitted::Refused(refusal),
+                SliceChecked::Fine => RunAdmitted::Fit(p),
             }
         }
     }
@@ -87,8 +87,8 @@ pub fn admit_rows(
             let need = 1 + 64 * (count * p.kappa);
             let words = 64 * (count * p.rank);
             match check_lent(p, words, vectors, scratch, need, output) {
-                Checked::Refused(refusal) => RunAdmitted::Refused(refusal),
-                Checked::Fine => RunAdmitted::Fit(p),
+                SliceChecked::Refused(refusal) => RunAdmitted::Refused(refusal),
+                SliceChecked::Fine => RunAdmitted::Fit(p),
             }
         }
     }

@@ -1,5 +1,5 @@
 // The slices of the calls on runs, one section each (document 02, Item 10): 7 and 8, 11 and 12, 9 and 10; then the lent buffers, 1 and 2.
-use admission::answers::Checked;
+use admission::answers::SliceChecked;
 use definitions::answers::Refusal;
 use definitions::modulus;
 use layout::sections::Sections;
@@ -14,7 +14,7 @@ ghost use Rattle.protocol.specs.Layout.{canonical};
 ghost use Rattle.layout.specs.Sections.{listed};
 ghost use Rattle.relation.specs.Parameters.{parametersOf};
 ghost use Rattle.sizes.specs.Sizes.{Sized};
-ghost use Rattle.admission.specs.Admission.{ofChecked};
+ghost use Rattle.admission.specs.Admission.{ofSliceChecked};
 ghost use Rattle.run_checks.specs.Found.{one-refusal, short-output, lent, given};
 
 // A section of so many canonical words.
@@ -29,46 +29,46 @@ fn one_section(count: usize) -> Sections
 }
 
 // "7 and 8 on the run's projection words"
-fn check_projection(words: &[u32], count: usize) -> Checked
-    ensures { λ r. ⌜ ofChecked r ≡ one-refusal 7 8 count (now (words .entry)) ⌝ }
+fn check_projection(words: &[u32], count: usize) -> SliceChecked
+    ensures { λ r. ⌜ ofSliceChecked r ≡ one-refusal 7 8 count (now (words .entry)) ⌝ }
 {
     match slices::examine(words, 0, one_section(count)) {
-        Examined::Layout(place) => Checked::Refused(Refusal::RandomnessLayout(place)),
-        Examined::Word(place) => Checked::Refused(Refusal::RandomnessWord(place)),
-        Examined::Fit => Checked::Fine,
+        Examined::Layout(place) => SliceChecked::Refused(Refusal::RandomnessLayout(place)),
+        Examined::Word(place) => SliceChecked::Refused(Refusal::RandomnessWord(place)),
+        Examined::Fit => SliceChecked::Fine,
     }
 }
 
 // "11 and 12 on its vectors"
-fn check_vectors(words: &[u32], count: usize) -> Checked
-    ensures { λ r. ⌜ ofChecked r ≡ one-refusal 11 12 count (now (words .entry)) ⌝ }
+fn check_vectors(words: &[u32], count: usize) -> SliceChecked
+    ensures { λ r. ⌜ ofSliceChecked r ≡ one-refusal 11 12 count (now (words .entry)) ⌝ }
 {
     match slices::examine(words, 0, one_section(count)) {
-        Examined::Layout(place) => Checked::Refused(Refusal::WitnessLayout(place)),
-        Examined::Word(place) => Checked::Refused(Refusal::WitnessWord(place)),
-        Examined::Fit => Checked::Fine,
+        Examined::Layout(place) => SliceChecked::Refused(Refusal::WitnessLayout(place)),
+        Examined::Word(place) => SliceChecked::Refused(Refusal::WitnessWord(place)),
+        Examined::Fit => SliceChecked::Fine,
     }
 }
 
 // "9 and 10" of a p.
-pub fn check_p(words: &[u32]) -> Checked
-    ensures { λ r. ⌜ ofChecked r ≡ one-refusal 9 10 256 (now (words .entry)) ⌝ }
+pub fn check_p(words: &[u32]) -> SliceChecked
+    ensures { λ r. ⌜ ofSliceChecked r ≡ one-refusal 9 10 256 (now (words .entry)) ⌝ }
 {
     match slices::examine(words, 0, one_section(256)) {
-        Examined::Layout(place) => Checked::Refused(Refusal::TranscriptLayout(place)),
-        Examined::Word(place) => Checked::Refused(Refusal::TranscriptWord(place)),
-        Examined::Fit => Checked::Fine,
+        Examined::Layout(place) => SliceChecked::Refused(Refusal::TranscriptLayout(place)),
+        Examined::Word(place) => SliceChecked::Refused(Refusal::TranscriptWord(place)),
+        Examined::Fit => SliceChecked::Fine,
     }
 }
 
 // 2: an output shorter than needed.
-pub fn check_output(need: usize, lent: usize) -> Checked
-    ensures { λ r. ⌜ ofChecked r ≡ short-output need lent ⌝ }
+pub fn check_output(need: usize, lent: usize) -> SliceChecked
+    ensures { λ r. ⌜ ofSliceChecked r ≡ short-output need lent ⌝ }
 {
     if lent < need {
-        Checked::Refused(Refusal::OutputTooShort(need))
+        SliceChecked::Refused(Refusal::OutputTooShort(need))
     } else {
-        Checked::Fine
+        SliceChecked::Fine
     }
 }
 
@@ -80,15 +80,15 @@ pub fn check_lent(
     scratch: usize,
     need: usize,
     output: usize,
-) -> Checked
+) -> SliceChecked
     requires { ⌜ Sized (parametersOf p) ⌝ }
-    ensures { λ r. ⌜ ofChecked r ≡ lent (parametersOf p) count (now (vectors .entry)) scratch need output ⌝ }
+    ensures { λ r. ⌜ ofSliceChecked r ≡ lent (parametersOf p) count (now (vectors .entry)) scratch need output ⌝ }
 {
     match check_vectors(vectors, count) {
-        Checked::Refused(refusal) => Checked::Refused(refusal),
-        Checked::Fine => match scratch::check(scratch, p) {
-            Checked::Refused(refusal) => Checked::Refused(refusal),
-            Checked::Fine => check_output(need, output),
+        SliceChecked::Refused(refusal) => SliceChecked::Refused(refusal),
+        SliceChecked::Fine => match scratch::check(scratch, p) {
+            SliceChecked::Refused(refusal) => SliceChecked::Refused(refusal),
+            SliceChecked::Fine => check_output(need, output),
         },
     }
 }
@@ -102,12 +102,12 @@ pub fn check_given(
     vectors: &[u32],
     scratch: usize,
     output: usize,
-) -> Checked
+) -> SliceChecked
     requires { ⌜ Sized (parametersOf p) ⌝ }
-    ensures { λ r. ⌜ ofChecked r ≡ given (parametersOf p) matrices (now (projection .entry)) count (now (vectors .entry)) scratch output ⌝ }
+    ensures { λ r. ⌜ ofSliceChecked r ≡ given (parametersOf p) matrices (now (projection .entry)) count (now (vectors .entry)) scratch output ⌝ }
 {
     match check_projection(projection, matrices) {
-        Checked::Refused(refusal) => Checked::Refused(refusal),
-        Checked::Fine => check_lent(p, count, vectors, scratch, 257, output),
+        SliceChecked::Refused(refusal) => SliceChecked::Refused(refusal),
+        SliceChecked::Fine => check_lent(p, count, vectors, scratch, 257, output),
     }
 }

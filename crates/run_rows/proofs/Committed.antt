@@ -27,7 +27,7 @@ use Rattle.runs.specs.Runs.{Run, size, rows-section, stored, run-rows, run-norm
 use Rattle.runs.proofs.Stored.{section-put, zeros-put}
 use Rattle.runs.proofs.WholeT.{first-ext}
 use Rattle.runs.proofs.Calls.{length-run-rows}
-use Rattle.run_admission.specs.Admitted.{Given}
+use Rattle.run_admission.specs.Admitted.{Run-given}
 use Rattle.run_admission.proofs.Order.{run-sized, few}
 
 -- an answer whose place is counted from further back
@@ -70,7 +70,7 @@ first-place S at n bound zero m h = omega arith
 first-place S at n bound (suc c) m h =
     place-then (first c (vector-norm S at n bound)) (vector-norm S at n bound c) m (first-place S at n bound c m (omega arith)) (place-test c m (decLe (norm-of (table n (vector S at n c))) bound) (omega arith))
 
-module _ (J : List ℕ) (x : Run) (S O : List ℕ) (p : EnvironmentParameters) (h : Given J x S (rows-section (parameters J) x) (length O) p) where
+module _ (J : List ℕ) (x : Run) (S O : List ℕ) (p : EnvironmentParameters) (h : Run-given J x S (rows-section (parameters J) x) (length O) p) where
   same : parametersOf p ≡ parameters J
   same = h .in-job .same
 

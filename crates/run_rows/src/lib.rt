@@ -16,7 +16,7 @@ ghost use lib.ListN.{length};
 ghost use Rattle.protocol.specs.Parameters.{parameters};
 ghost use Rattle.call_answers.specs.Calls.{labradorAnswer};
 ghost use Rattle.runs.specs.Runs.{run, rows-section, stored-rows, run-norm, rows-made, commit-rows, rows-output, rows-scratch};
-ghost use Rattle.run_admission.specs.Admitted.{Given};
+ghost use Rattle.run_admission.specs.Admitted.{Run-given};
 
 // The section of the rows of a run: the whole call's commitments, of a slice that starts at the run's first vector.
 fn put_rows(
@@ -27,7 +27,7 @@ fn put_rows(
     vectors: &[u32],
     output: &mut [u32],
 )
-    requires { ⌜ Given (now job) (run first end) (now vectors) (rows-section (parameters (now job)) (run first end)) (length (now output)) p ⌝ }
+    requires { ⌜ Run-given (now job) (run first end) (now vectors) (rows-section (parameters (now job)) (run first end)) (length (now output)) p ⌝ }
     ensures { λ _. ⌜ now (output .exit) ≡ stored-rows (now (job .entry)) (run first end) (now (vectors .entry)) (now (output .entry)) ⌝ }
 {
     let a_at = offsets::of_job(p, 6);
@@ -46,7 +46,7 @@ fn commit(
     vectors: &[u32],
     output: &mut [u32],
 ) -> LabradorAnswer
-    requires { ⌜ Given (now job) (run first end) (now vectors) (rows-section (parameters (now job)) (run first end)) (length (now output)) p ⌝ }
+    requires { ⌜ Run-given (now job) (run first end) (now vectors) (rows-section (parameters (now job)) (run first end)) (length (now output)) p ⌝ }
     ensures { λ r. ⌜ r ≡ labradorAnswer (run-norm (now (job .entry)) (run first end) (now (vectors .entry))) ⌝ }
     ensures { λ r. ⌜ now (output .exit) ≡ rows-made (now (job .entry)) (run first end) (now (vectors .entry)) (now (output .entry)) ⌝ }
 {

@@ -1,5 +1,5 @@
 // The call that adds two p (document 02, Item 10), for every input.
-use admission::answers::Checked;
+use admission::answers::SliceChecked;
 use call_answers::verdicts;
 use call_answers::verdicts::LabradorAnswer;
 use run_checks::check_output;
@@ -8,19 +8,19 @@ use zq::zq::Zq;
 ghost use mathlib.Core.Path.{_≡_};
 ghost use Prim.Native.Nat.{_≤_};
 ghost use lib.ListN.{length};
-ghost use Rattle.admission.specs.Admission.{ofChecked};
+ghost use Rattle.admission.specs.Admission.{ofSliceChecked};
 ghost use Rattle.call_answers.specs.Calls.{labradorAnswer};
 ghost use Rattle.runs.specs.Runs.{p-section, stored, p-sum, add-refusal, add-output};
 
 // "The adding call refuses by 9 and 10, the first p before the second, then by 2."
-fn check(p: &[u32], other: &[u32], output: usize) -> Checked
-    ensures { λ r. ⌜ ofChecked r ≡ add-refusal (now (p .entry)) (now (other .entry)) output ⌝ }
+fn check(p: &[u32], other: &[u32], output: usize) -> SliceChecked
+    ensures { λ r. ⌜ ofSliceChecked r ≡ add-refusal (now (p .entry)) (now (other .entry)) output ⌝ }
 {
     match check_p(p) {
-        Checked::Refused(refusal) => Checked::Refused(refusal),
-        Checked::Fine => match check_p(other) {
-            Checked::Refused(refusal) => Checked::Refused(refusal),
-            Checked::Fine => check_output(257, output),
+        SliceChecked::Refused(refusal) => SliceChecked::Refused(refusal),
+        SliceChecked::Fine => match check_p(other) {
+            SliceChecked::Refused(refusal) => SliceChecked::Refused(refusal),
+            SliceChecked::Fine => check_output(257, output),
         },
     }
 }
@@ -44,8 +44,8 @@ pub fn add(p: &[u32], other: &[u32], output: &mut [u32]) -> LabradorAnswer
     ensures { λ r. ⌜ now (output .exit) ≡ add-output (now (p .entry)) (now (other .entry)) (now (output .entry)) ⌝ }
 {
     match check(p, other, output.len()) {
-        Checked::Refused(refusal) => verdicts::refusal_of(refusal),
-        Checked::Fine => {
+        SliceChecked::Refused(refusal) => verdicts::refusal_of(refusal),
+        SliceChecked::Fine => {
             put_sum(p, other, output);
             LabradorAnswer {
                 number: 0,

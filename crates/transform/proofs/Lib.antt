@@ -1,3 +1,4 @@
 pub mod Computed
 pub mod Evaluation
 pub mod Layers
+pub mod Trial

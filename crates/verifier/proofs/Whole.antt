@@ -1,11 +1,17 @@
 -- The whole of the checks in order, and a call of the verifier that is refused before its work or not.
 use mathlib.Core.Path.{_≡_, refl, sym, ap, ap₂, subst, _∙_}
-use mathlib.Core.List.{List}
+use mathlib.Core.List.{List, [], _∷_}
 use Prim.Native.Nat.{ℕ, _≤_}
 use native.Mathlib.Omega.{arith}
 use lib.ListN.{length, replicate, take, drop, length-append, length-replicate, length-drop}
 use Rattle.lists.specs.Part.{splice}
-use Rattle.definitions.specs.Answer.{Answer, accepted, ofRefusal, result, _then_}
+use denote.Enum.Declared.{tagOf}
+use types.Run.{OneOf}
+use Rattle.definitions.proofs.answers.Checked.{the-type}
+use Rattle.definitions.specs.Answer.{Answer, accepted, ofRefusal, ofChecked, ofVerdict, result, _then_}
+use Rattle.definitions.specs.declared.answers.Checked.{Checked}
+use Rattle.definitions.specs.declared.answers.Checked.the-variants as C
+use Rattle.definitions.specs.declared.answers.Verdict.{Verdict}
 use Rattle.definitions.specs.declared.answers.Refusal.{Refusal}
 use Rattle.protocol.specs.Parameters.{parameters}
 use Rattle.protocol.specs.Layout.{randomness-sections, scratch-need}
@@ -14,7 +20,6 @@ use Rattle.protocol.specs.Formulas.{cells-left-of, u₁-of, u₂-of}
 use Rattle.protocol.specs.Prover.{t-norm, g-norm, h-norm, zeroed}
 use Rattle.protocol.specs.Verifier.{check-21, check-22, check-23, check-24, check-25, check-26, check-27, check-28, check-29, checks, verify-refusal, verify, verify-scratch}
 use Rattle.protocol.proofs.Then.{then-assoc}
-use Rattle.protocol.proofs.Acceptance.{Unaccepted, norms-no}
 use Rattle.layout.specs.Laid.{Laid}
 use Rattle.layout.proofs.Then.{goes-on}
 use Rattle.regions.specs.declared.Regions.{Regions}
@@ -36,7 +41,10 @@ use Rattle.verifier_relations.specs.Order.{relations}
 use Rattle.verifier_commitments.specs.Order.{commitments}
 use Rattle.verifier.specs.Order.{rest, all-checks}
 use Rattle.verifier_common.proofs.Sent.{reckoned}
-use Rattle.verifier_common.proofs.Verdicts.{refusal-then}
+use Rattle.verifier_common.proofs.Verdicts.{refusal-then, stops-all}
+use Rattle.verifier_common.proofs.Verdicts.{goes-on as goes-on-after}
+use Rattle.verifier_digits.specs.declared.SentDigits.{SentDigits}
+use Rattle.verifier_digits.specs.Taken.{Taken}
 
 -- two pairs of answers after another answer
 pairs-after : (x a b c d : Answer) → x then ((a then b) then (c then d)) ≡ x then a then b then c then d
@@ -57,10 +65,6 @@ of-commitments X M = ((t-norm X (M .t) then g-norm X (M .g)) then check-28 X M) 
 norms-are : (J R T : List ℕ) → norms J R T ≡ check-21 (public J R) (message (parameters J) T) then check-22 (public J R) (message (parameters J) T) then check-23 (public J R) (message (parameters J) T)
 unfolding check-21 check-23
 norms-are J R T = refl
-
-pub norms-unaccepted : (J R T : List ℕ) → Unaccepted (norms J R T)
-unfolding check-21 check-23
-norms-unaccepted J R T = norms-no (public J R) (message (parameters J) T)
 
 cells-are : (J R T : List ℕ) → cells-left (parameters J) T ≡ cells-left-of (public J R) (message (parameters J) T .t) (message (parameters J) T .g) (message (parameters J) T .h)
 unfolding cells-left-of
@@ -83,6 +87,29 @@ groups-are J R T =
     ∙ ap (λ y. y then of-commitments X M) (pairs-after one (check-24 X M) (check-25 X M) (check-26 X M) (check-27 X M))
     ∙ five-after (one then check-24 X M then check-25 X M then check-26 X M then check-27 X M) (t-norm X (M .t)) (g-norm X (M .g)) (check-28 X M) (h-norm X (M .h)) (check-29 X M))
     (cells-are J R T)
+
+-- the verdict by what 21 to 23 answer
+module _ (J R T : List ℕ) where
+  abbrev last : Answer
+  last = accepted (cells-left (parameters J) T)
+
+  -- the checks after them, and then the number
+  all-after : norms J R T then (rest J R T then last) ≡ all-checks J R T
+  all-after = sym (then-assoc (norms J R T) (rest J R T) last) ∙ groups-are J R T
+
+  -- where they do not pass, what they answer
+  pub stopped-is : (v : Checked) → ofChecked v ≡ norms J R T → OneOf (1 ∷ 2 ∷ []) (tagOf the-type v) → (r : Verdict) → ofVerdict r ≡ ofChecked v then accepted 0 → ofVerdict r ≡ all-checks J R T
+  stopped-is v e k r f = stops-all v r 0 f e k (rest J R T then last) ∙ all-after
+
+  -- where they pass, what the rest answers, and the number that is found of the digits
+  pub goes-on-is : (p : EnvironmentParameters) → parametersOf p ≡ parameters J → (v : Checked) → ofChecked v ≡ norms J R T → v ≡ C.Passed
+      → (d : SentDigits) → Taken (parametersOf p) T d → (w : Checked) → ofChecked w ≡ rest J R T
+      → (r : Verdict) → ofVerdict r ≡ ofChecked w then accepted (d .«cells_left») → ofVerdict r ≡ all-checks J R T
+  goes-on-is p same v e passed d found w g r f =
+      f
+      ∙ ap₂ (λ a n. a then accepted n) g (found .left ∙ ap (λ P. cells-left P T) same)
+      ∙ goes-on-after v e passed (rest J R T then last)
+      ∙ all-after
 
 -- a call that is refused nothing before its work
 module _ (J R T : List ℕ) (p : EnvironmentParameters) where

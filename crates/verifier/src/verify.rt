@@ -8,6 +8,7 @@ use relation::env_params::EnvironmentParameters;
 use sizes::buffers;
 use verifier_commitments::outer_commitments;
 use verifier_common::verdict;
+use verifier_digits::SentDigits;
 use verifier_norms::norm_checks;
 use verifier_relations::relations;
 ghost use mathlib.Core.Path.{_≡_};
@@ -20,7 +21,9 @@ ghost use Rattle.protocol.specs.Verifier.{verify as verdict, verify-scratch};
 ghost use Rattle.admission.specs.Admission.{Verifiable};
 ghost use Rattle.workspace.specs.Ready.{Ready};
 ghost use Rattle.workspace.specs.Holds.{Kept};
+ghost use Rattle.relation.specs.Parameters.{parametersOf};
 ghost use Rattle.verifier_common.specs.Work.{Sent};
+ghost use Rattle.verifier_digits.specs.Taken.{Taken};
 ghost use Rattle.verifier.specs.Order.{rest, all-checks};
 
 // The checks from 24 on, in order.
@@ -31,8 +34,9 @@ fn check_rest(
     p: EnvironmentParameters,
     q: Regions,
     scratch: &mut [u32],
+    digits: SentDigits,
 ) -> Checked
-    requires { ⌜ Sent (now job) (now randomness) (now transcript) p × Ready (now job) p q (now scratch) ⌝ }
+    requires { ⌜ Sent (now job) (now randomness) (now transcript) p × Ready (now job) p q (now scratch) × Taken (parametersOf p) (now transcript) digits ⌝ }
     ensures { λ v. ⌜ ofChecked v ≡ rest (now (job .entry)) (now (randomness .entry)) (now (transcript .entry)) ⌝ }
     ensures { λ v. ⌜ Kept (scratch-need (parameters (now (job .entry)))) (now (scratch .entry)) (now (scratch .exit)) ⌝ }
 {
@@ -40,7 +44,7 @@ fn check_rest(
     let Checked::Passed = first else {
         return first;
     };
-    outer_commitments::check_commitments(job, transcript, p, q, scratch)
+    outer_commitments::check_commitments(job, transcript, p, q, scratch, digits)
 }
 
 // All checks, in order; an acceptance has the number of cells with something left.
@@ -56,12 +60,14 @@ pub fn check_all(
     ensures { λ v. ⌜ ofVerdict v ≡ all-checks (now (job .entry)) (now (randomness .entry)) (now (transcript .entry)) ⌝ }
     ensures { λ v. ⌜ Kept (scratch-need (parameters (now (job .entry)))) (now (scratch .entry)) (now (scratch .exit)) ⌝ }
 {
-    let first = norm_checks::check_norms(job, randomness, transcript, p);
-    let Verdict::Accepted(cells_left) = first else {
-        return first;
+    let norms = norm_checks::check_norms(job, randomness, transcript, p);
+    let first = norms.checked;
+    let Checked::Passed = first else {
+        return verdict::verdict_of(first, 0);
     };
-    let rest = check_rest(job, randomness, transcript, p, q, scratch);
-    verdict::verdict_of(rest, cells_left)
+    let digits = norms.digits;
+    let rest = check_rest(job, randomness, transcript, p, q, scratch, digits);
+    verdict::verdict_of(rest, digits.cells_left)
 }
 
 // The work of a call that is refused nothing before it: "After any later answer scratch is zero to the length needed".

@@ -1,18 +1,25 @@
--- The order of the checks 21 to 23.
-use mathlib.Core.List.{List}
+-- The order of the checks 21 to 23, and what is found of the digits where they pass.
+use mathlib.Core.Path.{_≡_}
+use mathlib.Core.List.{List, [], _∷_}
 use Prim.Native.Nat.{ℕ}
-use Rattle.definitions.specs.Answer.{Answer, accepted, _then_}
+use native.Mathlib.Decide.{decLe}
+use Rattle.definitions.specs.Answer.{Answer, failed, _then_}
+use Rattle.definitions.specs.declared.answers.Checked.{Checked}
+use Rattle.definitions.specs.declared.answers.Checked.the-variants as C
+use Rattle.protocol.specs.Checks.{require}
 use Rattle.protocol.specs.Parameters.{Parameters, parameters}
-use Rattle.verifier_common.specs.Answers.{projection-norm, constant-terms, norm-sum, cells-left}
+use Rattle.verifier_common.specs.Answers.{projection-norm, constant-terms, norm-sum}
+use Rattle.verifier_digits.specs.declared.SentDigits.{SentDigits}
+use Rattle.verifier_digits.specs.Taken.{Taken}
+
+-- 23 of a sum and its limit, both given where it fails
+abbrev pub sum-within : (sum limit : ℕ) → Answer
+sum-within sum limit = require (decLe sum limit) (failed 23 (sum ∷ limit ∷ []))
 
 -- 21, 22 and 23
 abbrev pub norms : (J R T : List ℕ) → Answer
 norms J R T = projection-norm (parameters J) T then constant-terms J R T then norm-sum (parameters J) T
 
--- 23, then the number of cells with something left (document 02, Item 5)
-abbrev pub counted-sum : Parameters → List ℕ → Answer
-counted-sum P T = norm-sum P T then accepted (cells-left P T)
-
--- 21 to 23, then that number
-abbrev pub counted-norms : (J R T : List ℕ) → Answer
-counted-norms J R T = norms J R T then accepted (cells-left (parameters J) T)
+-- where the checks pass, what is found of the digits is so
+abbrev pub Taken-if : Checked → Parameters → List ℕ → SentDigits → Type 0
+Taken-if v P T d = v ≡ C.Passed → Taken P T d

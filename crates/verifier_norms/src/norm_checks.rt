@@ -2,21 +2,18 @@
 use crate::numbers;
 use definitions::answers::Checked;
 use definitions::answers::FailedCheck;
-use definitions::answers::Verdict;
-use digit_norms::norm;
-use digit_norms::parts;
+use definitions::answers::U128;
 use norm_bounds::bound;
 use relation::env_params::EnvironmentParameters;
 use sizes::offsets;
-use sizes::slices;
-use verifier_common::verdict;
 use verifier_constant_terms::constant_terms::check_constant_terms;
+use verifier_digits::SentDigits;
 ghost use mathlib.Core.Path.{_≡_};
-ghost use Rattle.definitions.specs.Answer.{ofChecked, ofVerdict};
+ghost use Rattle.definitions.specs.Answer.{ofChecked, value128};
 ghost use Rattle.relation.specs.Parameters.{parametersOf};
 ghost use Rattle.verifier_common.specs.Work.{Received, Sent};
 ghost use Rattle.verifier_common.specs.Answers.{projection-norm};
-ghost use Rattle.verifier_norms.specs.Order.{counted-sum, counted-norms};
+ghost use Rattle.verifier_norms.specs.Order.{sum-within, norms, Taken-if};
 
 // "21 norm of p above 128·beta_sq (norm and limit given)." A beta_sq below the norm is so small that the limit fits.
 pub fn check_projection_norm(transcript: &[u32], p: EnvironmentParameters) -> Checked
@@ -35,49 +32,57 @@ pub fn check_projection_norm(transcript: &[u32], p: EnvironmentParameters) -> Ch
     }
 }
 
-// "23 digit norms of z with two" parts, "t and h with t1, g with t2 sum above beta_prime_sq (sum and limit)." The second part of z is the whole rest (document 02, Item 9).
-// The cells of t, g and h with something left are counted as their digits are taken (Item 5).
-pub fn check_norm_sum(transcript: &[u32], p: EnvironmentParameters) -> Verdict
-    requires { ⌜ Received (now transcript) p ⌝ }
-    ensures { λ v. ⌜ ofVerdict v ≡ counted-sum (parametersOf p) (now (transcript .entry)) ⌝ }
+// "23 digit norms of z with two" parts, "t and h with t1, g with t2 sum above beta_prime_sq (sum and limit)."
+fn check_norm_sum(sum: U128, limit: U128) -> Checked
+    ensures { λ v. ⌜ ofChecked v ≡ sum-within (value128 sum) (value128 limit) ⌝ }
 {
-    let cells = slices::triangle(p.multiplicity);
-    let z = parts::two_parts_norm(transcript, offsets::of_transcript(p, 4), p.rank, p.b);
-    let t = norm::digits_norm(
-        transcript,
-        offsets::of_transcript(p, 5),
-        p.multiplicity * p.kappa,
-        p.b,
-        p.t_1,
-    );
-    let g = norm::digits_norm(transcript, offsets::of_transcript(p, 6), cells, p.b, p.t_2);
-    let h = norm::digits_norm(transcript, offsets::of_transcript(p, 7), cells, p.b, p.t_1);
-    let sum = bound::add(bound::add(bound::add(z, t.norm), g.norm), h.norm);
-    let limit = p.beta_prime_sq;
     if bound::at_most(sum, limit) {
-        Verdict::Accepted(t.cells_left + g.cells_left + h.cells_left)
+        Checked::Passed
     } else {
-        Verdict::Failed(FailedCheck::NormSum { sum, limit })
+        Checked::Failed(FailedCheck::NormSum { sum, limit })
     }
 }
 
-// 21, 22 and 23, in order; the number of cells with something left where they pass.
+// What 21 to 23 answer, and where they pass what is found of the digits.
+pub struct NormChecks {
+    pub checked: Checked,
+    pub digits: SentDigits,
+}
+
+// An answer before the digits are taken.
+fn before_digits(checked: Checked) -> NormChecks
+    ensures { λ r. ⌜ r .checked ≡ checked ⌝ }
+{
+    let digits = SentDigits {
+        sum: U128 { hi: 0, lo: 0 },
+        t_within: false,
+        g_within: false,
+        h_within: false,
+        cells_left: 0,
+    };
+    NormChecks { checked, digits }
+}
+
+// 21, 22 and 23, in order. The digits are taken once, for 23 and for 14 to 16.
 pub fn check_norms(
     job: &[u32],
     randomness: &[u32],
     transcript: &[u32],
     p: EnvironmentParameters,
-) -> Verdict
+) -> NormChecks
     requires { ⌜ Sent (now job) (now randomness) (now transcript) p ⌝ }
-    ensures { λ v. ⌜ ofVerdict v ≡ counted-norms (now (job .entry)) (now (randomness .entry)) (now (transcript .entry)) ⌝ }
+    ensures { λ r. ⌜ ofChecked (r .checked) ≡ norms (now (job .entry)) (now (randomness .entry)) (now (transcript .entry)) ⌝ }
+    ensures { λ r. ⌜ Taken-if (r .checked) (parametersOf p) (now (transcript .entry)) (r .digits) ⌝ }
 {
     let first = check_projection_norm(transcript, p);
     let Checked::Passed = first else {
-        return verdict::verdict_of(first, 0);
+        return before_digits(first);
     };
     let second = check_constant_terms(job, randomness, transcript, p);
     let Checked::Passed = second else {
-        return verdict::verdict_of(second, 0);
+        return before_digits(second);
     };
-    check_norm_sum(transcript, p)
+    let digits = verifier_digits::take(transcript, p);
+    let checked = check_norm_sum(digits.sum, p.beta_prime_sq);
+    NormChecks { checked, digits }
 }

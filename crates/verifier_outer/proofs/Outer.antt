@@ -1,4 +1,4 @@
--- What the norm tests 14 to 16 and the checks 28 and 29 stand on, of the parameters and places that the code holds.
+-- What the checks 28 and 29 stand on, of the parameters and places that the code holds.
 use mathlib.Core.Path.{_≡_, refl, sym, ap, subst, _∙_}
 use mathlib.Core.Bool.{Bool, cond}
 use mathlib.Core.List.{List, []}
@@ -6,19 +6,17 @@ use Prim.Native.Nat.{ℕ, _+_, _*_, _≤_, _<_, _^_}
 use native.Mathlib.Omega.{arith}
 use mir.Syntax.{w64}
 use mir.Val.{Fits}
-use lib.Dec.{leb}
 use lib.ListN.{length, getD}
 use Rattle.lists.specs.Table.{table}
 use Rattle.lists.specs.Part.{part, splice}
 use Rattle.definitions.specs.Zq.{Canonical}
-use Rattle.definitions.specs.Answer.{Answer, fine, refused, failed, value128}
+use Rattle.definitions.specs.Answer.{Answer, fine, failed}
 use Rattle.definitions.specs.Rq.{Element}
 use Rattle.protocol.specs.Checks.{require, first}
 use Rattle.protocol.specs.Parameters.{Parameters, parameters, triangular}
 use Rattle.protocol.specs.Layout.{start, job-sections, scratch-need}
 use Rattle.protocol.specs.Views.{public, message}
-use Rattle.protocol.specs.Formulas.{_⊕_, flat, norm-of, times}
-use Rattle.protocol.specs.Prover.{t-norm, g-norm, h-norm}
+use Rattle.protocol.specs.Formulas.{_⊕_, flat, times}
 use Rattle.protocol.specs.Verifier.{same, check-28, check-29}
 use Rattle.regions.specs.declared.Regions.{Regions}
 use Rattle.relation.specs.declared.env_params.EnvironmentParameters.{EnvironmentParameters}
@@ -27,13 +25,12 @@ use Rattle.inner_product.specs.Run.{run}
 use Rattle.rq_matrix.specs.Region.{vector}
 use Rattle.commitments.specs.Cells.{digits-at, Cells, CanonicalFrom}
 use Rattle.commitments.proofs.Added.{length-flat-table}
-use Rattle.commitments.proofs.Formula.{digits, u₁-is, u₂-is, t-norm-of, g-norm-of, h-norm-of}
+use Rattle.commitments.proofs.Formula.{digits, u₁-is, u₂-is}
 use Rattle.workspace.specs.Ready.{Ready}
 use Rattle.workspace.specs.Holds.{Kept}
 use Rattle.workspace.proofs.Kept.{kept-refl, kept-stored}
 use Rattle.workspace.proofs.Ready.{regions-end, u-end, b″-end}
 use Rattle.verifier_common.specs.Work.{Received, Posed, equal}
-use Rattle.verifier_common.specs.Answers.{bare}
 use Rattle.verifier_common.proofs.Sent.{product-small, transcript-at, reckoned, transcript-room, job-room, t-within, g-within, h-within}
 use Rattle.verifier_outer.proofs.Compared.{compared}
 
@@ -75,39 +72,6 @@ module _ (X : List ℕ) (p : EnvironmentParameters) (s : Received X p) where
 
     pub h-cells : at ≡ transcript-at (parametersOf p) 7 → (cells ≡ triangular (p .multiplicity)) × (cells ≤ 136) → Cells X (digits at cells (p .«t_1»))
     h-cells e f = cells-at X at cells (triangular (p .multiplicity)) (p .«t_1») (f .0) (h-within X p s at e) (omega (arith, f .1)) (s .sized .within .t₁ .1)
-
-    -- 14 by the boolean's value
-    pub t-answer : (t : Bool) → at ≡ transcript-at (parametersOf p) 5 → cells ≡ p .multiplicity * p .kappa
-        → t ≡ leb (norm-of (digits-at X (digits at cells (p .«t_1»)) (p .b))) (value128 (p .«bound_b»))
-        → cond t fine (refused 14 0) ≡ t-norm (bare (parametersOf p)) (message (parametersOf p) X .t)
-    t-answer t e f h =
-        ap (λ x. cond x fine (refused 14 0))
-        (h
-        ∙ ap (λ a. leb (norm-of (digits-at X (digits a cells (p .«t_1»)) (p .b))) (value128 (p .«bound_b»))) e
-        ∙ ap (λ n. leb (norm-of (digits-at X (digits (transcript-at (parametersOf p) 5) n (p .«t_1»)) (p .b))) (value128 (p .«bound_b»))) f)
-        ∙ sym (t-norm-of (bare (parametersOf p)) X (transcript-at (parametersOf p) 5) (message (parametersOf p) X .t) (λ i k l m. refl))
-
-    -- 15 by the boolean's value
-    pub g-answer : (t : Bool) → at ≡ transcript-at (parametersOf p) 6 → cells ≡ triangular (p .multiplicity)
-        → t ≡ leb (norm-of (digits-at X (digits at cells (p .«t_2»)) (p .b))) (value128 (p .«bound_c»))
-        → cond t fine (refused 15 0) ≡ g-norm (bare (parametersOf p)) (message (parametersOf p) X .g)
-    g-answer t e f h =
-        ap (λ x. cond x fine (refused 15 0))
-        (h
-        ∙ ap (λ a. leb (norm-of (digits-at X (digits a cells (p .«t_2»)) (p .b))) (value128 (p .«bound_c»))) e
-        ∙ ap (λ n. leb (norm-of (digits-at X (digits (transcript-at (parametersOf p) 6) n (p .«t_2»)) (p .b))) (value128 (p .«bound_c»))) f)
-        ∙ sym (g-norm-of (bare (parametersOf p)) X (transcript-at (parametersOf p) 6) (message (parametersOf p) X .g) (λ i j l m. refl))
-
-    -- 16 by the boolean's value
-    pub h-answer : (t : Bool) → at ≡ transcript-at (parametersOf p) 7 → cells ≡ triangular (p .multiplicity)
-        → t ≡ leb (norm-of (digits-at X (digits at cells (p .«t_1»)) (p .b))) (value128 (p .«bound_d»))
-        → cond t fine (refused 16 0) ≡ h-norm (bare (parametersOf p)) (message (parametersOf p) X .h)
-    h-answer t e f h =
-        ap (λ x. cond x fine (refused 16 0))
-        (h
-        ∙ ap (λ a. leb (norm-of (digits-at X (digits a cells (p .«t_1»)) (p .b))) (value128 (p .«bound_d»))) e
-        ∙ ap (λ n. leb (norm-of (digits-at X (digits (transcript-at (parametersOf p) 7) n (p .«t_1»)) (p .b))) (value128 (p .«bound_d»))) f)
-        ∙ sym (h-norm-of (bare (parametersOf p)) X (transcript-at (parametersOf p) 7) (message (parametersOf p) X .h) (λ i j l m. refl))
 
 module _ (J X : List ℕ) (p : EnvironmentParameters) (s : Posed J X p) where
   -- u2's words in the transcript lie within it and are canonical

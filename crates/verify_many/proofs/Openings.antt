@@ -1,35 +1,26 @@
 -- What two openings of one commitment give away (document 02, Item 13), over two of the eight verdicts that the call's contract ensures.
-use mathlib.Core.Path.{_≡_, refl, sym, ap, _∙_}
-use mathlib.Core.List.{List, [], _∷_}
+use mathlib.Core.Path.{_≡_, sym, ap, _∙_}
+use mathlib.Core.List.{List}
 use Prim.Native.Nat.{ℕ, _<_}
 use native.Mathlib.Decide.{decLt}
 use native.Mathlib.Omega.{arith}
 use lib.ListN.{length, getD, replicate}
 use Rattle.lists.proofs.Padded.{padded-below, padded-past}
-use Rattle.definitions.specs.Answer.{Answer, fine, accepted, refused, failed, number, result}
+use Rattle.definitions.specs.Answer.{accepted, number, result}
 use Rattle.protocol.specs.Many.{part-verdict}
 use Rattle.protocol.proofs.Acceptance.{many-no}
 use Rattle.call_answers.specs.declared.verdicts.LabradorVerdict.{LabradorVerdict}
 use Rattle.call_answers.specs.Calls.{labradorVerdict, failedCheck}
-use Rattle.binding.specs.Openings.{opening-1, opening-2, Equal-u1, Equal-u2, Given-away-1, Given-away-2}
-use Rattle.binding.proofs.Many.{part, zero-part, binding-1-of-parts, binding-2-of-parts}
+use Rattle.call_answers.proofs.Number.{same-number}
+use Rattle.binding.specs.Openings.{opening-1, opening-2, Equal-u1, Equal-u2, Given-away-1, Given-away-2, Same-t-g, Same-h}
+use Rattle.binding.proofs.Many.{part, zero-part, binding-1-of-parts, binding-2-of-parts, bound-1-of-parts, bound-2-of-parts}
 use Rattle.verify_many.specs.declared.answers.LabradorVerdicts.{LabradorVerdicts}
-use Rattle.many_verdicts.specs.Windows.{unused, verdicts-of}
+use Rattle.many_verdicts.specs.Windows.{unused-verdict, verdicts-of}
 use Rattle.verify_many.specs.Answers.{manyVerdicts}
-
--- a verdict's number
-same-number : (a : Answer) → labradorVerdict a .number ≡ number a
-same-number fine = refl
-same-number (accepted cells) = refl
-same-number (refused n p) = refl
-same-number (failed n []) = refl
-same-number (failed n (a ∷ [])) = refl
-same-number (failed n (a ∷ b ∷ [])) = refl
-same-number (failed n (k ∷ a ∷ b ∷ vs)) = refl
 
 -- verdict m of an answer
 abbrev pub verdict-at : LabradorVerdicts → ℕ → LabradorVerdict
-verdict-at x m = getD (x .verdicts) m unused
+verdict-at x m = getD (x .verdicts) m unused-verdict
 
 -- eight verdicts are given
 module _ (J : List ℕ) (count : ℕ) (R T scratch : List ℕ) (x : LabradorVerdicts) (is : x ≡ manyVerdicts J count R T (length scratch)) (whole : x .number ≡ 0) where
@@ -46,9 +37,9 @@ module _ (J : List ℕ) (count : ℕ) (R T scratch : List ℕ) (x : LabradorVerd
       f m = labradorVerdict (part-verdict J count R T m)
 
       by : Dec (m < count) → verdict-at x m ≡ f m
-      by (yes l) = ap (λ l. getD l m unused) verdicts-are ∙ padded-below 8 unused f count m h l
+      by (yes l) = ap (λ l. getD l m unused-verdict) verdicts-are ∙ padded-below 8 unused-verdict f count m h l
       by (no l) =
-          let past : verdict-at x m ≡ unused = ap (λ l. getD l m unused) verdicts-are ∙ padded-past 8 unused f count m h (omega arith) in
+          let past : verdict-at x m ≡ unused-verdict = ap (λ l. getD l m unused-verdict) verdicts-are ∙ padded-past 8 unused-verdict f count m h (omega arith) in
           let z : _≡_ {A = ℕ} 4294967295 0 = sym (ap (λ (v : LabradorVerdict). v .number) past) ∙ e in
           absurd (omega arith)
 
@@ -68,3 +59,13 @@ module _ (J : List ℕ) (count : ℕ) (R T scratch : List ℕ) (x : LabradorVerd
 
     pub binding-2-over-many : Equal-u2 J (part J count R T i) (part J count R T j) → (opening-2 J (part J count R T i) ≡ opening-2 J (part J count R T j) → ⊥) → Given-away-2 J (part J count R T i) (part J count R T j)
     binding-2-over-many = binding-2-of-parts J count R T i j (zero-of i h e) (zero-of j k f)
+
+    -- and state that no cell has something left
+    module _ (none : verdict-at x i .«cells_left» ≡ 0) (none′ : verdict-at x j .«cells_left» ≡ 0) where
+      pub bound-1-over-many : Equal-u1 J (part J count R T i) (part J count R T j) → (Same-t-g J (part J count R T i) (part J count R T j) → ⊥)
+          → Given-away-1 J (part J count R T i) (part J count R T j)
+      bound-1-over-many = bound-1-of-parts J count R T i j (none-left-of i h e none) (none-left-of j k f none′)
+
+      pub bound-2-over-many : Equal-u2 J (part J count R T i) (part J count R T j) → (Same-h J (part J count R T i) (part J count R T j) → ⊥)
+          → Given-away-2 J (part J count R T i) (part J count R T j)
+      bound-2-over-many = bound-2-of-parts J count R T i j (none-left-of i h e none) (none-left-of j k f none′)

@@ -9,7 +9,7 @@ use Rattle.lists.specs.Part.{splice}
 use Rattle.lists.proofs.Splice.{length-splice}
 use Rattle.lists.specs.Table.{table}
 use Rattle.lists.proofs.Table.{getD-table}
-use Rattle.definitions.specs.Answer.{Answer, fine, accepted, refused, failed, result}
+use Rattle.definitions.specs.Answer.{Answer, fine, accepted, refused, failed, is-fine}
 use Rattle.protocol.specs.Parameters.{Parameters, parameters}
 use Rattle.protocol.specs.Layout.{randomness-refusal, transcript-refusal, scratch-need}
 use Rattle.protocol.specs.Kept.{Kept}
@@ -19,10 +19,10 @@ use Rattle.protocol.specs.Many.{many-need, randomness-part, transcript-part, pa
 use Rattle.protocol.proofs.Fine.{then-fine-right}
 use Rattle.relation.specs.declared.env_params.EnvironmentParameters.{EnvironmentParameters}
 use Rattle.relation.specs.Parameters.{parametersOf}
-use Rattle.admission.specs.declared.answers.Checked.{Checked}
+use Rattle.admission.specs.declared.answers.SliceChecked.{SliceChecked}
 use Rattle.admission.proofs.Ready.{job-sound, job-laid}
 use Rattle.workspace.proofs.Kept.{kept-trans, kept-clear}
-use Rattle.many_admission.specs.Admitted.{Given, TranscriptsFound, found-of, passing}
+use Rattle.many_admission.specs.Admitted.{Many-given, TranscriptsFound, found-of, passing}
 use Rattle.many_admission.proofs.Found.{passing-is}
 use Rattle.many_admission.proofs.Passing.{part-laid}
 use Rattle.many_rows.specs.Rows.{Rowable}
@@ -32,7 +32,7 @@ use Rattle.rq_matrix.proofs.Place.{rows-within}
 use Rattle.many_verdicts.specs.Windows.{Rows-ready, All-weighed}
 
 -- an answer that is taken for fine is
-fine-if : (x : Answer) → result x true false ≡ true → x ≡ fine
+fine-if : (x : Answer) → is-fine x ≡ true → x ≡ fine
 fine-if fine e = refl
 fine-if (accepted cells) e = absurd (true≢false (sym e))
 fine-if (refused n p) e = absurd (true≢false (sym e))
@@ -43,7 +43,7 @@ sent-fine : (P : Parameters) (count : ℕ) (R T : List ℕ) (m : ℕ) → Many.p
 unfolding part-refusal
 sent-fine P count R T m pass = then-fine-right (randomness-refusal P 7 (randomness-part P count R m)) (transcript-refusal P (transcript-part P count T m)) (fine-if _ pass)
 
-module _ (J R T : List ℕ) (count scratch : ℕ) (p : EnvironmentParameters) (g : Given J count scratch p) (found : List Checked) (passes : List Bool) (is : passes ≡ table 8 (λ m. passing (found-of found m))) where
+module _ (J R T : List ℕ) (count scratch : ℕ) (p : EnvironmentParameters) (g : Many-given J count scratch p) (found : List SliceChecked) (passes : List Bool) (is : passes ≡ table 8 (λ m. passing (found-of found m))) where
   -- transcript m passes
   passes-at : (m : ℕ) → m < count → getD passes m false ≡ passing (found-of found m)
   passes-at m h = ap (λ l. getD l m false) is ∙ getD-table 8 (λ m. passing (found-of found m)) m false (omega (arith, g .few))
@@ -64,16 +64,21 @@ module _ (J R T : List ℕ) (count scratch : ℕ) (p : EnvironmentParameters) (g
 
   -- a transcript that passes 7 to 10 takes part
   takes : TranscriptsFound (parametersOf p) count T found → (m : ℕ) → m < count → Many.passes (parameters J) count R T m ≡ true → getD passes m false ≡ true
-  takes all m h pass = passes-at m h ∙ passing-is (found-of found m) ∙ ap (λ x. result x true false) (of-job all m h ∙ sent-fine (parameters J) count R T m pass)
+  takes all m h pass = passes-at m h ∙ passing-is (found-of found m) ∙ ap is-fine (of-job all m h ∙ sent-fine (parameters J) count R T m pass)
+
+  -- "after each row, its products for every transcript that passes 7 to 10 are shown done, and those of later rows still zero": what the loops over rows keep after row ρ says so of each of these
+  pub each-row-done : TranscriptsFound (parametersOf p) count T found → (S : List ℕ) (ρ : ℕ)
+      → All-rows-done J count (λ m. getD passes m false) T S ρ → All-rows-done J count (Many.passes (parameters J) count R T) T S ρ
+  each-row-done all S ρ done m h pass = done m h (takes all m h pass)
 
   -- with the scratch after the rows
   module _ {need : ℕ} {S S′ : List ℕ} (kept : Kept need S S′) (size : length S ≡ scratch) where
-    pub still-given : Given J count (length S′) p
+    pub still-given : Many-given J count (length S′) p
     still-given = record { fit = g .fit; same = g .same; few = g .few; room = subst (λ n. many-need (parameters J) count ≤ n) (sym (kept .size ∙ size)) (g .room) }
 
-    -- the rows are done of every transcript that passes 7 to 10, since it passes 9 and 10
+    -- after the last row
     pub rows-ready : TranscriptsFound (parametersOf p) count T found → All-rows-done J count (λ m. getD passes m false) T S′ (row-count (parameters J)) → Rows-ready J count R T S′
-    rows-ready all done m h pass = done m h (takes all m h pass)
+    rows-ready all = each-row-done all S′ (row-count (parameters J))
 
     -- so is alpha's part of φ
     pub parts-ready : TranscriptsFound (parametersOf p) count T found → (weighed : Bool) → (weighed ≡ true → Alpha-parts J count (λ m. getD passes m false) R S′) → All-weighed weighed J count R T S′

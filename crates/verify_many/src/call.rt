@@ -14,7 +14,7 @@ ghost use lib.ListN.{length};
 ghost use Rattle.protocol.specs.Parameters.{parameters};
 ghost use Rattle.protocol.specs.Prover.{zeroed};
 ghost use Rattle.protocol.specs.Many.{many-need, many-scratch};
-ghost use Rattle.many_admission.specs.Admitted.{Given};
+ghost use Rattle.many_admission.specs.Admitted.{Many-given};
 ghost use Rattle.many_verdicts.specs.Windows.{verdicts-of};
 ghost use Rattle.verify_many.specs.Answers.{manyVerdicts};
 
@@ -29,7 +29,7 @@ fn work(
     count: usize,
     scratch: &mut [u32],
 ) -> [LabradorVerdict; 8]
-    requires { ⌜ Given (now job) count (length (now scratch)) p ⌝ }
+    requires { ⌜ Many-given (now job) count (length (now scratch)) p ⌝ }
     ensures { λ r. ⌜ r ≡ verdicts-of (now (job .entry)) count (now (randomness .entry)) (now (transcripts .entry)) ⌝ }
     ensures { λ r. ⌜ now (scratch .exit) ≡ zeroed (many-need (parameters (now (job .entry))) count) (now (scratch .entry)) ⌝ }
 {

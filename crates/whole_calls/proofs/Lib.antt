@@ -1,2 +1,3 @@
 mod Lengths
 mod LoadNeeds
+pub mod Forks

@@ -1,15 +1,18 @@
-//! The call that makes a test load, compared with the model word for word.
+//! The call that makes a test load, compared with the model word for word, and its b0 and b with the Rust's `calculate_b_constraint`.
 
-use crate::cases::Context;
 use crate::random::Random;
+use crate::rust;
+use crate::tally::Tally;
 use model::load::{load, needs};
 use model::refusals::LIMITS;
+use model::words::split;
 use model::Answer;
 
 /// The comparisons.
 const ANSWER: &str = "library: a test load's answer with the model's";
 const WORDS: &str = "library: a test load's buffers, word for word, with the model's";
 const NEEDS: &str = "library: a test load's lengths with the model's";
+const RIGHT_SIDES: &str = "library: a test load's b0 and b with the Rust's";
 
 const GUARD: usize = 16;
 const MARK: u32 = 0xc0de_c0de;
@@ -42,7 +45,7 @@ fn twelve(random: &mut Random, i: usize) -> [u32; 12] {
 }
 
 /// One call with buffers of these lengths: answer, every word, and guard words on both sides.
-fn one(context: &mut Context, words: [u32; 12], seed: u32, lengths: [usize; 3]) {
+fn one(tally: &mut Tally, words: [u32; 12], seed: u32, lengths: [usize; 3]) {
     let expected = load(words, seed, lengths);
     let mut kept: [Vec<u32>; 3] = lengths.map(|length| vec![MARK; length + 2 * GUARD]);
     let [a, b, c] = &mut kept;
@@ -57,22 +60,35 @@ fn one(context: &mut Context, words: [u32; 12], seed: u32, lengths: [usize; 3]) 
         Err(refusal) => (*refusal, [&[][..]; 3]),
     };
     let case = || format!("{words:?} seed {seed} lengths {lengths:?}");
-    context.tally.occurred("answers of loads", number.number);
-    context.tally.compare(ANSWER, &answer, &number, case);
+    tally.occurred("answers of loads", number.number);
+    tally.compare(ANSWER, &answer, &number, case);
     for (k, (made, buffer)) in filled.into_iter().zip(&kept).enumerate() {
         let mut words = vec![MARK; buffer.len()];
         words[GUARD..GUARD + made.len()].copy_from_slice(made);
-        context.tally.compare(WORDS, buffer, &words, || format!("buffer {k} of {}", case()));
+        tally.compare(WORDS, buffer, &words, || format!("buffer {k} of {}", case()));
     }
 }
 
-fn lengths_of(context: &mut Context, words: [u32; 12]) {
+/// b0 and b of a load that the library makes, with those that the Rust makes of the load's constraints and witness.
+fn right_sides(tally: &mut Tally, words: [u32; 12], seed: u32, lengths: [usize; 3]) {
+    let mut made = lengths.map(|length| vec![0; length]);
+    let [job, witness, randomness] = &mut made;
+    library::load::load(words, seed, [job, witness, randomness]);
+    let [job, witness, _] = made;
+    let mut sections = split(&job);
+    let ours = [3, 6].map(|k| std::mem::take(&mut sections[k]));
+    let job = rust::Job::new(&job);
+    let theirs = rust::right_sides(&job, &rust::witness(&job, &witness));
+    tally.compare(RIGHT_SIDES, &ours, &theirs, || format!("{words:?} seed {seed}"));
+}
+
+fn lengths_of(tally: &mut Tally, words: [u32; 12]) {
     let found = library::load::needs(words);
     let expected = match needs(words) {
         Ok(lengths) => (Answer::FINE, lengths.map(|n| n as u64)),
         Err(refusal) => (refusal, [0; 3]),
     };
-    context.tally.compare(NEEDS, &found, &expected, || format!("{words:?}"));
+    tally.compare(NEEDS, &found, &expected, || format!("{words:?}"));
 }
 
 /// Words in one number: FNV-1a, a word at a time.
@@ -100,31 +116,32 @@ pub fn print_sums() {
 }
 
 /// `count` parameter sets, each whole, with longer buffers, with each buffer one word short, and with parameters outside their limits.
-pub fn all(context: &mut Context, random: &mut Random, count: usize) {
+pub fn all(tally: &mut Tally, random: &mut Random, count: usize) {
     for number in [0, 2, 4, 5] {
-        context.tally.must_occur("answers of loads", number);
+        tally.must_occur("answers of loads", number);
     }
-    context.tally.must_compare(&[ANSWER, WORDS, NEEDS]);
+    tally.must_compare(&[ANSWER, WORDS, NEEDS, RIGHT_SIDES]);
     for i in 0..count {
         let words = twelve(random, i);
         let word = random.word();
         let seed = random.pick(&[0, 1, u32::MAX, word]);
         let exact = needs(words).expect("parameters within their limits");
-        lengths_of(context, words);
-        one(context, words, seed, exact);
-        one(context, words, seed, exact.map(|n| n + random.below(5)));
+        lengths_of(tally, words);
+        one(tally, words, seed, exact);
+        right_sides(tally, words, seed, exact);
+        one(tally, words, seed, exact.map(|n| n + random.below(5)));
         let mut short = exact;
         short[i % 3] -= 1 + random.below(exact[i % 3]);
-        one(context, words, seed, short);
-        one(context, words, seed, exact.map(|n| n - 1));
+        one(tally, words, seed, short);
+        one(tally, words, seed, exact.map(|n| n - 1));
         let mut wrong = words;
         let k = i % 12;
         wrong[k] = random.pick(&[LIMITS[k].0.wrapping_sub(1), LIMITS[k].1.wrapping_add(1), u32::MAX]);
-        lengths_of(context, wrong);
-        one(context, wrong, seed, exact);
+        lengths_of(tally, wrong);
+        one(tally, wrong, seed, exact);
         wrong = words;
         wrong[11] = 1 + random.below(128_usize.div_ceil(words[7] as usize) - 1) as u32;
-        lengths_of(context, wrong);
-        one(context, wrong, seed, [0; 3]);
+        lengths_of(tally, wrong);
+        one(tally, wrong, seed, [0; 3]);
     }
 }

@@ -87,7 +87,7 @@ fn compare(seed: u64, count: u64, largest: bool) -> bool {
     context.tally.stage("projection worked by shed");
     many::all(&mut context.tally, &mut Random::new(seed), 12.max(count as usize / 8));
     context.tally.stage("many transcripts");
-    loads::all(&mut context, &mut Random::new(seed), 300.max(count as usize));
+    loads::all(&mut context.tally, &mut Random::new(seed), 300.max(count as usize));
     context.tally.stage("test loads");
     let base = whole::base(&mut random, whole::pair_parameters());
     families(&mut context, &mut random, &base, 10);
@@ -135,6 +135,7 @@ fn only(stage: &str, seed: u64, count: usize) -> bool {
     let mut tally = Tally::default();
     let random = &mut Random::new(seed);
     match stage {
+        "loads" => loads::all(&mut tally, random, count),
         "recompose" => recompose::all(&mut tally, random, count),
         "ranges" => ranges::all(&mut tally, random, count),
         "mistyped" => mistyped::all(&mut tally, random, count),

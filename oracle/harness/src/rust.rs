@@ -7,7 +7,7 @@ use labrador::commitments::outer_commitments::{compute_u1, DecompositionParamete
 use labrador::core::garbage_polynomials::compute_g;
 use labrador::prover::{LabradorProver, ProverError};
 use labrador::relation::env_params::EnvironmentParameters;
-use labrador::relation::statement::Statement;
+use labrador::relation::statement::{calculate_b_constraint, Statement};
 use labrador::relation::witness::Witness;
 use labrador::ring::rq::Rq;
 use labrador::ring::rq_matrix::RqMatrix;
@@ -203,6 +203,23 @@ pub fn witness(job: &Job, witness: &[u32]) -> Witness {
     Witness {
         s: vectors(&witness[1..], job.parameters.rank),
     }
+}
+
+/// b0 and b of a job's constraints by `calculate_b_constraint`: the constant coefficient of each constant-term constraint's left side, and the words of each
+/// ring constraint's.
+pub fn right_sides(job: &Job, witness: &Witness) -> [Vec<u32>; 2] {
+    let s = &job.statement;
+    let sides = |a: &[RqMatrix], phi: &[Vec<RqVector>]| -> Vec<Rq> {
+        let each = a.iter().zip(phi);
+        each.map(|(a, phi)| calculate_b_constraint(&witness.s, a, phi))
+            .collect()
+    };
+    let constants = sides(&s.a_ct, &s.phi_ct);
+    let rings = sides(&s.a_constraint, &s.phi_constraint);
+    [
+        constants.iter().map(|side| side.coeffs()[0].get_value()).collect(),
+        rings.iter().flat_map(words).collect(),
+    ]
 }
 
 /// `LabradorProver::prove`, over the randomness that is loaded.

@@ -1,21 +1,15 @@
 //! The calls of document 02, Item 2: number, place and value.
 
-mod calls {
-    use crate::leaf_calls::ZqAnswer;
+use crate::ffi::{self, WordAnswer};
 
-    extern "C" {
-        pub fn labrador_recompose(base: u32, digits: *const u32, length: usize) -> ZqAnswer;
-        pub fn labrador_parts_needed(base: u32) -> ZqAnswer;
-    }
+fn words(a: WordAnswer) -> [u32; 3] {
+    [a.number, a.place, a.value]
 }
 
 pub fn recompose(base: u32, digits: &[u32]) -> [u32; 3] {
-    // The call takes a slice of any length and any words.
-    let a = unsafe { calls::labrador_recompose(base, digits.as_ptr(), digits.len()) };
-    [a.number, a.place, a.value]
+    words(ffi::recompose(base, digits))
 }
 
 pub fn parts_needed(base: u32) -> [u32; 3] {
-    let a = unsafe { calls::labrador_parts_needed(base) };
-    [a.number, a.place, a.value]
+    words(ffi::parts_needed(base))
 }

@@ -1,11 +1,13 @@
-//! How a command ends: its exit status, what it prints, and one line in words on standard error.
+//! How a command ends: its exit status, what it prints, and one line in words on standard error. A verdict's line is printed
+//! too, unless JSON is.
 
 use std::io::{self, Write};
 use std::process::ExitCode;
 
-use labrador::Refusal;
+use labrador::{system, Refusal};
 
 use crate::json::Json;
+use crate::shown;
 
 /// The exit statuses.
 #[derive(Clone, Copy, Debug, PartialEq, Eq)]
@@ -30,15 +32,38 @@ pub struct End {
     pub out: String,
     /// For standard error before the line, a line each.
     pub warnings: Vec<String>,
-    /// For standard error; nothing is said where it is empty.
+    /// Nothing is said where it is empty.
     pub line: String,
+    /// Whether the line has several lines, each with nothing in it that steers.
+    pub several: bool,
+    /// Whether the line is a verdict.
+    pub judges: bool,
     /// For machines, beside the status and the line.
     pub fields: Vec<(&'static str, Json)>,
 }
 
 impl End {
     pub fn new(status: Status, line: impl Into<String>) -> End {
-        End { status, out: String::new(), warnings: Vec::new(), line: line.into(), fields: Vec::new() }
+        End {
+            status,
+            out: String::new(),
+            warnings: Vec::new(),
+            line: line.into(),
+            several: false,
+            judges: false,
+            fields: Vec::new(),
+        }
+    }
+
+    /// An end of which several lines are said.
+    pub fn of_lines(status: Status, lines: &[String]) -> End {
+        let lines: Vec<String> = lines.iter().map(|line| shown::line(line)).collect();
+        End { several: true, ..End::new(status, lines.join("\n")) }
+    }
+
+    /// The end of a command that judges: its line is printed behind the rest.
+    pub fn judging(self) -> End {
+        End { judges: true, ..self }
     }
 
     pub fn printing(mut self, out: String) -> End {
@@ -64,13 +89,23 @@ impl End {
         format!("{}\n", Json::Object(fields))
     }
 
+    /// What is printed in words.
+    fn to_text(&self) -> String {
+        match self.judges {
+            true => format!("{}{}", self.out, said(&self.line)),
+            false => self.out.clone(),
+        }
+    }
+
     /// Prints, and gives the exit status.
     pub fn say(self, json: bool) -> ExitCode {
-        let out = if json { self.to_json() } else { self.out.clone() };
-        let printed = print(&out);
+        let printed = print(&if json { self.to_json() } else { shown::lines(&self.to_text()) });
         self.warnings.iter().for_each(|warning| complain(&format!("warning: {warning}")));
-        if !self.line.is_empty() {
-            complain(&self.line);
+        if !self.line.is_empty() && (json || !self.judges) {
+            match self.several {
+                true => self.line.lines().for_each(complain),
+                false => complain(&self.line),
+            }
         }
         match printed {
             Ok(()) => ExitCode::from(self.status as u8),
@@ -86,14 +121,22 @@ impl End {
 }
 
 fn print(out: &str) -> io::Result<()> {
+    if !out.is_empty() && system::output_is_closed() {
+        return Err(io::Error::other("it is closed"));
+    }
     let mut stdout = io::stdout().lock();
     stdout.write_all(out.as_bytes())?;
     stdout.flush()
 }
 
+/// A line with the program's name before it.
+fn said(line: &str) -> String {
+    format!("labrador: {}\n", shown::line(line))
+}
+
 fn complain(line: &str) {
     // nothing can be said where standard error is closed
-    let _ = writeln!(io::stderr().lock(), "labrador: {line}");
+    let _ = io::stderr().lock().write_all(said(line).as_bytes());
 }
 
 /// A command's end, or an end before it was done.

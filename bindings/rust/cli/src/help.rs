@@ -1,4 +1,9 @@
-//! The commands with their options and examples.
+//! The commands with their options and examples: the help, the man page and the completions are made of this table.
+
+use crate::commands::load;
+
+pub mod completions;
+pub mod man;
 
 /// An option; `value` names what it takes, and is empty where it takes nothing.
 pub struct Opt {
@@ -10,6 +15,7 @@ pub struct Opt {
 pub struct Command {
     pub name: &'static str,
     pub usage: &'static str,
+    /// The first sentence says what the command is for.
     pub about: &'static str,
     pub options: &'static [Opt],
     pub example: &'static str,
@@ -26,8 +32,10 @@ const JOB: Opt = opt("--job", "FILE", "the job: the statement");
 const RANDOMNESS: Opt = opt("--randomness", "FILE", "the randomness of the transcript");
 const WITNESS: Opt = opt("--witness", "FILE", "the witness; it is secret");
 const STRICT: Opt =
-    opt("--strict", "", "exit status 1 also where a check can never fail under this job, or weights are all zero");
+    opt("--strict", "", "exit status 1 also where a check can never fail or any statement is accepted under this job, or weights are all zero");
 const TRANSCRIPT: Opt = opt("--transcript", "FILE", "the transcript");
+const REFERENCE: Opt = opt("--reference", "TEXT", "what it is filed under: a line of text");
+const DATE: Opt = opt("--date", "YYYY-MM-DD", "the day that it is filed under; no clock is read");
 
 pub const LOAD: Command = Command {
     name: "load",
@@ -47,13 +55,17 @@ pub const LOAD: Command = Command {
 
 pub const DESCRIBE: Command = Command {
     name: "describe",
-    usage: "labrador describe [--job FILE] [--as KIND] [--statement FILE] FILE…",
-    about: "Prints what is wrong with each file, if anything is; a job's parameters by name; each section with its place, count \
-            and meaning. The others are described by a job: the one that --job names, or the first among the files.",
+    usage: "labrador describe [--job FILE] [--as KIND] [--statement FILE] [--reference TEXT] [--date YYYY-MM-DD] FILE…",
+    about: "Says what files hold, and first what is wrong with them. Prints each file's SHA-256; a job's parameters by name; each section with its \
+            place, count and meaning; what each constraint of a job states: its right side, and the vectors that it touches with how many \
+            terms. Then the version, and the SHA-256 of the archive of proved calls. The others are described by a job: the one that --job \
+            names, or the first among the files.",
     options: &[
         JOB,
         opt("--as", "KIND", "read the files as job, randomness, witness or transcript, whatever they look like"),
         STATED,
+        REFERENCE,
+        DATE,
         JSON,
         HELP,
     ],
@@ -63,10 +75,10 @@ pub const DESCRIBE: Command = Command {
 pub const REVIEW: Command = Command {
     name: "review",
     usage: "labrador review JOB",
-    about: "Says of every job what chance one accepted transcript leaves a false statement, how many transcripts give 64 bits, and what the \
-            statement does not force, the worst first: checks that can never fail, rows of A that are multiples of each other, norms and \
-            totals that can be wrong, constraints that say nothing, repeat or contradict another. The chances are those of the attacks \
-            that are known. Exit status 0 where it finds only what holds of every job, 1 with more.",
+    about: "Says what an acceptance is worth and what the job does not force. Of every job it says what chance one accepted transcript \
+            leaves a false statement, how many transcripts give 64 bits, and what the statement does not force, the worst first: checks \
+            that can never fail, rows of A that are multiples of each other, norms and totals that can be wrong, constraints that say \
+            nothing, repeat or contradict another. The chances are those of the attacks that are known. Exit status 0 where it finds only what holds of every job, 1 with more.",
     options: &[JSON, HELP],
     example: "labrador review a.job",
 };
@@ -88,18 +100,58 @@ pub const PROVE: Command = Command {
     example: "labrador prove --job a.job --randomness a.randomness --witness a.witness --transcript a.transcript",
 };
 
+pub const ROUND: Command = Command {
+    name: "round",
+    usage: "labrador round K --job FILE [--randomness FILE] --witness FILE --output FILE",
+    about: "Makes the store's message of one round of a session (docs/SESSION.md). Rounds 1 to 5 make u1; p; b''; u2; z, t, g and h. From round 2 on \
+            the randomness is what the desk has drawn up to that round, and nothing more; round 1 takes none. The five messages, joined by \
+            cat, are the transcript.",
+    options: &[
+        JOB,
+        opt("--randomness", "FILE", "the randomness up to this round, as labrador draw makes it"),
+        WITNESS,
+        opt("--output", "FILE", "the round's message"),
+        FORCE,
+        JSON,
+        HELP,
+    ],
+    example: "labrador round 2 --job a.job --randomness 1.randomness --witness a.witness --output 1.p",
+};
+
+pub const DRAW: Command = Command {
+    name: "draw",
+    usage: "labrador draw --job FILE --round K --randomness FILE",
+    about: "Draws the desk's randomness for one round of a session (docs/SESSION.md). It comes from the operating system's generator. Round 2 makes \
+            the file, with the projection; the others add their sections to it: 3 psi and omega, 4 alpha and beta, 5 signs and shuffle. The \
+            file is replaced whole; it is refused, and stays as it is, where it is not the randomness of the round before. Each transcript \
+            has a file of its own, and nothing is drawn before the message of the round before is there.",
+    options: &[
+        JOB,
+        opt("--round", "NUMBER", "the round, 2 to 5, that the randomness is drawn for"),
+        opt("--randomness", "FILE", "the transcript's randomness, made by round 2 and added to by the others"),
+        opt("--force", "", "with round 2: overwrite the file"),
+        JSON,
+        HELP,
+    ],
+    example: "labrador draw --job a.job --round 2 --randomness 1.randomness",
+};
+
 pub const VERIFY: Command = Command {
     name: "verify",
-    usage: "labrador verify --job FILE --randomness FILE --transcript FILE [--report PAGE.html] [--statement FILE] [--strict]",
+    usage: "labrador verify --job FILE --randomness FILE --transcript FILE [--report PAGE.html] [--reference TEXT] [--date YYYY-MM-DD] \
+            [--statement FILE] [--strict]",
     about: "Judges a transcript. An acceptance is said with the chance that it leaves a false statement, which no single transcript \
             makes small, and with the number of things that the job does not force, which labrador review lists. Exit status 0 \
             accepted, 1 a failed check, 2 refused. The randomness is taken as it is handed in: a verdict forces nothing where the sender \
-            could choose it, or hashed it from this transcript alone.",
+            could choose it, or hashed it from this transcript alone. The page is to be filed: it has the SHA-256 of the three files, what \
+            the job states, and a line to sign on, and is the same for the same files and options.",
     options: &[
         JOB,
         RANDOMNESS,
         TRANSCRIPT,
-        opt("--report", "FILE", "write the verdict as a page to read or print"),
+        opt("--report", "FILE", "write the verdict as a page to read, print, sign and file"),
+        REFERENCE,
+        DATE,
         STATED,
         STRICT,
         FORCE,
@@ -111,12 +163,36 @@ pub const VERIFY: Command = Command {
 
 pub const VERIFY_MANY: Command = Command {
     name: "verify-many",
-    usage: "labrador verify-many [--statement FILE] [--strict] --job FILE RANDOMNESS TRANSCRIPT [RANDOMNESS TRANSCRIPT]…",
-    about: "Judges one to eight transcripts for one job, each with its own randomness, and prints a line for each. Where all are accepted it \
-            says what they are worth together if the desk drew the randomness and nothing was tried again; what is handed in twice counts \
-            once. The job is read once for all. Exit status 0 all accepted, 1 a failed check, 2 one is refused.",
-    options: &[JOB, STATED, STRICT, JSON, HELP],
+    usage: "labrador verify-many [--report PAGE.html] [--reference TEXT] [--date YYYY-MM-DD] [--statement FILE] [--strict] [--threads N] --job FILE \
+            RANDOMNESS TRANSCRIPT [RANDOMNESS TRANSCRIPT]…",
+    about: "Judges any number of transcripts for one job, each with its own randomness, and prints a line for each. It says what \
+            the accepted ones are worth together if the desk drew the randomness and nothing was tried again; each that failed was another \
+            chance, and what is handed in twice counts once. They are judged in groups of at most eight, on several threads; no more than eight are held in memory at a time, or \
+            as many as there are threads. Exit status 0 all accepted, 1 a failed check, 2 one is refused.",
+    options: &[
+        JOB,
+        opt("--report", "FILE", "write all verdicts, and what they are worth together, as a page to read or print"),
+        REFERENCE,
+        DATE,
+        opt("--threads", "NUMBER", "work on so many threads (as many as processors where it is not given)"),
+        STATED,
+        STRICT,
+        FORCE,
+        JSON,
+        HELP,
+    ],
     example: "labrador verify-many --job a.job north.randomness north.transcript south.randomness south.transcript",
+};
+
+pub const MISTYPED: Command = Command {
+    name: "mistyped",
+    usage: "labrador mistyped --job FILE --randomness FILE --transcript FILE",
+    about: "Lists which constants were perhaps mistyped, after a failed check 22. Each is an entry of b0 that would mend it if a number were \
+            added to that entry alone: told are the number of smallest size and what the entry would become. The smallest size comes first, of equal sizes lowered constants. A mended \
+            constant is another claim, which is proved anew. Exit status 0 where there is a list, 2 refused: also where check 22 is not the \
+            failed one (32), or no constant alone mends it (33).",
+    options: &[JOB, RANDOMNESS, TRANSCRIPT, JSON, HELP],
+    example: "labrador mistyped --job a.job --randomness a.randomness --transcript a.transcript",
 };
 
 const FIRST: Opt = opt("--first", "NUMBER", "the run's first vector, counted from 0");
@@ -127,8 +203,8 @@ const VECTORS: Opt = opt("--vectors", "FILE", "the run's witness vectors; they a
 pub const SHED_PARTS: Command = Command {
     name: "shed-parts",
     usage: "labrador shed-parts --job FILE --randomness FILE --witness FILE --first N --end N --projection FILE --vectors FILE",
-    about: "Takes a run of witness vectors and its projection words out of a whole witness and a whole randomness: what one shed's \
-            machine is handed.",
+    about: "Takes what one shed's machine is handed out of a whole witness and a whole randomness. That is a run of witness vectors and its \
+            projection words.",
     options: &[JOB, RANDOMNESS, WITNESS, FIRST, END, PROJECTION, VECTORS, FORCE, JSON, HELP],
     example: "labrador shed-parts --job a.job --randomness a.randomness --witness a.witness --first 0 --end 2 --projection shed1/projection \
               --vectors shed1/vectors",
@@ -163,7 +239,7 @@ pub const SHED_ROWS: Command = Command {
 pub const ADD_PROJECTIONS: Command = Command {
     name: "add-projections",
     usage: "labrador add-projections --p FILE P P…",
-    about: "Adds the p of two or more runs, in the order in which they are given; every order gives the same sum.",
+    about: "Adds the p of two or more runs. They are added in the order in which they are given; every order gives the same sum.",
     options: &[opt("--p", "FILE", "the sum"), FORCE, JSON, HELP],
     example: "labrador add-projections --p a.p shed1/p shed2/p",
 };
@@ -193,8 +269,8 @@ pub const STATEMENT: Command = Command {
 pub const STOCK: Command = Command {
     name: "stock",
     usage: "labrador stock FILE --job FILE --witness FILE",
-    about: "Makes the witness of a stock list: a number a line, line 0 of s0 first, or vector,line,number a line. Lines that are not given \
-            are 0.",
+    about: "Makes the witness of a stock list. The list has a number a line, line 0 of s0 first, or vector,line,number a line. Lines that \
+            are not given are 0.",
     options: &[JOB, WITNESS, FORCE, JSON, HELP],
     example: "labrador stock sheds.stock --job sheds.job --witness sheds.witness",
 };
@@ -202,8 +278,8 @@ pub const STOCK: Command = Command {
 pub const CHECK: Command = Command {
     name: "check",
     usage: "labrador check --job FILE --witness FILE",
-    about: "Says, before anything is proved, which totals the witness meets, by how much it misses the others, and each vector's norm against \
-            A's bound. Exit status 0 all met, 1 something is missed, 2 unfit.",
+    about: "Says before anything is proved which totals a witness meets. It says by how many grams it misses the others, and each vector's norm \
+            against A's bound. Exit status 0 all met, 1 something is missed or met modulo Q only, 2 unfit.",
     options: &[JOB, WITNESS, JSON, HELP],
     example: "labrador check --job sheds.job --witness sheds.witness",
 };
@@ -211,8 +287,9 @@ pub const CHECK: Command = Command {
 pub const BOUNDS: Command = Command {
     name: "bounds",
     usage: "labrador bounds --statement FILE --stock FILE [--slack PERCENT] [--sessions N]",
-    about: "Prints the six bounds that honest transcripts of a statement and a stock need, as lines of a statement file; the file may lack \
-            them here. Exit status 1 where one of the transcripts would not pass.",
+    about: "Prints the bounds that honest transcripts of a statement and a stock need. They are the six lines of a statement file, which \
+            may lack them here. Exit status 1 where the stock misses a total, which is told with its line, or \
+            one of the transcripts would not pass.",
     options: &[
         opt("--statement", "FILE", "the statement file"),
         opt("--stock", "FILE", "the stock list; it is secret"),
@@ -224,22 +301,42 @@ pub const BOUNDS: Command = Command {
     example: "labrador bounds --statement sheds.statement --stock sheds.stock",
 };
 
+pub const RANGES: Command = Command {
+    name: "ranges",
+    usage: "labrador ranges --job FILE --lows FILE --highs FILE",
+    about: "Says of a witness that is known within ranges whether each vector's norm meets A's bound. Each coefficient is known from a \
+            lowest to a highest centred number; the bound is met for every choice, for some choices but not every, or for none, and the smallest \
+            and the largest norm are told. Both files \
+            have 64·r·n words of eight bytes with a sign (i64), the least byte first, in the witness's order and without a count. Exit status \
+            0 where all meet it for every choice, 1 where one does not, 2 refused.",
+    options: &[
+        JOB,
+        opt("--lows", "FILE", "the lowest number of each coefficient; they are secret"),
+        opt("--highs", "FILE", "the highest number of each coefficient; they are secret"),
+        JSON,
+        HELP,
+    ],
+    example: "labrador ranges --job sheds.job --lows sheds.lows --highs sheds.highs",
+};
+
 pub const EXPLAIN: Command = Command {
     name: "explain",
     usage: "labrador explain [NUMBER]",
-    about:
-        "Says what the number of a refusal or of a failed check means; without a number, all of them in a line each.",
+    about: "Says what the number of a refusal or of a failed check means. Without a number it says all of them, in a line each.",
     options: &[JSON, HELP],
     example: "labrador explain 22",
 };
 
-pub const COMMANDS: [&Command; 15] = [
+pub const COMMANDS: [&Command; 19] = [
     &LOAD,
     &DESCRIBE,
     &REVIEW,
     &PROVE,
+    &ROUND,
+    &DRAW,
     &VERIFY,
     &VERIFY_MANY,
+    &MISTYPED,
     &SHED_PARTS,
     &SHED_PROJECTION,
     &SHED_ROWS,
@@ -248,32 +345,86 @@ pub const COMMANDS: [&Command; 15] = [
     &STOCK,
     &CHECK,
     &BOUNDS,
+    &RANGES,
     &EXPLAIN,
 ];
+
+impl Opt {
+    /// Whether it takes the name of a file.
+    pub fn takes_file(&self) -> bool {
+        matches!(self.value, "FILE" | "JOB")
+    }
+
+    /// `--job FILE`
+    fn called(&self) -> String {
+        format!("{} {}", self.name, self.value).trim_end().to_string()
+    }
+}
 
 impl Command {
     pub fn hint(&self) -> String {
         format!("labrador {} --help says more", self.name)
     }
 
+    /// What the command is for.
+    fn brief(&self) -> &'static str {
+        self.about.split(". ").next().unwrap_or_default().trim_end_matches('.')
+    }
+
     pub fn help(&self) -> String {
         let mut out = format!("{}\n\n  {}\n\n", self.about, self.usage);
         for option in self.options {
-            let name = format!("{} {}", option.name, option.value);
-            out += &format!("  {name:<20} {}\n", option.about);
+            out += &format!("  {:<20} {}\n", option.called(), option.about);
         }
         if self.name == LOAD.name {
-            out += &crate::commands::load::parameters_help();
+            out += "\nParameters, with the value of one that is not given:\n";
+            for (given, meaning) in load::parameters_help() {
+                out += &format!("  {given:<20} {meaning}\n");
+            }
+            out += &format!("  {}\n", load::L_HELP);
         }
         out + &format!("\nExample:\n  {}\n", self.example)
     }
 }
 
+/// What the program is.
+const ABOUT: &str = "LaBRADOR from the command line, over proved calls.";
+/// What its files are.
+const FILES: &str =
+    "Files are words of four bytes, the least byte first. - is no file: standard input is not read, and files are not \
+                     written to standard output.";
+const STATUSES: [(u8, &str); 5] = [
+    (0, "accepted or made"),
+    (1, "a failed check or something found"),
+    (2, "refused or unfit input"),
+    (3, "the file system failed"),
+    (64, "a wrong call"),
+];
+/// The calls that are no commands.
+const OTHERS: [(&str, &str); 4] = [
+    ("help [COMMAND]", "says what the commands are for, or how one is called, as COMMAND --help does"),
+    ("help --man", "prints the man page"),
+    ("help --bash, --zsh", "prints the completions for the shell"),
+    ("--version, -V", "prints the version"),
+];
+
 pub fn general() -> String {
-    let mut out = "LaBRADOR from the command line, over proved calls.\n\n".to_string();
+    let mut out = format!("{ABOUT}\n\n");
     for command in COMMANDS {
-        out += &format!("  {}\n", command.usage);
+        out += &format!("  {:<18} {}\n", command.name, command.brief());
     }
-    out + "\nFiles are words of four bytes, the least byte first. Exit status: 0 accepted or made, 1 a failed check or something \
-           found,\n2 refused or unfit input, 3 the file system failed, 64 a wrong call. labrador COMMAND --help says more.\n"
+    out += "\n";
+    for (call, about) in OTHERS {
+        out += &format!("  {call:<18} {about}\n");
+    }
+    let statuses = STATUSES.map(|(status, meaning)| format!("{status} {meaning}")).join(", ");
+    out + &format!("\n{FILES}\nExit status: {statuses}.\nlabrador COMMAND --help says more.\n")
+}
+
+/// The name under which the program is called, for its man page and completions.
+fn program() -> String {
+    let called = std::env::args_os().next().map(std::path::PathBuf::from);
+    let name = called.and_then(|path| path.file_name()?.to_str().map(str::to_string));
+    let plain = |name: &String| name.chars().all(|c| c.is_ascii_alphanumeric() || "-_.".contains(c));
+    name.filter(plain).unwrap_or_else(|| "labrador".to_string())
 }

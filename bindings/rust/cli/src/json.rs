@@ -2,11 +2,14 @@
 
 use std::fmt;
 
+use crate::shown::steers;
+
 /// A value. Figures that can pass 2^53 are text, so that no reader rounds them.
 #[derive(Clone, Debug)]
 pub enum Json {
     Null,
     Number(u64),
+    Signed(i64),
     Text(String),
     List(Vec<Json>),
     Object(Vec<(&'static str, Json)>),
@@ -24,7 +27,7 @@ fn quoted(f: &mut fmt::Formatter<'_>, text: &str) -> fmt::Result {
         match c {
             '"' => f.write_str("\\\"")?,
             '\\' => f.write_str("\\\\")?,
-            c if c < ' ' => write!(f, "\\u{:04x}", c as u32)?,
+            c if steers(c) => write!(f, "\\u{:04x}", c as u32)?,
             c => write!(f, "{c}")?,
         }
     }
@@ -36,6 +39,7 @@ impl fmt::Display for Json {
         match self {
             Json::Null => f.write_str("null"),
             Json::Number(number) => write!(f, "{number}"),
+            Json::Signed(number) => write!(f, "{number}"),
             Json::Text(text) => quoted(f, text),
             Json::List(values) => {
                 f.write_str("[")?;
@@ -65,7 +69,7 @@ mod tests {
     #[test]
     fn text_is_escaped() {
         let value =
-            Json::Object(vec![("a", Json::text("\"\\\n")), ("b", Json::List(vec![Json::Number(1), Json::Null]))]);
-        assert_eq!(value.to_string(), r#"{"a":"\"\\\u000a","b":[1,null]}"#);
+            Json::Object(vec![("a", Json::text("\"\\\n\u{9b}")), ("b", Json::List(vec![Json::Number(1), Json::Null]))]);
+        assert_eq!(value.to_string(), r#"{"a":"\"\\\u000a\u009b","b":[1,null]}"#);
     }
 }

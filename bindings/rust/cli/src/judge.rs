@@ -2,7 +2,7 @@
 
 use labrador::section_one::{SectionOne, COUNT};
 use labrador::sections::Placed;
-use labrador::{expected, output_need, prove_into, verify_with, Refusal, Slice, Verdict};
+use labrador::{expected, output_need, prove_into, verify_with, Refusal, Round, Slice, Verdict};
 
 /// The refusal of a slice under a fit job; a job is judged alone.
 pub fn refusal(slice: Slice, job: &[u32], words: &[u32]) -> Option<Refusal> {
@@ -67,5 +67,15 @@ pub fn told(refusal: &Refusal, handed: [(Slice, &[u32]); 3]) -> String {
     match words.and_then(fit) {
         Some(slice) => format!("{refusal}; the file is fit as {}", slice.name()),
         None => refusal.to_string(),
+    }
+}
+
+/// A round's refusal in words, and where the randomness is that of another round, of which.
+pub fn told_in_round(refusal: &Refusal, handed: [(Slice, &[u32]); 3]) -> String {
+    let (job, randomness) = (handed[0].1, handed[1].1);
+    let is_of = |round: &Round| refusal.number() == 7 && round.admits(job, randomness).is_ok();
+    match Round::ALL.into_iter().skip(1).find(is_of) {
+        Some(round) => format!("{refusal}; the file is the randomness of round {}", round.number()),
+        None => told(refusal, handed),
     }
 }

@@ -1,22 +1,14 @@
-//! What a job states, in the words of a statement file, and whether it is the job of one.
+//! Whether a job is that of a statement file.
 
 use std::path::Path;
 
 use labrador::section_one::SectionOne;
-use labrador::statement::{totals, Statement};
+use labrador::statement::Statement;
 use labrador::{expected, Place, Slice};
 
 use crate::end::End;
+use crate::shown;
 use crate::texts;
-
-/// So many terms of a total are told; `labrador statement --from` prints all.
-const TERMS: usize = 16;
-
-/// Each constraint of a fit job in words.
-pub fn constraints(job: &[u32]) -> Vec<String> {
-    let told = totals(job).unwrap_or_default().into_iter();
-    told.map(|total| total.map_or_else(|none| none.to_string(), |total| total.cut(TERMS))).collect()
-}
 
 /// A statement with the name of its file.
 pub struct Given<'a> {
@@ -52,7 +44,7 @@ impl Given<'_> {
             Some(at) => format!("A to D are not those of the seed: word {at} is another ({})", spot(at)),
         };
         let difference = first_difference(job, &self.statement.job());
-        let (shown, same) = (self.path.display(), difference.is_none());
+        let (shown, same) = (shown::name(self.path), difference.is_none());
         let whole = match difference {
             None => format!("the job is that of {shown}"),
             Some(at) => format!("the job is not that of {shown}: word {at} is another ({})", spot(at as u64)),

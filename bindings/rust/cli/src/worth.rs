@@ -123,6 +123,19 @@ pub fn together(worth: &Worth, transcripts: u32) -> String {
     }
 }
 
+/// What transcripts are worth together, so many of them accepted and so many of these counted, and on what that rests: nothing is said where
+/// none is accepted.
+pub fn together_sentence(worth: &Worth, judged: usize, accepted: usize, counted: u32) -> Option<String> {
+    let (chance, drawn) = (together(worth, counted), "if the desk drew the randomness and nothing was tried again");
+    let best = format!("at best {chance}, {drawn}, and each that failed was another chance");
+    match accepted {
+        0 => None,
+        all if all == judged => Some(format!("together: {chance}, {drawn}")),
+        1 => Some(format!("the 1 accepted: {best}")),
+        some => Some(format!("the {some} accepted together: {best}")),
+    }
+}
+
 /// What is to be told of the randomness of a transcript whose slices were fit.
 pub fn warnings(verdict: &Verdict, job: &[u32], randomness: &[u32]) -> Vec<String> {
     match (verdict.number(), SectionOne::read(job)) {

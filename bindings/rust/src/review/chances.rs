@@ -20,7 +20,7 @@ fn anything(one: &SectionOne) -> Option<Finding> {
 }
 
 /// The greatest divisor M of q for which p modulo M is within the limit of 21, 128·beta_sq: its 256 entries have M²/12 each on the
-/// average, so beta_sq reaches M²/6.
+/// average, so beta_sq reaches M²/6, a half above a whole number: it is told from that number on.
 fn norm(one: &SectionOne, worth: &Worth) -> Option<Finding> {
     let beta_sq = one.bound("beta_sq");
     let reached = |number: u32| beta_sq >= u128::from(number).pow(2) / 6;
@@ -43,7 +43,7 @@ fn totals(one: &SectionOne, worth: &Worth) -> Option<Finding> {
     let mut passes: Vec<_> = divisors.map(|d| (d.number, worth.in_slots(&d.slots))).collect();
     let by_psi = worth.by_psi().filter(|_| !passes.is_empty())?;
     if passes.iter().all(|(_, chance)| *chance < by_psi) {
-        passes.push((worth.modulus.q / worth.modulus.least_prime, by_psi));
+        passes.push((worth.modulus.q / worth.modulus.least_prime(), by_psi));
     }
     let sections = placed(Slice::Job, &one.parameters);
     let at = sections.iter().find(|s| s.section.name == "b0").expect("a section of the job").begin();

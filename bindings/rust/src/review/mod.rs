@@ -1,5 +1,6 @@
 //! What a job does not force: faults that are no refusals, found before a transcript is judged under it.
 
+use std::cmp::Reverse;
 use std::fmt;
 
 use crate::needs::output_need;
@@ -10,10 +11,12 @@ use crate::worth::Fraction;
 mod chances;
 mod constraints;
 mod limits;
+mod ratio;
 mod rows;
 mod severity;
 mod words;
 
+pub use ratio::Ratio;
 pub use severity::Severity;
 
 /// The two kinds of constraints.
@@ -35,12 +38,14 @@ impl fmt::Display for Kind {
 /// Something that a job does not force. `at` is the index of the first word that it is about.
 #[derive(Clone, Debug, PartialEq, Eq)]
 pub enum Finding {
-    /// Check 23 can never fail, or has room for a z of any size (that sum and the limit), and n is at least 2·kappa + 2: any statement
-    /// passes, without a witness.
+    /// Check 23 can never fail, or has room for a z of any size (that sum and the limit), bound_D has room for a cell of h of any size, and n
+    /// is at least 2·kappa + 2: any statement passes, without a witness.
     AnythingPasses { n: u32, kappa: u32, room: Option<(u128, u128)>, at: u64 },
-    /// A limit at or above the greatest norm there is, so that its check or refusal is never answered.
+    /// A limit at or above the greatest norm there is, so that its check or refusal can never fail.
     Unreachable { number: u32, name: &'static str, limit: u128, greatest: u128, at: u64 },
-    /// A has one row, or all its rows are multiples of one row.
+    /// A is zero.
+    ZeroA { at: u64 },
+    /// A has one row, or all its rows are multiples of one row, and n is at least 2.
     RankOne { rows: u64, at: u64 },
     /// A column of A that is zero.
     ZeroColumn { column: u64, at: u64 },
@@ -58,10 +63,12 @@ pub enum Finding {
     Totals { passes: Vec<(u32, Fraction)>, at: u64 },
     /// A constraint with no coefficient at all; no witness meets it unless its right side is zero.
     NoCoefficient { kind: Kind, index: u64, met: bool, at: u64 },
-    /// A constraint that says what another says.
-    Repeated { kind: Kind, index: u64, of_kind: Kind, of: u64, at: u64 },
-    /// A constraint with the left side of another and another right side.
-    Contradicts { kind: Kind, index: u64, of_kind: Kind, of: u64, at: u64 },
+    /// A constraint without a coefficient modulo a prime of Q, and with a right side that is not 0 there.
+    NoCoefficientModulo { kind: Kind, index: u64, modulo: u32, at: u64 },
+    /// A constraint that another implies: it has the same words, or is a multiple of it by a number.
+    Repeated { kind: Kind, index: u64, of_kind: Kind, of: u64, multiple: bool, at: u64 },
+    /// A constraint that no witness meets together with another: the left sides stand to each other in a ratio that the right sides have not.
+    Contradicts { kind: Kind, index: u64, of_kind: Kind, of: u64, ratio: Ratio, at: u64 },
     /// A witness vector that no constraint touches.
     Untouched { vector: u64 },
     /// Digits that can lose something: fewer parts than the base needs.
@@ -78,11 +85,10 @@ pub fn review(job: &[u32]) -> Result<Vec<Finding>, Refusal> {
     let one = SectionOne::read(job).expect("the job is fit");
     let mut found = chances::review(&one);
     found.extend(constraints::review(&one.parameters, job));
-    found.extend(rows::zero_columns(&one.parameters, job));
     found.extend(limits::review(&one));
     found.extend(rows::review(&one.parameters, job));
     found.extend(limits::few_parts(&one.parameters)?);
-    // those of one severity stay in the order in which they were found
-    found.sort_by_key(Finding::severity);
+    // those of one severity and of one chance stay in the order in which they were found
+    found.sort_by_key(|finding| (finding.severity(), Reverse(finding.chance().cloned())));
     Ok(found)
 }

@@ -1,7 +1,7 @@
 //! Rows of the matrices that are zero or repeat another, rows of A that are multiples of one row, and zero columns of A.
 
-use super::constraints::zero;
 use super::Finding;
+use crate::constraints::zero;
 use crate::element::Element;
 use crate::norms::elements;
 use crate::section_one::Parameters;
@@ -14,9 +14,12 @@ fn matrices(p: &Parameters) -> Vec<(Placed, usize)> {
     placed(Slice::Job, p).into_iter().filter_map(matrix).collect()
 }
 
+/// Rows and columns of A, and rows of the other matrices. Where A is zero that alone is told of it.
 pub(super) fn review(p: &Parameters, job: &[u32]) -> Vec<Finding> {
-    let mut found = Vec::new();
-    for (section, rows) in matrices(p) {
+    let section = a_of(p);
+    let is_zero = zero(section.words(job));
+    let mut found = if is_zero { vec![Finding::ZeroA { at: section.begin() }] } else { zero_columns(p, job) };
+    for (section, rows) in matrices(p).into_iter().filter(|(s, _)| !is_zero || s.section.name != "A") {
         let (matrix, words) = (section.section.name, section.words(job));
         let length = words.len() / rows;
         let row = |k: usize| &words[k * length..(k + 1) * length];
@@ -31,7 +34,9 @@ pub(super) fn review(p: &Parameters, job: &[u32]) -> Vec<Finding> {
             }
         }
     }
-    found.extend(multiples(p, job));
+    if !is_zero {
+        found.extend(multiples(p, job));
+    }
     found
 }
 
@@ -50,7 +55,8 @@ fn multiples_of_one(row: &[Element], other: &[Element]) -> bool {
         .all(|i| columns.clone().skip(i + 1).all(|j| product(&row[i], &other[j]) == product(&row[j], &other[i])))
 }
 
-/// Rows of A that are multiples of one row; where all are, that alone.
+/// Rows of A that are multiples of one row; where all are, that alone. Of one column the rank 1 is the greatest there is, and one row that is
+/// not zero binds as many as all.
 fn multiples(p: &Parameters, job: &[u32]) -> Vec<Finding> {
     let section = a_of(p);
     let (rows, columns) = (p.kappa as usize, p.n as usize);
@@ -73,7 +79,7 @@ fn multiples(p: &Parameters, job: &[u32]) -> Vec<Finding> {
     (0..rows).filter_map(finding).collect()
 }
 
-pub(super) fn zero_columns(p: &Parameters, job: &[u32]) -> Vec<Finding> {
+fn zero_columns(p: &Parameters, job: &[u32]) -> Vec<Finding> {
     let section = a_of(p);
     let (words, rows, columns) = (section.words(job), p.kappa as usize, p.n as usize);
     let element = |row: usize, column: usize| &words[64 * (row * columns + column)..][..64];

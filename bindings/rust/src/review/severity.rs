@@ -2,6 +2,7 @@
 
 use super::Finding;
 use crate::meaning::CHECKS;
+use crate::worth::Fraction;
 
 /// The worst first.
 #[derive(Clone, Copy, Debug, PartialEq, Eq, PartialOrd, Ord)]
@@ -12,7 +13,7 @@ pub enum Severity {
     NeverFails,
     /// A matrix binds less than its size says.
     Binding,
-    /// A false statement has a chance that the statement itself leaves it.
+    /// A false statement has a chance that the statement itself leaves it; the greatest chance first.
     Chance,
     /// A constraint says nothing, or nothing of a vector.
     Constraint,
@@ -29,7 +30,8 @@ impl Finding {
         match self {
             Finding::AnythingPasses { .. } => Severity::Anything,
             Finding::Unreachable { .. } if self.never_fails().is_some() => Severity::NeverFails,
-            Finding::RankOne { .. }
+            Finding::ZeroA { .. }
+            | Finding::RankOne { .. }
             | Finding::ZeroColumn { .. }
             | Finding::ZeroRow { .. }
             | Finding::RepeatedRow { .. }
@@ -39,10 +41,20 @@ impl Finding {
                 Severity::Constraint
             }
             Finding::FewParts { .. } => Severity::Digits,
-            Finding::NoCoefficient { .. } | Finding::Contradicts { .. } | Finding::NoRoom { .. } => {
-                Severity::Unprovable
-            }
+            Finding::NoCoefficient { .. }
+            | Finding::NoCoefficientModulo { .. }
+            | Finding::Contradicts { .. }
+            | Finding::NoRoom { .. } => Severity::Unprovable,
             Finding::Unreachable { .. } | Finding::ProverAlone { .. } => Severity::Prover,
+        }
+    }
+
+    /// The greatest chance that it tells of.
+    pub fn chance(&self) -> Option<&Fraction> {
+        match self {
+            Finding::NormNotForced { chance, .. } => Some(chance),
+            Finding::Totals { passes, .. } => passes.iter().map(|(_, chance)| chance).max(),
+            _ => None,
         }
     }
 

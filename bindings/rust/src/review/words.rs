@@ -2,7 +2,7 @@
 
 use std::fmt;
 
-use super::Finding;
+use super::{Finding, Ratio};
 use crate::meaning::meaning;
 use crate::worth::Fraction;
 
@@ -33,6 +33,16 @@ fn totals(passes: &[(u32, Fraction)]) -> String {
     format!("totals are forced modulo {least} only: one that is wrong {}", each.join(", "))
 }
 
+/// How the sides of two constraints stand to each other that contradict.
+fn sides(ratio: &Ratio) -> String {
+    let number = "the left sides are the same up to a number, the right sides are not by that number";
+    match ratio {
+        Ratio::Same => "the left sides are the same, the right sides are not".to_string(),
+        Ratio::Multiple => number.to_string(),
+        Ratio::Modulo(divisor) => format!("modulo {divisor}, which divides Q, {number}"),
+    }
+}
+
 impl Finding {
     /// The sentence without its place.
     fn sentence(&self) -> String {
@@ -54,7 +64,7 @@ impl Finding {
                 chance(c)
             ),
             Finding::BetaTooGreat { most, .. } => {
-                format!("beta is above q/125, the paper's condition on check 21: beta_sq is then at most {most}")
+                format!("beta is above q/125, and the paper's lemma on check 21 needs one that is not: a beta_sq of at most {most}")
             }
             Finding::Totals { passes, .. } => totals(passes),
             Finding::FewParts { name, parts, needed, base, cells, .. } => {
@@ -79,11 +89,19 @@ impl Finding {
             Finding::NoCoefficient { kind, index, .. } => {
                 format!("{kind} {index} has no coefficient at all and a right side that is not 0: no witness meets it")
             }
-            Finding::Repeated { kind, index, of_kind, of, .. } => format!("{kind} {index} repeats {of_kind} {of}"),
-            Finding::Contradicts { kind, index, of_kind, of, .. } => format!(
-                "{kind} {index} contradicts {of_kind} {of}: the left sides are the same, the right sides are not, and no witness meets both"
+            Finding::NoCoefficientModulo { kind, index, modulo, .. } => format!(
+                "{kind} {index} has no coefficient modulo {modulo}, which divides Q, and a right side that is not 0 there: no witness meets it"
+            ),
+            Finding::Repeated { kind, index, of_kind, of, multiple, .. } => {
+                let times = if *multiple { ": both its sides are that one's, times a number" } else { "" };
+                format!("{kind} {index} repeats {of_kind} {of}{times}")
+            }
+            Finding::Contradicts { kind, index, of_kind, of, ratio, .. } => format!(
+                "{kind} {index} contradicts {of_kind} {of}: {}, and no witness meets both",
+                sides(ratio)
             ),
             Finding::Untouched { vector } => format!("witness vector {vector} is in no constraint"),
+            Finding::ZeroA { .. } => "A is zero: t says nothing of the witness".to_string(),
             Finding::RankOne { rows: 1, .. } => "A has rank 1: it has one row".to_string(),
             Finding::RankOne { rows, .. } => format!("A has rank 1: its {rows} rows are multiples of one row"),
             Finding::ZeroColumn { column, .. } => {
@@ -102,6 +120,7 @@ impl Finding {
             Finding::Untouched { .. } => None,
             Finding::AnythingPasses { at, .. }
             | Finding::Unreachable { at, .. }
+            | Finding::ZeroA { at }
             | Finding::RankOne { at, .. }
             | Finding::ZeroColumn { at, .. }
             | Finding::ZeroRow { at, .. }
@@ -111,6 +130,7 @@ impl Finding {
             | Finding::BetaTooGreat { at, .. }
             | Finding::Totals { at, .. }
             | Finding::NoCoefficient { at, .. }
+            | Finding::NoCoefficientModulo { at, .. }
             | Finding::Repeated { at, .. }
             | Finding::Contradicts { at, .. }
             | Finding::FewParts { at, .. }

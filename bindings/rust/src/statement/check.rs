@@ -1,26 +1,30 @@
-//! Whether a witness meets a job, worked out without randomness: each constraint's left side by the proved leaf calls, and each vector's norm.
+//! Whether a witness meets a job, worked out without randomness: of a total what its lines add up to, of each other constraint the left side by
+//! the proved leaf calls, and each vector's norm.
 
 use super::job::totals;
 use super::total::{centred, factors_of, Total};
 use super::Stock;
+use crate::constraints::Constraints;
 use crate::element::Element;
 use crate::norms::{elements, norm_of};
+use crate::number::Q;
 use crate::refusal::Refusal;
 use crate::review::Kind;
 use crate::rounds::{round_into, Round};
 use crate::section_one::{Parameters, SectionOne};
 use crate::sections::{words_of, Slice};
 
-/// Both sides of a constraint at one coefficient, centred. Of a ring constraint it is the first that differs, or coefficient 0.
+/// Both sides of a constraint at one coefficient. Of a ring constraint it is the first that differs, or coefficient 0.
 #[derive(Clone, Debug, PartialEq, Eq)]
 pub struct Side {
     pub kind: Kind,
     pub index: u64,
     pub coefficient: usize,
-    pub left: i64,
+    /// Of a total what its lines add up to, in grams, which is not taken modulo Q; of other constraints the left side, centred.
+    pub left: i128,
+    /// Centred.
     pub right: i64,
-    /// Of a total: its words, and what its lines add up to before that is taken modulo Q.
-    pub total: Option<(Total, i128)>,
+    pub total: Option<Total>,
 }
 
 /// What a witness gives under a job.
@@ -35,19 +39,30 @@ pub struct Checked {
 
 impl Side {
     /// The left side less the right one.
-    pub fn difference(&self) -> i64 {
-        self.left - self.right
+    pub fn difference(&self) -> i128 {
+        self.left - i128::from(self.right)
     }
 
+    /// Whether the sides are equal, and not modulo Q alone.
     pub fn is_met(&self) -> bool {
-        self.left == self.right
+        self.difference() == 0
+    }
+
+    /// Whether they are equal modulo Q: no proof shows more.
+    pub fn is_met_modulo_q(&self) -> bool {
+        self.difference() % i128::from(Q) == 0
     }
 }
 
 impl Checked {
     /// The constraints that are missed.
     pub fn missed(&self) -> usize {
-        self.sides.iter().filter(|side| !side.is_met()).count()
+        self.sides.iter().filter(|side| !side.is_met_modulo_q()).count()
+    }
+
+    /// The totals that are met modulo Q only.
+    pub fn modulo_q(&self) -> usize {
+        self.sides.iter().filter(|side| side.is_met_modulo_q() && !side.is_met()).count()
     }
 
     /// The vectors whose norm is above A's bound.
@@ -120,13 +135,7 @@ fn weighted(weights: &[u32], of: &[Element]) -> Result<Element, Refusal> {
     Ok(sum)
 }
 
-/// Part k of words that are laid out constraint after constraint.
-fn part(words: &[u32], count: usize, k: usize) -> &[u32] {
-    let length = words.len() / count;
-    &words[k * length..(k + 1) * length]
-}
-
-/// What the lines of a total add up to, its factors centred.
+/// What the lines of a total add up to, its factors centred. Modulo Q it is the left side's constant coefficient.
 fn added(phi: &[u32], stock: &Stock) -> i128 {
     let factors = factors_of(phi).map(|word| i128::from(centred(word)));
     factors.zip(stock.numbers()).map(|(factor, &line)| factor * i128::from(line)).sum()
@@ -136,24 +145,27 @@ fn added(phi: &[u32], stock: &Stock) -> i128 {
 pub fn check(job: &[u32], witness: &[u32]) -> Result<Checked, Refusal> {
     let one = admitted(job, witness)?;
     let p = &one.parameters;
-    let words = |name: &str| words_of(Slice::Job, p, name, job);
+    let [constant_terms, rings] = Constraints::both(p, job);
     let said = totals(job)?;
     let quadratic = said.iter().any(|total| total.is_err());
     let vectors = Vectors::of(p, witness, quadratic)?;
     let stock = Stock::of_witness(p, witness);
     let mut sides = Vec::new();
-    for (k, total) in said.into_iter().take(p.l as usize).enumerate() {
-        let (a, phi) = (part(words("a'"), p.l as usize, k), part(words("phi'"), p.l as usize, k));
-        let left = centred(vectors.left(a, phi)?.coeffs[0]);
-        let total = total.ok().map(|total| (total, added(phi, &stock)));
-        let right = centred(words("b0")[k]);
+    for (k, total) in said.into_iter().take(constant_terms.count).enumerate() {
+        let [a, phi, b_0] = constant_terms.parts(k);
+        let total = total.ok();
+        let left = match total {
+            Some(_) => added(phi, &stock),
+            None => centred(vectors.left(a, phi)?.coeffs[0]).into(),
+        };
+        let right = centred(b_0[0]);
         sides.push(Side { kind: Kind::ConstantTerm, index: k as u64, coefficient: 0, left, right, total });
     }
-    for k in 0..p.K as usize {
-        let [a, phi, b] = ["a", "phi", "b"].map(|name| part(words(name), p.K as usize, k));
+    for k in 0..rings.count {
+        let [a, phi, b] = rings.parts(k);
         let left = vectors.left(a, phi)?.coeffs;
         let coefficient = (0..64).find(|&c| left[c] != b[c]).unwrap_or(0);
-        let (left, right) = (centred(left[coefficient]), centred(b[coefficient]));
+        let (left, right) = (centred(left[coefficient]).into(), centred(b[coefficient]));
         sides.push(Side { kind: Kind::Ring, index: k as u64, coefficient, left, right, total: None });
     }
     let lines = 64 * p.n as usize;

@@ -7,6 +7,13 @@ use super::parse::names;
 use super::{GREATEST_BOUND, MOST_TOTALS};
 use crate::number::HALF;
 
+/// So many mistakes of a text are told; reading stops at the next one.
+const MOST_TOLD: usize = 1000;
+
+/// All mistakes of a text, in the order of their places: at least one, and of a line the first.
+#[derive(Clone, Debug, PartialEq, Eq)]
+pub struct Mistakes(Vec<Mistake>);
+
 /// A mistake at a place of a text.
 #[derive(Clone, Debug, PartialEq, Eq)]
 pub struct Mistake {
@@ -109,6 +116,10 @@ pub enum Fault {
         line: u32,
         by: usize,
     },
+    /// After so many mistakes the rest is not read.
+    Many {
+        told: usize,
+    },
 }
 
 impl fmt::Display for Found {
@@ -176,6 +187,7 @@ impl fmt::Display for Fault {
             Fault::Comma => f.write_str("vector, line and number are parted by commas"),
             Fault::Full { lines } => write!(f, "the stock has {lines} lines, and each has its number"),
             Fault::Given { vector, line, by } => write!(f, "s{vector}[{line}] has its number in line {by}"),
+            Fault::Many { told } => write!(f, "{told} mistakes are told before, and the rest is not read"),
         }
     }
 }
@@ -188,3 +200,51 @@ impl fmt::Display for Mistake {
 }
 
 impl Error for Mistake {}
+
+impl Mistakes {
+    /// Those that were found, if any were.
+    pub(super) fn of(mut found: Vec<Mistake>) -> Result<(), Mistakes> {
+        if found.is_empty() {
+            return Ok(());
+        }
+        found.sort_by_key(|mistake| (mistake.line, mistake.column));
+        Err(Mistakes(found))
+    }
+
+    /// Adds what is found in a line; whether reading goes on.
+    pub(super) fn goes_on(found: &mut Vec<Mistake>, line: Result<(), Mistake>) -> bool {
+        let Err(mistake) = line else {
+            return true;
+        };
+        let is_full = found.len() >= MOST_TOLD;
+        found.push(if is_full { Mistake { fault: Fault::Many { told: MOST_TOLD }, ..mistake } } else { mistake });
+        !is_full
+    }
+
+    /// In the order of their places.
+    pub fn all(&self) -> &[Mistake] {
+        &self.0
+    }
+
+    pub fn first(&self) -> &Mistake {
+        &self.0[0]
+    }
+}
+
+impl From<Mistake> for Mistakes {
+    fn from(mistake: Mistake) -> Mistakes {
+        Mistakes(vec![mistake])
+    }
+}
+
+/// A line each.
+impl fmt::Display for Mistakes {
+    fn fmt(&self, f: &mut fmt::Formatter<'_>) -> fmt::Result {
+        for (k, mistake) in self.0.iter().enumerate() {
+            write!(f, "{}{mistake}", if k == 0 { "" } else { "\n" })?;
+        }
+        Ok(())
+    }
+}
+
+impl Error for Mistakes {}

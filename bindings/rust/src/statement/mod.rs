@@ -3,9 +3,11 @@
 //! ```
 //! use labrador::statement::Statement;
 //!
-//! let wrong = Statement::parse("statement 1\nn 65\n").unwrap_err();
-//! assert_eq!(wrong.to_string(), "line 2, column 3: 65 stands there; n is a number from 1 to 64");
-//! assert_eq!((wrong.line, wrong.column), (2, 3));
+//! let wrong = Statement::parse("statement 1\nn 65\nr 17\n").unwrap_err();
+//! assert_eq!(wrong.first().to_string(), "line 2, column 3: 65 stands there; n is a number from 1 to 64");
+//! let places: Vec<_> = wrong.all().iter().map(|mistake| (mistake.line, mistake.column)).collect();
+//! // at the file's end other names and a total are still missing
+//! assert_eq!(places, [(2, 3), (3, 3), (4, 1), (4, 1)]);
 //! ```
 
 use std::fmt;
@@ -18,6 +20,7 @@ mod job;
 mod mistake;
 mod parse;
 mod seed;
+mod stated;
 mod stock;
 mod text;
 mod total;
@@ -25,8 +28,10 @@ mod total;
 pub use bounds::{fit, sessions, Fit};
 pub use check::{check, Checked, Side};
 pub use job::{totals, NoStatement, NoTotal};
-pub use mistake::{Fault, Found, Mistake};
+pub use mistake::{Fault, Found, Mistake, Mistakes};
+pub use parse::total_lines;
 pub use seed::{Seed, MATRICES};
+pub use stated::{stated, Stated, Touched};
 pub use stock::Stock;
 pub use text::text_of;
 pub use total::{Lines, Term, Total};
@@ -101,17 +106,17 @@ impl Statement {
         bounds: [u128; BOUNDS.len()],
         totals: Vec<Total>,
         seed: Seed,
-    ) -> Result<Statement, Mistake> {
+    ) -> Result<Statement, Mistakes> {
         Statement::parse(&Said::new(parameters, bounds, totals).seeded(seed).to_string())
     }
 
-    /// The statement of a text.
-    pub fn parse(text: &str) -> Result<Statement, Mistake> {
+    /// The statement of a text, or all its mistakes.
+    pub fn parse(text: &str) -> Result<Statement, Mistakes> {
         parse::parse(text, true)
     }
 
     /// The statement of a text that may lack bounds: one that is not given is [`GREATEST_BOUND`].
-    pub fn parse_without_bounds(text: &str) -> Result<Statement, Mistake> {
+    pub fn parse_without_bounds(text: &str) -> Result<Statement, Mistakes> {
         parse::parse(text, false)
     }
 

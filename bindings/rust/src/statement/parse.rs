@@ -1,6 +1,6 @@
 //! A statement file, read.
 
-use super::mistake::{Fault, Mistake};
+use super::mistake::{Fault, Mistake, Mistakes};
 use super::text::{at_end, lines, number, Cursor, Word};
 use super::total::{lines_of, Lines, Term, Total};
 use super::{Said, Seed, Statement, GREATEST_BOUND, MOST_TOTALS};
@@ -20,44 +20,59 @@ pub(super) fn names() -> impl Iterator<Item = &'static str> {
 
 /// What is read so far.
 struct Draft {
-    /// In the order of section one; those not given are 0.
+    /// In the order of section one; those not given, or not rightly, are 0.
     words: [u32; PARAMETERS.len()],
     bounds: [u128; BOUNDS.len()],
     seed: Seed,
     totals: Vec<Total>,
+    /// How many totals were begun.
+    begun: usize,
     /// The names that are given, with their lines.
     given: Vec<(&'static str, usize)>,
     /// L with its place.
     aggregations: Option<Mistake>,
     needs_bounds: bool,
+    /// What is wrong so far.
+    mistakes: Vec<Mistake>,
 }
 
-/// The statement of a text. Where bounds are not needed, one that is not given is the greatest.
-pub(super) fn parse(text: &str, needs_bounds: bool) -> Result<Statement, Mistake> {
+/// The statement of a text, or all its mistakes: after one in a line reading goes on in the next, but for the first line. Where bounds are not
+/// needed, one that is not given is the greatest.
+pub(super) fn parse(text: &str, needs_bounds: bool) -> Result<Statement, Mistakes> {
     let mut draft = Draft {
         words: [0; PARAMETERS.len()],
         bounds: [GREATEST_BOUND; BOUNDS.len()],
         seed: Seed([0; 32]),
         totals: Vec::new(),
+        begun: 0,
         given: Vec::new(),
         aggregations: None,
         needs_bounds,
+        mistakes: Vec::new(),
     };
     let mut lines = lines(text, &SYMBOLS);
     let Some(mut first) = lines.next() else {
-        return Err(at_end(text, Fault::FirstLine));
+        return Err(at_end(text, Fault::FirstLine).into());
     };
     first_line(&mut first)?;
     draft.given.push(("statement", first.line));
-    for mut line in lines {
-        draft.line(&mut line)?;
+    let is_read = lines.all(|mut line| {
+        let line = draft.line(&mut line);
+        Mistakes::goes_on(&mut draft.mistakes, line)
+    });
+    if is_read && draft.begun == 0 {
+        let faults = draft.complete().err().into_iter().chain([Fault::NoTotal]);
+        draft.mistakes.extend(faults.map(|fault| at_end(text, fault)));
     }
-    draft.complete().map_err(|fault| at_end(text, fault))?;
-    let Draft { words, bounds, seed, totals, .. } = draft;
-    if totals.is_empty() {
-        return Err(at_end(text, Fault::NoTotal));
-    }
+    let Draft { words, bounds, seed, totals, mistakes, .. } = draft;
+    Mistakes::of(mistakes)?;
     Ok(Said::new(Parameters::from_words(words), bounds, totals).seeded(seed))
+}
+
+/// The lines of a file in which its totals stand.
+pub fn total_lines(text: &str) -> Vec<usize> {
+    let is_total = |line: &Cursor| line.clone().word().is_some_and(|word| word.text == "total");
+    lines(text, &SYMBOLS).filter(is_total).map(|line| line.line).collect()
 }
 
 fn first_line(line: &mut Cursor) -> Result<(), Mistake> {
@@ -113,14 +128,24 @@ impl Draft {
         if p.name == "L" {
             self.aggregations = Some(place);
         }
-        let parameters = Parameters::from_words(self.words);
-        let (log_q, least) = (parameters.log_q, parameters.least_aggregations());
-        match &self.aggregations {
-            Some(place) if log_q > 0 && parameters.L < least => {
-                Err(Mistake { fault: Fault::Aggregations { least, log_q }, ..place.clone() })
-            }
-            _ => Ok(()),
+        if ["L", "log_q"].contains(&p.name) {
+            self.mistakes.extend(self.few_aggregations());
         }
+        Ok(())
+    }
+
+    /// L below its least, where both it and log_q are known.
+    fn few_aggregations(&self) -> Option<Mistake> {
+        let p = Parameters::from_words(self.words);
+        let (log_q, least) = (p.log_q, p.least_aggregations());
+        let place = self.aggregations.clone().filter(|_| log_q > 0 && p.L < least)?;
+        Some(Mistake { fault: Fault::Aggregations { least, log_q }, ..place })
+    }
+
+    /// The parameters, those that are not known the greatest: so much is wrong in any case.
+    fn known(&self) -> Parameters {
+        let each = |k: usize| if self.words[k] == 0 { PARAMETERS[k].greatest } else { self.words[k] };
+        Parameters::from_words(std::array::from_fn(each))
     }
 
     /// That each name is given that must be.
@@ -135,10 +160,11 @@ impl Draft {
     }
 
     fn total(&mut self, line: &mut Cursor, total: Word) -> Result<(), Mistake> {
-        self.complete().map_err(|fault| line.mistake_at(total, fault))?;
-        if self.totals.len() == MOST_TOTALS {
-            return Err(line.mistake_at(total, Fault::ManyTotals));
-        }
+        self.begun += 1;
+        // told once each, whatever stands in the line
+        let first = self.complete().err().filter(|_| self.begun == 1);
+        let many = (self.begun == MOST_TOTALS + 1).then_some(Fault::ManyTotals);
+        self.mistakes.extend(first.into_iter().chain(many).map(|fault| line.mistake_at(total, fault)));
         let before = line.clone();
         let sign = if line.takes('-') { -1 } else { 1 };
         let right = limited(line, 0, HALF.into(), Fault::Right);
@@ -146,7 +172,7 @@ impl Draft {
         if !line.takes('=') {
             return Err(line.mistake(Fault::Equals));
         }
-        let terms = terms(line, &Parameters::from_words(self.words))?;
+        let terms = terms(line, &self.known())?;
         self.totals.push(Total { right, terms });
         Ok(())
     }

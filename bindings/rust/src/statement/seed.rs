@@ -7,7 +7,7 @@ use super::mistake::Fault;
 use crate::number::Q;
 use crate::section_one::Parameters;
 use crate::sections::{placed, Slice};
-use crate::sha256::sha256;
+use crate::sha256::{hex, sha256};
 
 /// The matrices in the order in which their words are drawn.
 pub const MATRICES: [&str; 4] = ["A", "B", "C", "D"];
@@ -78,6 +78,6 @@ impl FromStr for Seed {
 
 impl fmt::Display for Seed {
     fn fmt(&self, f: &mut fmt::Formatter<'_>) -> fmt::Result {
-        self.0.iter().try_for_each(|byte| write!(f, "{byte:02x}"))
+        f.write_str(&hex(&self.0))
     }
 }

@@ -1,6 +1,6 @@
 //! A stock list, and the witness of its numbers.
 
-use super::mistake::{Fault, Mistake};
+use super::mistake::{Fault, Mistake, Mistakes};
 use super::text::{lines, number, Cursor, Word};
 use super::total::{centred, lines_of, word};
 use crate::number::HALF;
@@ -29,19 +29,26 @@ struct Draft {
 
 impl Stock {
     /// The stock of these numbers from line 0 of s0 on; the rest is 0. What is wrong is told at its place in a list of a number a line.
-    pub fn new(p: &Parameters, numbers: &[i64]) -> Result<Stock, Mistake> {
+    pub fn new(p: &Parameters, numbers: &[i64]) -> Result<Stock, Mistakes> {
         let list: String = numbers.iter().map(|number| format!("{number}\n")).collect();
         Stock::parse(p, &list)
     }
 
-    /// The stock of a list, for a job of these parameters.
-    pub fn parse(p: &Parameters, text: &str) -> Result<Stock, Mistake> {
+    /// The stock of a list, for a job of these parameters, or all its mistakes: after one in a line reading goes on in the next, but for
+    /// numbers beyond the last line of stock.
+    pub fn parse(p: &Parameters, text: &str) -> Result<Stock, Mistakes> {
         let all = (p.r * lines_of(p)) as usize;
         let numbers = vec![0; all];
         let mut draft = Draft { lines: lines_of(p), numbers, given: vec![0; all], alone: 0, form: None };
+        let mut mistakes = Vec::new();
         for mut line in lines(text, &SYMBOLS) {
-            draft.line(&mut line)?;
+            let line = draft.line(&mut line);
+            let is_full = matches!(&line, Err(Mistake { fault: Fault::Full { .. }, .. }));
+            if !Mistakes::goes_on(&mut mistakes, line) || is_full {
+                break;
+            }
         }
+        Mistakes::of(mistakes)?;
         Ok(Stock { numbers: draft.numbers })
     }
 

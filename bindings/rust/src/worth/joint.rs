@@ -1,7 +1,7 @@
 //! Many transcripts whose randomness is drawn by one joint hash: each round's draw hashes that round's messages of all.
 
 use super::fraction::Fraction;
-use super::modulus::{linear_factors, Modulus};
+use super::modulus::linear_factors;
 use super::natural::Natural;
 use super::Worth;
 
@@ -37,7 +37,7 @@ fn ground(transcripts: u32, tries: Fraction) -> Fraction {
 /// others any b may slip through at beta.
 pub(super) fn tries(worth: &Worth, count: u32) -> Option<Fraction> {
     let most_psi = if worth.constant_terms { count } else { 0 };
-    let Modulus { least_prime, slots, .. } = *worth.modulus;
+    let (least_prime, slots) = (worth.modulus.least_prime(), worth.modulus.slots);
     let mut all = Vec::new();
     for a in 0..=most_psi {
         let psi = ground(a, Fraction::new(least_prime.into(), 1).pow(worth.rows * a));

@@ -18,12 +18,14 @@ use crate::section_one::SectionOne;
 
 mod fraction;
 mod joint;
+mod marks;
 mod modulus;
 mod natural;
 mod together;
 mod zero;
 
 pub use fraction::Fraction;
+pub use marks::{repeats_of, Marker, Marks};
 pub use modulus::{Divisor, Modulus, DEFAULT, MODULUS, PRIME};
 pub use together::{repeats, Repeat, Shared};
 pub use zero::{zero_sections, ZeroSection};
@@ -45,11 +47,14 @@ pub struct Worth {
 /// So many transcripts are the most that are looked at.
 const MOST: u32 = 256;
 
-/// Whether any statement passes without a witness: check 23 can never fail or has room for a z of any size, and z with ⟨z,z⟩ = 0 and
-/// n/2 free elements meets the kappa + 1 equations of 24 and 26.
+/// Whether any statement passes without a witness: s, t, g and p are zero, h_11 is twice the aggregated b and h is zero elsewhere, and z with
+/// ⟨z,z⟩ = 0 and n/2 free elements meets the kappa + 1 equations of 24 and 26. Twice the aggregated b has any size, as alpha and beta have, so
+/// bound_D must have room for one such cell; check 23 can never fail, or has room for it and for a z of any size. Room is room for what the
+/// norms are on the average. Nothing is claimed where bound_D has less, though the cell can be shared out among the r cells h_ii.
 pub fn passes_without_witness(one: &SectionOne) -> bool {
     let p = &one.parameters;
-    p.n >= 2 * p.kappa + 2 && (reach::never_fails(one, 23) || reach::room_for_any_z(one).is_some())
+    let z_is_free = reach::never_fails(one, 23) || reach::room_for_any_z(one).is_some();
+    p.n >= 2 * p.kappa + 2 && z_is_free && reach::room_for_any_h(one)
 }
 
 impl Worth {

@@ -7,20 +7,20 @@ use crate::number::Q;
 #[derive(Clone, Copy, Debug, PartialEq, Eq)]
 pub struct Modulus {
     pub q: u32,
-    /// The least prime that divides q. A row of psi weighs an error that is a multiple of q divided by this to 0 in one of
-    /// this many draws.
-    pub least_prime: u32,
+    /// The primes whose product q is, each once, the least first. A row of psi weighs an error that is a multiple of q divided by the
+    /// least one to 0 in one of that many draws.
+    pub primes: &'static [u32],
     /// The primes p that divide q for which X^64 + 1 splits into 64 factors of degree 1: residue fields of p elements,
     /// called slots. The least first.
     pub slots: &'static [u32],
 }
 
 /// 4294967295 = 3·5·17·257·65537.
-pub const DEFAULT: Modulus = Modulus { q: 4294967295, least_prime: 3, slots: &[257, 65537] };
+pub const DEFAULT: Modulus = Modulus { q: 4294967295, primes: &[3, 5, 17, 257, 65537], slots: &[257, 65537] };
 
 /// 2^32 - 99 is a prime and 5 modulo 8: X^64 + 1 has two factors of degree 32, so that there are no slots, and the difference of two unlike
 /// challenges is a unit.
-pub const PRIME: Modulus = Modulus { q: 4294967197, least_prime: 4294967197, slots: &[] };
+pub const PRIME: Modulus = Modulus { q: 4294967197, primes: &[4294967197], slots: &[] };
 
 /// That of the archive.
 pub const MODULUS: Modulus = if Q == PRIME.q { PRIME } else { DEFAULT };
@@ -34,6 +34,11 @@ pub struct Divisor {
 }
 
 impl Modulus {
+    /// The least prime that divides q.
+    pub fn least_prime(&self) -> u32 {
+        self.primes[0]
+    }
+
     /// q divided by the product of each choice of slots, the least number first.
     pub fn divisors(&self) -> Vec<Divisor> {
         let choice = |bits: u32| {
@@ -48,7 +53,7 @@ impl Modulus {
 
     /// An error in all rows of psi that is a multiple of q divided by the least prime.
     pub(super) fn weighed_to_zero(&self, rows: u32) -> Fraction {
-        Fraction::new(1, self.least_prime.into()).pow(rows)
+        Fraction::new(1, self.least_prime().into()).pow(rows)
     }
 
     /// An error in one factor of degree 32, where there are no slots: beta weighs it to 0, one of q^32, or of several vectors the form
@@ -94,8 +99,8 @@ mod tests {
 
     #[test]
     fn the_prime() {
-        let Modulus { q, least_prime, slots } = PRIME;
-        assert!(is_prime(q) && q == least_prime && q % 8 == 5 && slots.is_empty());
+        let Modulus { q, primes, slots } = PRIME;
+        assert!(is_prime(q) && primes == [q] && q % 8 == 5 && slots.is_empty());
         assert_eq!(PRIME.weighed_to_zero(4).to_string(), "1 in 2^128.0");
         let half_of_all = 180857904167729203298370297515149885440;
         assert_eq!(one_challenge().mul(&Fraction::new(2, 1)), Fraction::new(1, half_of_all));
@@ -105,15 +110,11 @@ mod tests {
 
     #[test]
     fn the_default() {
-        let Modulus { q, least_prime, slots } = DEFAULT;
-        assert!((2..least_prime).all(|p| q % p != 0) && q % least_prime == 0);
-        for slot in slots {
-            assert!(is_prime(*slot), "{slot} is prime");
-            assert_eq!((q % slot, slot % 128), (0, 1));
-        }
-        // the other primes of q are not 1 modulo 128
-        let rest = slots.iter().fold(q, |rest, slot| rest / slot);
-        assert_eq!((rest, [3, 5, 17].iter().product::<u32>()), (255, 255));
+        let Modulus { q, primes, slots } = DEFAULT;
+        assert!(primes.iter().all(|&p| is_prime(p)) && primes.is_sorted());
+        assert_eq!(primes.iter().product::<u32>(), q);
+        let splits: Vec<u32> = primes.iter().copied().filter(|p| p % 128 == 1).collect();
+        assert_eq!(splits, slots);
     }
 
     #[test]

@@ -49,10 +49,15 @@ fn shared(p: &Parameters, one: &Sent<'_>, other: &Sent<'_>) -> Option<Shared> {
 /// # Ok::<(), labrador::Refusal>(())
 /// ```
 pub fn repeats(p: &Parameters, sent: &[Sent<'_>]) -> Vec<Repeat> {
+    repeats_by(sent.len(), |of, index| shared(p, &sent[of], &sent[index]))
+}
+
+/// The repeats among so many, where `shared` says what two of them share.
+pub(super) fn repeats_by(count: usize, shared: impl Fn(usize, usize) -> Option<Shared>) -> Vec<Repeat> {
     let mut counted: Vec<usize> = Vec::new();
     let mut found = Vec::new();
-    for index in 0..sent.len() {
-        let earlier = |&of: &usize| shared(p, &sent[of], &sent[index]).map(|shared| Repeat { index, of, shared });
+    for index in 0..count {
+        let earlier = |&of: &usize| shared(of, index).map(|shared| Repeat { index, of, shared });
         match counted.iter().find_map(earlier) {
             Some(repeat) => found.push(repeat),
             None => counted.push(index),

@@ -54,6 +54,36 @@ fn two_rows_of_a() {
     hold_accepted(&p, 0..3, met_by_nobody);
 }
 
+/// The norm, on the average, of the digits of a cell of h that has any size: two digits of the base 65536, 64 coefficients.
+const CELL: u128 = 64 * (65536 * 65536 / 12 + 65535 * 65535 / 12);
+
+/// Check 23 can never fail, and bound_D is so much.
+fn with_bound_of_h(p: &Parameters, words: &mut Words, bound_d: u128) -> Statement {
+    let mut statement = met_by_nobody(p, words);
+    set_bound(&mut statement.job, "bound_D", bound_d);
+    statement
+}
+
+/// h_11 is twice the aggregated b, which has any size: where bound_D has room for it, all is as if it were out of reach. Three standard
+/// deviations are a quarter of the average, so that no seed is beyond.
+#[test]
+fn a_bound_of_h_with_room_for_one_cell() {
+    let p = Parameters { n: 4, K: 2, l: 2, ..SMALLEST };
+    hold_accepted(&p, 0..8, |p, words| with_bound_of_h(p, words, CELL * 5 / 4));
+}
+
+/// Without that room the same session is refused, with 16, and the review claims nothing.
+#[test]
+fn a_bound_of_h_without_room() {
+    let p = Parameters { n: 4, K: 2, l: 2, ..SMALLEST };
+    for (seed, bound_d) in [(0, 1000), (1, CELL / 2)] {
+        let mut words = Words::seeded(seed);
+        let statement = with_bound_of_h(&p, &mut words, bound_d);
+        assert_ne!(review(&statement.job).expect("a fit job")[0].severity(), Severity::Anything);
+        assert_eq!(judged(&statement, &mut words).number(), 16, "seed {seed}");
+    }
+}
+
 /// A statement with a total that no witness within its limits has, whose limit of check 23 is a tenth above an honest transcript's.
 pub fn limited(p: &Parameters, words: &mut Words) -> Statement {
     let witness = (0..p.r * p.n).map(|_| words.within(1)).collect();

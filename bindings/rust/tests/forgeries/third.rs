@@ -10,6 +10,9 @@ use crate::words::Words;
 
 const ERROR: u32 = Q / 3;
 
+/// The seed of a session that is accepted.
+const SEED: u64 = 98;
+
 fn statement(p: &Parameters, words: &mut Words) -> Statement {
     let witness = (0..p.r * p.n).map(|_| words.within(1)).collect();
     let mut statement = Statement::met(p, witness, words);
@@ -36,9 +39,25 @@ fn verdict(statement: &Statement, desk: &mut Words) -> Verdict {
     verdict
 }
 
+/// A fixed seed: accepted by the verifier, though no witness within the limits has the total.
+#[test]
+fn a_fixed_seed() {
+    let mut words = Words::seeded(SEED);
+    let false_one = statement(&Parameters { r: 1, ..SMALLEST }, &mut words);
+    let (had, claimed) = false_one.total();
+    assert_eq!(Zq(claimed).sub(Zq(had)), Ok(Zq(ERROR)));
+    // over a prime no row weighs the error to 0
+    let verdict = verdict(&false_one, &mut words);
+    assert_eq!(verdict.is_accepted(), Q.is_multiple_of(3), "{verdict}");
+}
+
 fn hold(route: &str, p: &Parameters) {
-    let chance = rates::weighed_to_zero(ERROR, p.L);
-    rates::hold(route, chance, |words| statement(p, words), |false_one, desk| verdict(false_one, desk).is_accepted());
+    rates::hold(
+        route,
+        rates::a_third(p.L),
+        |words| statement(p, words),
+        |false_one, desk| verdict(false_one, desk).is_accepted(),
+    );
 }
 
 #[test]

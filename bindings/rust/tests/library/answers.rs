@@ -111,7 +111,7 @@ fn a_word_of_the_other_modulus_is_asked_for() {
         let told = verdict(&case).to_string();
         assert_eq!(
             told.starts_with(&format!("refusal 6: the job's word {place} is {word}, not below Q")),
-            word >= Q,
+            u64::from(word) >= u64::from(Q),
             "{told}"
         );
         assert_eq!(

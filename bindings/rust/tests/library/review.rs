@@ -86,6 +86,48 @@ fn the_worst_comes_first() {
     assert_eq!(severities, expected.concat());
 }
 
+/// The greatest chance first: that of a norm is the less one at 10837, and wrong totals have no less at any limit.
+#[test]
+fn the_greatest_chance_comes_first() {
+    for (beta_sq, names) in [(10837, over(&["Totals", "Norm"][..], &[])), (1 << 60, over(&["Totals", "Norm"], &[]))] {
+        let mut job = sound();
+        set_bound(&mut job, "beta_sq", beta_sq);
+        let told = review(&job).unwrap();
+        let name = |finding: &Finding| match finding {
+            Finding::Totals { .. } => Some("Totals"),
+            Finding::NormNotForced { .. } => Some("Norm"),
+            _ => None,
+        };
+        assert_eq!(told.iter().filter_map(name).collect::<Vec<_>>(), names);
+        let chances: Vec<_> = told.iter().filter_map(Finding::chance).collect();
+        assert!(chances.iter().rev().is_sorted() && chances.len() == names.len());
+    }
+    // without totals the norm comes first, and beta above q/125, which has no chance of its own, behind it
+    let p = Parameters { l: 0, ..P };
+    let told = review(&made(&p, 3).job).unwrap();
+    let of_chances: Vec<_> = told.iter().filter(|finding| finding.severity() == Severity::Chance).collect();
+    assert_eq!(of_chances.len(), over(2, 1));
+    assert!(matches!(of_chances.last(), Some(Finding::BetaTooGreat { .. })));
+}
+
+/// h needs room for a cell of any size, whatever check 23 is.
+#[test]
+fn a_bound_of_h_without_room() {
+    let anything = |beta_prime_sq: u128, bound_d: u128| {
+        let mut job = made(&Parameters { n: 10, ..P }, 3).job;
+        set_bound(&mut job, "beta_prime_sq", beta_prime_sq);
+        set_bound(&mut job, "bound_D", bound_d);
+        review(&job).unwrap()[0].severity() == Severity::Anything
+    };
+    // four digits of the base 256 of 64 coefficients: three of 256²/12 each, and a last of 255²/12
+    let cell = 64 * (3 * (256 * 256 / 12) + 255 * 255 / 12);
+    assert!(anything((1 << 96) - 1, cell));
+    for bound_d in [0, 1000, cell - 1] {
+        assert!(!anything((1 << 96) - 1, bound_d), "{bound_d}");
+    }
+    assert!(!anything(1 << 40, cell));
+}
+
 #[test]
 fn any_statement_passes_without_a_witness() {
     let anything = |n, kappa| {
@@ -134,7 +176,7 @@ fn norms_that_21_does_not_force() {
         set_bound(&mut job, "beta_sq", beta_sq);
         findings(&job)
     };
-    // a sixth of 255², 65535² and 16711935², rounded down
+    // a sixth of 255², 65535² and 16711935², each a half above a whole number: that number
     let steps = [
         (10837, 255, "1 in 1.9 million (2^-20.8)"),
         (715806037, 65535, "1 in 21,846 (2^-14.4)"),
@@ -167,9 +209,9 @@ fn beta_above_q_over_125() {
     // (q/125)² is 1180591620167655.5, or over the prime 1180591566291586.4
     let most = over(1180591620167655, 1180591566291586);
     let line = format!(
-        "beta is above q/125, the paper's condition on check 21: beta_sq is then at most {most} (from word 13)"
+        "beta is above q/125, and the paper's lemma on check 21 needs one that is not: a beta_sq of at most {most} (from word 13)"
     );
-    // over 2^32 - 1 norms are not forced there either
+    // over 2^32 - 1 norms are not forced there either, which is told first
     assert_eq!((told(most).len(), told(most + 1).len()), over((1, 2), (0, 1)));
     assert_eq!(told(most + 1).last(), Some(&line));
 }
@@ -284,8 +326,22 @@ fn one_row_of_a() {
     };
     let (a, one) = told(2);
     assert_eq!(one, [format!("A has rank 1: it has one row (from word {a})")]);
-    // one element is bound by one row
+    // one element is bound by one row, and no rank is greater
     assert_eq!(told(1).1, Vec::<String>::new());
+}
+
+#[test]
+fn a_matrix_of_zeros() {
+    for n in [1, 2] {
+        let p = Parameters { n, ..P };
+        let mut job = made(&p, 3).job;
+        BOUNDS.iter().for_each(|bound| set_bound(&mut job, bound.name, 1000));
+        let a = begin(Slice::Job, &p, "A");
+        job[a..a + 64 * 4 * n as usize].fill(0);
+        assert_eq!(findings(&job), [format!("A is zero: t says nothing of the witness (from word {a})")]);
+        job[a] = 1;
+        assert!(findings(&job).iter().all(|line| !line.starts_with("A is zero")) && findings(&job).len() >= 3);
+    }
 }
 
 #[test]

@@ -150,6 +150,8 @@ fn over_the_prime() {
     assert_eq!(Worth { vectors: 1, constant_terms: false, ..prime(4) }.one(), beta);
     let needed = |worth: Worth| [64, 100, 128].map(|bits| (worth.drawn_needed(bits), worth.joint_needed(bits)));
     assert_eq!(needed(prime(4)), [(Some(1), Some(1)), (Some(1), Some(1)), (Some(2), Some(2))]);
+    let eight = [prime(4).drawn(8).bits(), -prime(4).joint(8).unwrap().bits()];
+    assert_eq!(eight.map(f64::round), [1017.0, 512.0]);
     // what passes for certain does so over the prime too
     assert_eq!(Worth { certain: true, ..prime(4) }.one(), whole(1));
 }

@@ -7,7 +7,6 @@ use Rattle.protocol.specs.Many.{row-count, Rows-done}
 use Rattle.workspace.specs.Aggregated.{c-words}
 use Rattle.workspace.proofs.Kept.{kept-trans}
 use Rattle.workspace.proofs.Ready.{c-requires, c-made}
-use Rattle.verifier_common.proofs.Sent.{received}
 use Rattle.verifier_common.proofs.Verdicts.{goes-on, stops}
 use Rattle.verifier_relations.proofs.Sides.{az-held}
 use Rattle.verifier_relations.proofs.Scratch.{Made, challenges-made}
@@ -76,7 +75,7 @@ returns-2 c =
     let J = s .args .job .now in
     let T = s .args .transcript .now in (
       c .check-commitments .ensures
-          ∙ found J T (s .args .p) (s .pre .0 .0 .posed .same) (c .before .before .before .before .before .before .before .before .before .check-u1 .result) (c .before .before .before .before .before .before .before .check-u2 .result) (c .before .before .before .before .before .before .before .before .before .check-u1 .ensures) (c .before .before .before .before .before .before .before .check-u2 .ensures)
+          ∙ found J T (s .args .p) (s .pre .0 .0 .posed .same) (s .args .digits) (s .pre .0 .2) (c .before .before .before .before .before .before .before .before .before .check-u1 .result) (c .before .before .before .before .before .before .before .check-u2 .result) (c .before .before .before .before .before .before .before .before .before .check-u1 .ensures) (c .before .before .before .before .before .before .before .check-u2 .ensures)
           ∙ goes-on (f .result) (f .ensures .0) (c .before .enum-told .given .1) (commitments J T),
       kept-trans _ (s .args .window .now) _ _ (drawn (c .before .before .before .before .before .before .before .before .before .before .before .before .before .before .before) .kept) (f .ensures .1),
     )
@@ -93,6 +92,6 @@ check-rest-spec =
     (λ c. search needs)
     (λ c. c .before .before .before .check-relations .ensures .1 .size ∙ drawn (c .before .before .before .before .before .before .before .before .before .before .before .before .before) .kept .size)
     returns
-    (λ c κs. received (c .before .before .before .before .before .before .before .before .before .before .before .before .before .before .before .before .before .before .before .before .pre .0 .0 .posed))
+    (λ c κs. tt)
     (λ c. c .before .before .before .before .before .check-relations .ensures .1 .size ∙ drawn (c .before .before .before .before .before .before .before .before .before .before .before .before .before .before .before) .kept .size)
     returns-2)

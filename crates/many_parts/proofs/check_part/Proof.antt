@@ -2,7 +2,7 @@
 use mathlib.Core.Path.{refl}
 use borrow.Author.Needs.{needs}
 use Rattle.layout.proofs.Then.{goes-on}
-use Rattle.admission.specs.Admission.{ofChecked}
+use Rattle.admission.specs.Admission.{ofSliceChecked}
 use Rattle.admission.proofs.Found.{told}
 use Rattle.admission.proofs.Stages.{stops-at}
 use Rattle.many_parts.proofs.check_part.Statement.{statement}
@@ -11,7 +11,7 @@ use Rattle.many_parts.proofs.check_part.Tie as tie
 returns : tie.Need-returns
 returns c =
     let s = c .before .before .before .before .before .args in
-    stops-at (c .before .refusal .given .0 .0) (ofChecked (s .sent)) (told (c .before .before .before .check-randomness .ensures) (c .before .refusal .given .1))
+    stops-at (c .before .refusal .given .0 .0) (ofSliceChecked (s .sent)) (told (c .before .before .before .check-randomness .ensures) (c .before .refusal .given .1))
 
 returns-2 : tie.Need-returns-2
 returns-2 c = goes-on (told (c .before .before .check-randomness .ensures) (c .enum-told .given .1)) refl

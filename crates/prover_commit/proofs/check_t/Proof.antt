@@ -12,10 +12,10 @@ digits-within-requires : tie.Need-digits-within-requires
 digits-within-requires c κs = (t-cells _ _ _ (c .before .before .pre), base-room _ _ _ (c .before .before .pre))
 
 returns : tie.Need-returns
-returns c = bounded 14 _ _ _ _ _ _ _ refl _ (c .before .digits-within .ensures .0) _ (c .if1 .taken)
+returns c = bounded 14 _ _ _ _ _ _ _ refl _ (c .before .digits-within .ensures) _ (c .if1 .taken)
 
 returns-2 : tie.Need-returns-2
-returns-2 c = bounded 14 _ _ _ _ _ _ _ refl _ (c .before .digits-within .ensures .0) _ (c .if1 .left)
+returns-2 c = bounded 14 _ _ _ _ _ _ _ refl _ (c .before .digits-within .ensures) _ (c .if1 .left)
 
 pub check-t-spec : {M : Type 1} → statement M
 check-t-spec = tie.close (tie.spec mul-cells digits-within-requires returns returns-2)

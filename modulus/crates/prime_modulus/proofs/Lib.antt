@@ -8,3 +8,4 @@ pub mod Iota
 pub mod Small
 pub mod Units
 pub mod Rows
+pub mod Unlike

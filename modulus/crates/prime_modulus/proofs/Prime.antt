@@ -1,64 +1,21 @@
 -- Q is a prime, by trial division, so each nonzero canonical value has an inverse.
 use mathlib.Core.Path.{_≡_, refl, sym, ap, subst, _∙_}
 use mathlib.Core.Logic.{_⊎_, inl, inr}
-use mathlib.Core.Bool.{Bool}
 use Prim.Native.Nat.{ℕ, zero, suc, _+_, _-_, _*_, _/_, _%_, _≤_, _<_}
 use native.Mathlib.Nat as Nat
-use native.Mathlib.Decide.{decLt, ℕ-discrete}
+use native.Mathlib.Decide.{ℕ-discrete}
 use native.Mathlib.Omega.{arith}
-use lib.Dec.{T, ltb, ltb→lt}
+use lib.Dec.{ltb→lt}
 use Rattle.algebra.specs.Ops.{Ops}
 use Rattle.algebra.proofs.Ring.{CRing, ring, neg-unique}
-use Rattle.transform.proofs.Computed.{below, below-at}
+use Rattle.transform.proofs.Trial.{Prime, prime-by-trial}
 use Rattle.definitions.specs.Zq.{Q}
 use Rattle.definitions.specs.Ring.{Residue, residue, ZqOps}
 use Rattle.definitions.proofs.ZqRing.{zq-ring, residue-path, residue-value, residue-add, residue-mul}
 
--- whether d does not divide Q
-abbrev leaves : ℕ → Bool
-leaves d = ltb 0 (Q % d)
-
--- no number from 2 to 65537 divides Q: 256 rows of 256
-tried : T (below 256 (λ m. below 256 (λ n. leaves (256 * m + n + 2))))
-tried = tt
-
--- the same of one such number
-small-leaves : (d : ℕ) → 2 ≤ d → d < 65538 → 0 < Q % d
-small-leaves d l h = subst (λ x. 0 < Q % x) here (ltb→lt 0 (Q % (256 * i + j + 2)) (below-at 256 (λ n. leaves (256 * i + n + 2)) row j (omega arith)))
-  where
-    i : ℕ
-    i = (d - 2) / 256
-
-    j : ℕ
-    j = (d - 2) % 256
-
-    row : T (below 256 (λ n. leaves (256 * i + n + 2)))
-    row = below-at 256 (λ m. below 256 (λ n. leaves (256 * m + n + 2))) tried i (omega arith)
-
-    here : 256 * i + j + 2 ≡ d
-    here = omega arith
-
--- no number from 2 to Q − 1 divides Q: where d does, Q / d does, and one of the two is at most 65537
-pub prime : (d : ℕ) → 2 ≤ d → d < Q → 0 < Q % d
-prime d l h = go (decLt d 65538) (ℕ-discrete (Q % d) 0)
-  where
-    few : (k : ℕ) → k * d ≡ Q → 65538 ≤ d → Dec (k < 65538) → k < 65538
-    few k e m (yes n) = n
-    few k e m (no n) =
-        let n : 65538 ≤ k = omega arith in
-        omega (arith, Nat.mul-le-mul n m)
-
-    other : (k : ℕ) → k * d ≡ Q → 65538 ≤ d → ⊥
-    other zero e m = omega arith
-    other (suc zero) e m = omega arith
-    other (suc (suc k)) e m =
-        let divides : Q % suc (suc k) ≡ 0 = ap (λ x. x % suc (suc k)) (sym e) ∙ Nat.mul-mod-right (suc (suc k)) d in
-        omega (arith, small-leaves (suc (suc k)) (omega arith) (few (suc (suc k)) e m (decLt (suc (suc k)) 65538)))
-
-    go : Dec (d < 65538) → Dec (Q % d ≡ 0) → 0 < Q % d
-    go (yes m) z = small-leaves d l m
-    go (no m) (no z) = omega arith
-    go (no m) (yes z) = absurd (other (Q / d) (omega (arith, Nat.mod-add-div' Q d)) (omega arith))
+-- no number from 2 to Q − 1 divides Q: none from 2 to 65537 does, and 65538² is above it
+pub prime : Prime Q
+prime = prime-by-trial Q 256 tt (ltb→lt Q 4295229444 tt)
 
 -- a·k + r = 0 and r·b = 1 give a·(−k·b) = 1
 inverse-step : (O : Ops) (R : CRing O) (a k r b : O .Carrier) → O .add (O .mul a k) r ≡ O .nil → O .mul r b ≡ O .one → O .mul a (O .mul (O .neg k) b) ≡ O .one

@@ -1,9 +1,9 @@
 //! `labrador load`
 
 use std::ffi::OsStr;
-use std::path::Path;
+use std::path::{Path, PathBuf};
 
-use labrador::section_one::PARAMETERS;
+use labrador::section_one::{Parameter, PARAMETERS};
 use labrador::{load, Parameters};
 
 use crate::args::{number, Args};
@@ -11,36 +11,46 @@ use crate::end::{unfit, usage, End, Outcome, Status};
 use crate::files::bytes_of;
 use crate::help::Command;
 use crate::json::Json;
+use crate::near::meant;
 use crate::output::{self, Output};
 
-/// The parameters that can be given, for the help.
-pub fn parameters_help() -> String {
-    let mut out = "\nParameters, with the value of one that is not given:\n".to_string();
-    for (parameter, value) in PARAMETERS.iter().zip(Parameters::SMALL.words()) {
-        let (given, limits) = (format!("{}={value}", parameter.name), (parameter.least, parameter.greatest));
-        out += &format!("  {given:<20} {} ({} to {})\n", parameter.meaning, limits.0, limits.1);
-    }
-    out + "  Where L is not given, it is 128 divided by log_q, rounded up.\n"
+/// The parameters that can be given, each with the value of one that is not given, and what it is.
+pub fn parameters_help() -> Vec<(String, String)> {
+    let each = PARAMETERS.iter().zip(Parameters::SMALL.words());
+    let told = |(p, value): (&Parameter, u32)| {
+        (format!("{}={value}", p.name), format!("{} ({} to {})", p.meaning, p.least, p.greatest))
+    };
+    each.map(told).collect()
 }
+
+pub const L_HELP: &str = "Where L is not given, it is 128 divided by log_q, rounded up.";
 
 /// The parameters of `NAME=VALUE` arguments; an L that is not given is the least for log_q.
 fn parameters(args: &Args) -> Result<Parameters, End> {
     let mut words = Parameters::SMALL.words();
-    let mut l_is_given = false;
+    let mut given = Vec::new();
     for argument in &args.rest {
         let shown = argument.to_string_lossy();
         let Some((name, value)) = shown.split_once('=') else {
             return Err(usage(format!("{shown} is not NAME=VALUE; labrador load --help has the names")));
         };
         let Some(k) = PARAMETERS.iter().position(|p| p.name == name) else {
-            return Err(usage(format!("there is no parameter {name}; labrador load --help has the names")));
+            let meant = meant(name, PARAMETERS.iter().map(|p| p.name));
+            return Err(usage(format!("there is no parameter {name}{meant} labrador load --help has the names")));
         };
+        if given.contains(&PARAMETERS[k].name) {
+            return Err(usage(format!("{name} is given twice")));
+        }
         words[k] = number(OsStr::new(value), name)?;
-        l_is_given |= name == "L";
+        given.push(PARAMETERS[k].name);
     }
-    let given = Parameters::from_words(words);
-    let least = given.least_aggregations();
-    Ok(if l_is_given { given } else { Parameters { L: least, ..given } })
+    let parameters = Parameters::from_words(words);
+    let least = parameters.least_aggregations();
+    Ok(if given.contains(&"L") { parameters } else { Parameters { L: least, ..parameters } })
+}
+
+fn file(path: PathBuf, words: &[u32], secret: bool) -> Output<'_> {
+    Output { path, secret, bytes: bytes_of(words) }
 }
 
 pub fn run(command: &Command, args: &Args) -> Outcome {
@@ -54,7 +64,6 @@ pub fn run(command: &Command, args: &Args) -> Outcome {
     output::admit(&outputs, &[], force)?;
     let load = load(&parameters, seed).map_err(|refusal| unfit(refusal.to_string()))?;
     let lengths = [&load.job, &load.witness, &load.randomness].map(|words| words.len() as u64);
-    let file = |path, words: &[u32], secret| Output { path, secret, bytes: bytes_of(words) };
     let files =
         [file(job, &load.job, false), file(witness, &load.witness, true), file(randomness, &load.randomness, false)];
     output::write(&files, force)?;

@@ -6,7 +6,8 @@ use labrador::{verify, FailedCheck, Refusal, Verdict};
 
 use crate::args::Args;
 use crate::end::{End, Outcome, Status};
-use crate::files::read_slice;
+use crate::filed::Filed;
+use crate::files::{read_slice, Bytes};
 use crate::help::Command;
 use crate::json::Json;
 use crate::judge;
@@ -72,13 +73,14 @@ pub fn line(verdict: &Verdict, slices: [&[u32]; 3], job: Option<&Told>, warnings
     }
 }
 
-/// An end of acceptances is a failure under --strict where a check can never fail, or weights are all zero.
+/// An end of acceptances is a failure under --strict where any statement is accepted, a check can never fail, or weights are all zero.
 pub fn strict(end: End, job: Option<&Told>, zero_weights: bool, args: &Args) -> End {
     let never = job.map(Told::never_fail).unwrap_or_default();
     let tests = if never.len() == 1 { "test" } else { "tests" };
     let never = (!never.is_empty()).then(|| format!("{tests} {} can never fail", listed(&never)));
     let zero = zero_weights.then(|| "weights are all zero".to_string());
-    let reasons: Vec<String> = never.into_iter().chain(zero).collect();
+    let certain = job.is_some_and(|job| job.worth.certain).then(|| "any statement is accepted".to_string());
+    let reasons: Vec<String> = certain.into_iter().chain(never).chain(zero).collect();
     if end.status != Status::Fine || !args.flag("--strict") || reasons.is_empty() {
         return end;
     }
@@ -99,16 +101,18 @@ pub fn held(end: End, compared: Option<&Compared>) -> End {
 }
 
 /// Writes the page; where it fails, the verdict is told with it.
-fn write_page(path: &Path, page: String, force: bool, end: &End) -> Result<(), End> {
-    let file = Output { path: path.to_path_buf(), secret: false, bytes: page.into_bytes() };
+pub fn write_page(path: &Path, page: String, force: bool, end: &End) -> Result<(), End> {
+    let file = Output { path: path.to_path_buf(), secret: false, bytes: Bytes::Text(page) };
     output::write(&[file], force).map_err(|failed| {
         let line = format!("{}, but the page was not written: {}", end.line, failed.line);
-        End { warnings: end.warnings.clone(), ..End::new(Status::FileSystem, line) }.with(end.fields.clone())
+        let (out, warnings) = (end.out.clone(), end.warnings.clone());
+        End { out, warnings, ..End::new(Status::FileSystem, line) }.with(end.fields.clone())
     })
 }
 
 pub fn run(command: &Command, args: &Args) -> Outcome {
     args.no_rest(command)?;
+    let filed = Filed::of(args)?;
     let [job, randomness, transcript] =
         ["--job", "--randomness", "--transcript"].map(|name| args.needed(command, name));
     let names = [job?, randomness?, transcript?];
@@ -132,14 +136,15 @@ pub fn run(command: &Command, args: &Args) -> Outcome {
     let no_findings = || vec![("findings", Json::List(Vec::new()))];
     let of_job = told_of_job.as_ref().map_or_else(no_findings, |job| job.fields(&job.worth_with(&warnings)));
     let said = line(&verdict, slices, told_of_job.as_ref(), &warnings);
-    let end = strict(End::new(status, said), told_of_job.as_ref(), !warnings.is_empty(), args);
-    let end = end.with(fields).with(of_job).warning(warnings.clone());
+    let end = strict(End::new(status, said).judging(), told_of_job.as_ref(), !warnings.is_empty(), args);
+    let end = end.with(fields).with(of_job).with(filed.fields()).warning(warnings.clone());
     let compared = given.as_ref().filter(|_| told_of_job.is_some()).map(|given| given.compared(&job));
     let end = held(end, compared.as_ref());
     if let Some(path) = report {
         progress.step("writing the page");
         let (job, compared) = (told_of_job.as_ref(), compared.as_ref());
-        let page = page(&Report { names, slices, verdict: &verdict, job, warnings: &warnings, compared });
+        let page =
+            page(&Report { names, slices, verdict: &verdict, job, warnings: &warnings, compared, filed: &filed });
         write_page(path, page, force, &end)?;
     }
     Ok(end)

@@ -23,9 +23,14 @@ fn items(job: &Told) -> Vec<(usize, String)> {
 }
 
 pub fn list(report: &Report) -> String {
-    let Some(job) = report.job else {
-        return section("findings", "What the job does not force", "<p>Not reviewed: the job was refused.</p>\n");
-    };
+    match report.job {
+        Some(job) => of(job),
+        None => section("findings", "What the job does not force", "<p>Not reviewed: the job was refused.</p>\n"),
+    }
+}
+
+/// The findings of a job.
+pub fn of(job: &Told) -> String {
     let all = items(job);
     let shown: String = all.iter().take(SHOWN).map(|(_, told)| format!("<li>{}</li>\n", escape(told))).collect();
     let more = match all.iter().skip(SHOWN).map(|(count, _)| count).sum::<usize>() {

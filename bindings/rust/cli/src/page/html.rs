@@ -1,5 +1,17 @@
 //! Pieces of a page.
 
+use super::style::STYLE;
+
+/// A whole page.
+pub fn document(title: &str, body: &str) -> String {
+    let title = escape(title);
+    format!(
+        "<!DOCTYPE html>\n<html lang=\"en\">\n<head>\n<meta charset=\"utf-8\">\n\
+         <meta name=\"viewport\" content=\"width=device-width, initial-scale=1\">\n\
+         <title>{title}</title>\n<style>\n{STYLE}</style>\n</head>\n<body>\n<main>\n{body}</main>\n</body>\n</html>\n"
+    )
+}
+
 /// Text as it stands in a page.
 pub fn escape(text: &str) -> String {
     let mut out = String::with_capacity(text.len());
@@ -23,7 +35,12 @@ pub fn section(id: &str, heading: &str, body: &str) -> String {
     format!("<section aria-labelledby=\"{id}\">\n<h2 id=\"{id}\">{heading}</h2>\n{body}</section>\n")
 }
 
-/// Two parts beside each other where there is room.
+/// A part that begins a sheet of its own in print.
+pub fn part(body: &str) -> String {
+    format!("<div class=\"part\">\n{body}</div>\n")
+}
+
+/// Two pieces beside each other where there is room.
 pub fn pair(left: &str, right: &str) -> String {
     format!("<div class=\"pair\">\n<div>\n{left}</div>\n<div>\n{right}</div>\n</div>\n")
 }

@@ -1,19 +1,23 @@
-//! The verdict as a page: one file, no scripts, nothing from elsewhere. It reads printed on A4, without colour, on a small
-//! screen and aloud.
+//! The verdict as a page to file: one file, no scripts, nothing from elsewhere, no clock. It reads printed on A4, without colour, on a
+//! small screen and aloud.
 
 use std::path::Path;
 
 use labrador::section_one::SectionOne;
 use labrador::{Slice, Verdict};
 
+use crate::filed::Filed;
 use crate::stated::Compared;
 use crate::worth::Told;
 
 mod checks;
 mod findings;
 mod html;
+pub mod many;
+mod mistyped;
 mod norms;
 mod place;
+pub mod record;
 mod stated;
 mod style;
 mod tables;
@@ -31,6 +35,7 @@ pub struct Report<'a> {
     pub warnings: &'a [String],
     /// How the job stands to a statement file, where one was handed in.
     pub compared: Option<&'a Compared>,
+    pub filed: &'a Filed,
 }
 
 /// The slices in the order of a report.
@@ -58,23 +63,24 @@ impl Report<'_> {
     }
 }
 
-pub fn page(report: &Report) -> String {
-    let title = verdict::title(report);
+/// The parts of the page, each begun on a sheet of its own in print: what is filed and signed, how it was judged, and what it was judged by.
+fn parts(report: &Report) -> [String; 3] {
     let beside = [place::around(report), norms::bars(report), findings::list(report)].concat();
-    let parts = [
-        verdict::header(report),
-        stated::list(report),
+    let files = [0, 1, 2].map(|k| record::file(SLICES[k], report.names[k], report.slices[k]));
+    [
+        [
+            verdict::header(report),
+            stated::list(report),
+            mistyped::list(report),
+            record::list(report.filed, &files),
+            record::signature(),
+        ]
+        .concat(),
         html::pair(&checks::list(report), &beside),
-        tables::parameters(report),
-        tables::sections(report),
-        verdict::footer(),
-    ];
-    format!(
-        "<!DOCTYPE html>\n<html lang=\"en\">\n<head>\n<meta charset=\"utf-8\">\n\
-         <meta name=\"viewport\" content=\"width=device-width, initial-scale=1\">\n\
-         <title>{}</title>\n<style>\n{}</style>\n</head>\n<body>\n<main>\n{}</main>\n</body>\n</html>\n",
-        html::escape(&title),
-        style::STYLE,
-        parts.concat()
-    )
+        [tables::parameters(report), tables::sections(report), verdict::footer()].concat(),
+    ]
+}
+
+pub fn page(report: &Report) -> String {
+    html::document(&verdict::title(report), &parts(report).map(|part| html::part(&part)).concat())
 }

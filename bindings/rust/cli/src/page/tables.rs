@@ -12,7 +12,12 @@ fn item(name: &str, value: &str, meaning: &str) -> String {
 }
 
 pub fn parameters(report: &Report) -> String {
-    let Some(one) = SectionOne::read(report.slices[0]) else {
+    parameters_of(report.slices[0])
+}
+
+/// The parameters of a job, as far as its first section is read.
+pub fn parameters_of(job: &[u32]) -> String {
+    let Some(one) = SectionOne::read(job) else {
         return section("parameters", "Parameters", "<p>Not read: the job's first section is refused.</p>\n");
     };
     let words = PARAMETERS.iter().zip(one.parameters.words());

@@ -4,7 +4,7 @@ use labrador::section_one::SectionOne;
 use labrador::{Verdict, Q};
 
 use super::html::escape;
-use super::{Report, SLICES};
+use super::Report;
 use crate::worth::{chance_sentence, drawn_sentence};
 
 /// The verdict in a line; an acceptance has what it is worth beside it.
@@ -70,19 +70,13 @@ pub fn header(report: &Report) -> String {
     let warnings = report.warnings.iter().map(|warning| format!("warning: {warning}"));
     let told = warnings.chain(sentences(report));
     let told: String = told.map(|s| format!("<p>{}</p>\n", escape(&sentence(&s)))).collect();
-    let files: Vec<String> = SLICES.iter().zip(report.names).zip(report.slices).map(file).collect();
     format!(
-        "<header class=\"{class}\">\n<h1><span aria-hidden=\"true\">{mark}</span> {heading}</h1>\n{told}<p>{}</p>\n</header>\n",
-        escape(&format!("Judged: {}.", files.join("; ")))
+        "<header class=\"{class}\">\n<h1><span aria-hidden=\"true\">{mark}</span> {heading}</h1>\n{told}</header>\n"
     )
 }
 
-fn file(((slice, name), words): ((&labrador::Slice, &std::path::Path), &[u32])) -> String {
-    format!("{} {} ({} words)", slice.name(), name.display(), words.len())
-}
-
 /// With an upper-case first letter and a full stop.
-fn sentence(text: &str) -> String {
+pub fn sentence(text: &str) -> String {
     let mut letters = text.chars();
     let first: String = letters.next().map(|c| c.to_uppercase().to_string()).unwrap_or_default();
     let stop = if text.ends_with('.') { "" } else { "." };
@@ -92,8 +86,8 @@ fn sentence(text: &str) -> String {
 pub fn footer() -> String {
     format!(
         "<footer>\n<p>The verdict is the answer of the proved call labrador_verify, and the norms are taken of the transcript's words \
-     by the proved calls labrador_rq_norm, labrador_rq_digits and labrador_rq_left. The layout of this page, its sentences and the review of the \
-     job are made by a program that is not proved. The randomness is taken as it was handed in: a verdict forces nothing \
+     by the proved calls labrador_rq_norm, labrador_rq_digits and labrador_rq_left. The layout of this page, its sentences, the hashes and the \
+     review of the job are made by a program that is not proved. The randomness is taken as it was handed in: a verdict forces nothing \
      where the sender could choose it. Rows, vectors, cells, elements, coefficients and words count from 0. \
      Q is {Q}.</p>\n</footer>\n"
     )

@@ -50,7 +50,9 @@ fn an_empty_file_is_refused_at_its_start() {
         assert_eq!(ran.status, 2, "{call}");
         assert!(ran.line.contains("ends after 0 words"), "{call}: {}", ran.line);
     }
-    assert_eq!(run(&desk, "describe empty").status, 0);
+    let told = run(&desk, "describe empty");
+    assert_eq!((told.status, told.line.as_str()), (2, "labrador: empty: the file is empty\n"));
+    assert!(run(&desk, "describe job empty --json").out.contains("\"wrong\":\"the file is empty\""));
 }
 
 #[test]

@@ -110,11 +110,12 @@ fn zero_weights_count_nothing() {
     assert!(alone.contains(line), "{alone}");
 }
 
-/// The line where not all of three are accepted: nothing is said of their worth.
-fn told_of(accepted: u32) -> String {
+/// The line where so many of three are accepted: what these are worth, and that the others were chances.
+fn told_of(accepted: u32, worth: &str) -> String {
     format!(
-        "labrador: {accepted} of 3 transcripts accepted; what they are worth together is said only where all are accepted, and nothing was tried \
-         again; {THINGS} things that the job does not force\n"
+        "labrador: {accepted} of 3 transcripts accepted; the {accepted} accepted{}: at best {worth}, if the desk drew the randomness and \
+         nothing was tried again, and each that failed was another chance; {THINGS} things that the job does not force\n",
+        if accepted == 1 { "" } else { " together" }
     )
 }
 
@@ -125,7 +126,7 @@ fn one_that_fails_alters_no_other() {
     words[1] ^= 1;
     desk.put("t2", &words);
     let told = run(&desk, THREE);
-    assert_eq!((told.status, told.line.as_str()), (1, told_of(2).as_str()));
+    assert_eq!((told.status, told.line.as_str()), (1, told_of(2, TWO).as_str()));
     let lines: Vec<&str> = told.out.lines().collect();
     assert_eq!(lines[1], "t2: check 28 failed: u1 is not the commitment to the digits of t and g");
     assert!(lines[0].starts_with("t1: accepted") && lines[2].starts_with("t3: accepted"), "{}", told.out);
@@ -133,7 +134,10 @@ fn one_that_fails_alters_no_other() {
     words.pop();
     desk.put("t2", &words);
     let told = run(&desk, "verify-many --job job r1 t1 r2 t2 r1 t3 --json");
-    assert_eq!((told.status, told.line.as_str()), (2, told_of(1).as_str()));
+    assert_eq!(
+        (told.status, told.line.as_str()),
+        (2, told_of(1, &format!("{ONE} ({} bits)", over("6.3", "127.1"))).as_str())
+    );
     for part in [
         "\"accepted\":1,\"counted\":1,\"together\":null",
         "\"transcript\":\"t2\",\"says\":\"refusal 9: ",
@@ -141,6 +145,10 @@ fn one_that_fails_alters_no_other() {
     ] {
         assert!(told.out.contains(part), "{part}: {}", told.out);
     }
+    // of none nothing is said
+    let none = run(&desk, "verify-many --job job r2 t2");
+    let line = format!("labrador: 0 of 1 transcripts accepted; {THINGS} things that the job does not force\n");
+    assert_eq!((none.status, none.line), (2, line));
     let exchanged = run(&desk, "verify-many --job job t1 r1");
     assert!(exchanged.out.ends_with("; the file is fit as transcript\n"), "{}", exchanged.out);
 }
@@ -160,10 +168,6 @@ fn each_verdict_is_that_of_verify() {
 #[test]
 fn the_whole_call_is_refused() {
     let desk = three("many_refused");
-    let nine = format!("{THREE} r1 t1 r1 t1 r1 t1 r1 t1 r1 t1 r1 t1");
-    let told = run(&desk, &nine);
-    let line = "labrador: refusal 35: there are 9 transcripts, and a call takes 1 to 8\n";
-    assert_eq!((told.status, told.line.as_str(), told.out.as_str()), (2, line, ""));
     let mut job = desk.words("job");
     job[1] = 65;
     desk.put("job", &job);

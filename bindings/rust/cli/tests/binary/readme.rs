@@ -1,11 +1,8 @@
 //! The commands of the README, pasted.
 
-use std::path::Path;
-use std::process::Command;
-
 use crate::common::over;
 use crate::desk::Desk;
-use crate::run::{ran, BINARY};
+use crate::pasted::{root, typed};
 
 /// The part under this heading, as far as it is of the command line.
 fn part_of<'a>(readme: &'a str, heading: &str) -> &'a str {
@@ -19,8 +16,7 @@ fn the_commands_of_the_readme_say_what_it_says() {
     if over(false, true) {
         return println!("not tried: the README, whose figures are of 4294967295");
     }
-    let root = Path::new(env!("CARGO_MANIFEST_DIR")).join("../../..");
-    let readme = std::fs::read_to_string(root.join("README.md")).expect("the README");
+    let readme = std::fs::read_to_string(root().join("README.md")).expect("the README");
     let part = part_of(&readme, "From the command line");
     let lines: Vec<&str> = part.lines().filter_map(|line| line.strip_prefix("    ")).collect();
     let is_said = |line: &&str| line.starts_with("labrador: ");
@@ -29,14 +25,10 @@ fn the_commands_of_the_readme_say_what_it_says() {
     let commands: Vec<&str> = lines.iter().filter(|l| !is_said(l) && !is_building(l)).copied().collect();
     let said: Vec<&str> = lines.iter().filter(|l| is_said(l)).copied().collect();
     assert!(commands.len() >= 5 && said.len() >= 2, "{lines:?}");
-    let desk = Desk::new("readme");
-    let folder = Path::new(BINARY).parent().expect("the binary's folder");
-    let script = format!("PATH={}:$PATH\n{}", folder.display(), commands.join("\n"));
-    let output = Command::new("sh").args(["-c", &script]).current_dir(&desk.folder).output().expect("a shell");
-    let told = ran(output);
-    let answers: Vec<&str> = told.line.lines().collect();
+    let told = typed(&Desk::new("readme"), &commands.join("\n"));
+    let answers: Vec<&str> = told.lines().collect();
     for line in said {
-        assert!(answers.contains(&line), "{line} is not said:\n{}", told.line);
+        assert!(answers.contains(&line), "{line} is not said:\n{told}");
     }
-    assert!(answers.iter().any(|line| line.starts_with("labrador: accepted; one transcript: 1 in ")), "{}", told.line);
+    assert!(answers.iter().any(|line| line.starts_with("labrador: accepted; one transcript: 1 in ")), "{told}");
 }

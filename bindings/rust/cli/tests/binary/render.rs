@@ -1,4 +1,4 @@
-//! The page in Chromium, where it is at hand: one printed page, and nothing wider than a small screen.
+//! The page in Chromium, where it is at hand: its printed sheets, and nothing wider than a small screen.
 
 use std::fs;
 use std::path::Path;
@@ -6,6 +6,7 @@ use std::process::{Command, Stdio};
 
 use crate::desk::Desk;
 use crate::pages::{desk_of, page_of};
+use crate::run::run;
 
 fn chromium() -> Option<&'static str> {
     let runs = |name: &&str| {
@@ -24,12 +25,12 @@ fn rendered(browser: &str, desk: &Desk, arguments: &[&str], page: &Path) -> Vec<
     command.stdin(Stdio::null()).stderr(Stdio::null()).output().expect("Chromium runs").stdout
 }
 
-/// The printed pages of a page.
-fn printed_pages(browser: &str, desk: &Desk) -> usize {
+/// The printed sheets of a page.
+fn sheets(browser: &str, desk: &Desk) -> usize {
     let pdf = desk.path("page.pdf");
     let print = format!("--print-to-pdf={}", pdf.display());
     rendered(browser, desk, &["--no-pdf-header-footer", &print], &desk.path("page.html"));
-    let bytes = fs::read(pdf).expect("a printed page");
+    let bytes = fs::read(pdf).expect("printed sheets");
     let text = String::from_utf8_lossy(&bytes);
     text.matches("/Type /Page\n").count() + text.matches("/Type /Page ").count()
 }
@@ -50,17 +51,32 @@ fn width_in(browser: &str, desk: &Desk, width: usize) -> usize {
 }
 
 #[test]
-fn pages_print_on_one_sheet_and_fit_a_small_screen() {
+fn each_part_begins_a_sheet_and_pages_fit_a_small_screen() {
     let Some(browser) = chromium() else {
         println!("not rendered: Chromium is not at hand");
         return;
     };
-    let numbers = [0, 21, 23, 29, 3, 6];
+    let numbers = [0, 21, 22, 23, 29, 3, 6];
     for number in numbers {
         let desk = desk_of("render", number);
         page_of(&desk);
-        assert_eq!(printed_pages(browser, &desk), 1, "{number}");
+        // three parts, of which the second can go on on another sheet
+        let sheets = sheets(browser, &desk);
+        assert!((3..=4).contains(&sheets), "{number}: {sheets} sheets");
         assert_eq!(width_in(browser, &desk, 340), 340, "{number}");
     }
     println!("rendered: the pages of {} answers, in {browser}", numbers.len());
+}
+
+#[test]
+fn the_page_of_eight_has_three_parts_and_fits_a_small_screen() {
+    let Some(browser) = chromium() else {
+        return println!("not rendered: Chromium is not at hand");
+    };
+    let desk = desk_of("render_eight", 0);
+    let pairs = " randomness transcript".repeat(8);
+    assert_eq!(run(&desk, &format!("verify-many --job job --report page.html{pairs}")).status, 0);
+    let sheets = sheets(browser, &desk);
+    assert!((3..=5).contains(&sheets), "{sheets} sheets");
+    assert_eq!(width_in(browser, &desk, 340), 340);
 }

@@ -43,9 +43,9 @@ fn every_job_has_its_worth_and_its_findings() {
         "the test of refusal 14 can never fail: ",
         "the test of refusal 15 can never fail: ",
         "the test of refusal 16 can never fail: ",
+        "totals are forced modulo 255 only: one that is wrong by a multiple of 255 passes one transcript with at least 1 in 1.9 million (2^-20.8), ",
         "norms are not forced by check 21: p can be sent modulo 16711935, ",
         "beta is above q/125, ",
-        "totals are forced modulo 255 only: one that is wrong by a multiple of 255 passes one transcript with at least 1 in 1.9 million (2^-20.8), ",
         "the test of refusal 13 can never fail: ",
         "bound_A is tested by the prover alone: ",
     ].into_iter().filter(is_told)) {

@@ -3,12 +3,11 @@
 
 use std::fs;
 use std::os::unix::fs::PermissionsExt;
-use std::path::Path;
-use std::process::Command;
 
 use crate::common::over;
 use crate::desk::Desk;
-use crate::run::{ran, run, BINARY, LOAD, PROVE};
+use crate::pasted::page_is_true;
+use crate::run::{run, LOAD, PROVE};
 
 const PARTS: &str = "shed-parts --job job --randomness randomness --witness witness";
 
@@ -135,26 +134,10 @@ fn damaged_files_of_a_shed_are_answered() {
     assert_eq!(run(&desk, "add-projections --p a.rows a.p a.p").status, 3);
 }
 
-/// The page's commands in a folder of their own: each line that is indented is typed, but for those that are said.
 #[test]
 fn the_commands_of_the_page_say_what_it_says() {
     if over(false, true) {
         return println!("not tried: docs/SHEDS.md, whose figures are of 4294967295");
     }
-    let root = Path::new(env!("CARGO_MANIFEST_DIR")).join("../../..");
-    let page = fs::read_to_string(root.join("docs/SHEDS.md")).expect("the page");
-    let indented: Vec<&str> = page.lines().filter_map(|line| line.strip_prefix("    ")).collect();
-    let is_said = |line: &&str| line.starts_with("labrador: ") || line.starts_with("same ");
-    let said: Vec<&str> = indented.iter().copied().filter(is_said).collect();
-    let commands: Vec<&str> = indented.iter().copied().filter(|line| !is_said(line)).collect();
-    assert!(commands.len() > 10 && said.len() > 2, "{indented:?}");
-    let desk = Desk::new("page_of_sheds");
-    let folder = Path::new(BINARY).parent().expect("the binary's folder");
-    let script = format!("set -e\nPATH={}:$PATH\nexec 2>&1\n{}", folder.display(), commands.join("\n"));
-    let output = Command::new("sh").args(["-c", &script]).current_dir(&desk.folder).output().expect("a shell");
-    let told = ran(output);
-    assert_eq!(told.status, 0, "{}", told.out);
-    for line in said {
-        assert!(told.out.lines().any(|l| l == line), "{line} is not said:\n{}", told.out);
-    }
+    page_is_true("SHEDS.md", 5);
 }

@@ -180,8 +180,8 @@ fn unfit_parameters_are_2() {
 fn every_command_has_help_with_an_example() {
     let desk = Desk::new("help");
     let sheds = ["shed-parts", "shed-projection", "shed-rows", "add-projections"];
-    for command in ["load", "describe", "review", "prove", "verify", "verify-many", "explain"].into_iter().chain(sheds)
-    {
+    let others = ["load", "describe", "review", "prove", "verify", "verify-many", "mistyped", "ranges", "explain"];
+    for command in others.into_iter().chain(sheds) {
         for call in [format!("{command} --help"), format!("help {command}")] {
             let help = run(&desk, &call);
             assert_eq!((help.status, help.line.as_str()), (0, ""));

@@ -2,11 +2,13 @@
 
 use labrador::norms::norms;
 use labrador::section_one::SectionOne;
+use labrador::statement::Statement;
 use labrador::{prove, Parameters, Slice};
 
 use crate::common::{begin, made, over, set_bound, with_answer, Case, ONE, THINGS};
 use crate::desk::Desk;
 use crate::run::{run, VERIFY};
+use crate::statement::{store, text};
 
 /// A case whose limits are the norms of its own transcript.
 fn tight() -> Case {
@@ -123,4 +125,36 @@ fn what_passes_for_certain_is_worth_nothing() {
     );
     let verdict = run(&desk, VERIFY);
     assert_eq!((verdict.status, verdict.line), (0, line));
+    let strict = run(&desk, &format!("{VERIFY} --strict"));
+    let reasons = "; --strict: any statement is accepted, tests 21, 23, 14, 15 and 16 can never fail\n";
+    assert!(strict.status == 1 && strict.line.ends_with(reasons), "{}", strict.line);
+}
+
+/// No check is out of reach, but 23 has room for a z of any size: the bounds are those that honest transcripts need.
+#[test]
+fn strict_fails_where_any_statement_is_accepted() {
+    let desk = store("strict_room");
+    let wide = text().replace("n 1\n", "n 4\n").replace("r 2\n", "r 3\n").replace("kappa 2\n", "kappa 1\n");
+    let wide = wide.replace("b 256", "b 65536").replace("t_1 4", "t_1 2").replace("t_2 4", "t_2 2");
+    desk.text("draft", &wide);
+    let bounds = run(&desk, "bounds --statement draft --stock a.stock --sessions 10");
+    let others = wide.lines().filter(|line| !line.ends_with(" 99999999")).map(|line| format!("{line}\n"));
+    desk.text("room", &others.collect::<String>().replace("seed", &format!("{}seed", bounds.out)));
+    assert_eq!(run(&desk, "statement room --job job").status, 0);
+    assert_eq!(run(&desk, "stock a.stock --job job --witness witness").status, 0);
+    // the randomness of a session that the bounds were fitted to
+    let statement = Statement::parse(&desk.read("room")).unwrap();
+    let randomness = labrador::statement::sessions(&statement, 1).next().unwrap();
+    desk.put("randomness", &randomness);
+    desk.put("transcript", &prove(&desk.words("job"), &randomness, &desk.words("witness")).unwrap());
+    for call in [VERIFY, "verify-many --job job randomness transcript"] {
+        let lenient = run(&desk, call);
+        assert!(lenient.status == 0 && lenient.line.contains("1 in 1 (worth nothing)"), "{}", lenient.line);
+        let strict = run(&desk, &format!("{call} --strict"));
+        assert!(
+            strict.status == 1 && strict.line.ends_with("; --strict: any statement is accepted\n"),
+            "{}",
+            strict.line
+        );
+    }
 }

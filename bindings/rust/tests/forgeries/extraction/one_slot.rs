@@ -1,4 +1,5 @@
-//! Forks of the forger of one slot, for a total that is false: which premise fails.
+//! Forks of the forger of one slot, for a total that is false: which premise fails. Where Q has no slot, as over the prime, none does,
+//! and no transcript is accepted.
 
 use labrador::{Element, Parameters};
 
@@ -48,19 +49,24 @@ fn forged(slot: &Slot, wanted: [[Option<u32>; 3]; 2], seed: u64) -> (Statement, 
     (statement, fork, error)
 }
 
+fn has_units(fork: &Fork) -> bool {
+    fork.values.iter().all(|values| values.inverses.iter().all(Option::is_some))
+}
+
+fn numbers(statement: &Statement, fork: &Fork) -> Vec<u32> {
+    fork.verdicts(&statement.job).iter().map(|verdict| verdict.number()).collect()
+}
+
 /// A value in the slot that is not 0.
 const V: Option<u32> = Some(100);
 const ZERO: Option<u32> = Some(0);
 
 /// All transcripts are accepted, and the extraction ends where a difference is 0 in the slot: it has an inverse modulo every other
 /// prime of Q, and none modulo the slot's. There always is one: c_1·(c_1 - c_2) has at most two zeros for each c_2 in the slot, so of
-/// three values of c_1 that are accepted two are equal there.
+/// three values of c_1 that are accepted two are equal there. Without a slot the same challenges differ by units, and each fails 26.
 #[test]
 fn accepted_forks_have_no_units() {
     let slot = Slot::of(257);
-    if !slot.is_of_q() {
-        return;
-    }
     let forks = [
         ([[ZERO; 3], [None; 3]], 0, (X, C)),
         ([[V; 3], [V; 3]], 0, (X, C)),
@@ -70,6 +76,11 @@ fn accepted_forks_have_no_units() {
     ];
     for (seed, (wanted, challenge, difference)) in (0..).zip(forks) {
         let (statement, fork, _) = forged(&slot, wanted, seed);
+        if !slot.is_of_q() {
+            assert!(has_units(&fork));
+            assert_eq!(numbers(&statement, &fork), [26; 6]);
+            continue;
+        }
         assert_eq!(ending(&statement, &fork), Ending::NoUnit { challenge, difference });
         let off = fork.values[challenge].difference(difference.0, difference.1);
         assert_eq!(slot.value(&off), 0);
@@ -80,36 +91,31 @@ fn accepted_forks_have_no_units() {
 }
 
 /// Where all differences are units, some transcripts fail 26. Of challenges chosen for the forger these are the ones of c_1 → y_1 and of
-/// both changes.
+/// both changes, and all without a slot.
 #[test]
 fn forks_with_units_are_not_accepted() {
     let slot = Slot::of(257);
-    if !slot.is_of_q() {
-        return;
-    }
-    let numbers = |wanted, seed| {
+    let with_units = |wanted, seed| {
         let (statement, fork, _) = forged(&slot, wanted, seed);
-        assert!(fork.values.iter().all(|values| values.inverses.iter().all(Option::is_some)));
-        fork.verdicts(&statement.job).iter().map(|verdict| verdict.number()).collect::<Vec<_>>()
+        assert!(has_units(&fork));
+        numbers(&statement, &fork)
     };
     let chosen = [[ZERO, V, Some(7)], [V, Some(8), Some(9)]];
-    assert_eq!(numbers(chosen, 0), [0, 0, 26, 0, 0, 26]);
+    let expected = if slot.is_of_q() { [0, 0, 26, 0, 0, 26] } else { [26; 6] };
+    assert_eq!(with_units(chosen, 0), expected);
     for seed in 1..8 {
-        assert!(numbers([[None; 3]; 2], seed).contains(&26), "seed {seed}");
+        assert!(with_units([[None; 3]; 2], seed).contains(&26), "seed {seed}");
     }
 }
 
 /// Though x_1 - c_1 is a unit and s_1 is the witness's, what was accepted is not of it: h_11 is off by 2·D, and the aggregated
-/// equation by D.
+/// equation by D. So is what is not accepted without a slot.
 #[test]
 fn one_unit_is_not_enough() {
     let slot = Slot::of(257);
-    if !slot.is_of_q() {
-        return;
-    }
     let wanted = [[ZERO, V, ZERO], [V, V, None]];
     let (statement, fork, error) = forged(&slot, wanted, 2);
-    assert!(fork.verdicts(&statement.job).iter().all(|verdict| verdict.is_accepted()));
+    assert_eq!(numbers(&statement, &fork), [if slot.is_of_q() { 0 } else { 26 }; 6]);
     let [b, h] = ["b''", "h"].map(|name| to_elements(&fork.sent(name)));
     let equation = aggregated(&statement, &fork.drawn, &fork.sent("p"), &b);
     let n = SIZES.n as usize;

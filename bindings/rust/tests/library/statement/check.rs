@@ -19,16 +19,32 @@ fn totals_met_and_missed() {
     assert_eq!(sides, [(600, 600, 0), (-7, -7, 0), (12, 13, -1)]);
     assert_eq!((checked.missed(), checked.above()), (1, 1));
     assert_eq!((checked.norms.clone(), checked.bound), (vec![1160000, 25, 488], 1000000));
-    assert_eq!(checked.sides[2].total.as_ref().unwrap().0.to_string(), "total 13 = 2 * s1[1] + s2[0]");
+    assert_eq!(checked.sides[2].total.as_ref().unwrap().to_string(), "total 13 = 2 * s1[1] + s2[0]");
 }
 
+/// Sums of lines are not taken modulo Q, and one that is the total modulo Q alone is told as that; the verifier accepts it.
 #[test]
-fn a_total_that_is_met_modulo_q_alone() {
-    let job = parsed(&(head() + "total -1 = 2*s0\n")).job();
-    let witness = Stock::new(&P, &[HALF.into()]).unwrap().witness();
-    let side = check(&job, &witness).unwrap().sides[0].clone();
-    assert!(side.is_met());
-    assert_eq!((side.left, side.total.unwrap().1), (-1, i128::from(Q) - 1));
+fn sums_beyond_q() {
+    let q = i128::from(Q);
+    let half = i64::from(HALF);
+    let told = |total: &str, numbers: &[i64]| {
+        let job = parsed(&(head().replace("1000000", "79228162514264337593543950335") + total)).job();
+        let checked = check(&job, &Stock::new(&P, numbers).unwrap().witness()).unwrap();
+        let side = checked.sides[0].clone();
+        assert_eq!(
+            (checked.missed(), checked.modulo_q()),
+            (usize::from(!side.is_met_modulo_q()), usize::from(side.is_met_modulo_q() && !side.is_met()))
+        );
+        (side.left, side.difference(), side.is_met(), side.is_met_modulo_q())
+    };
+    let line = 1500000000;
+    assert_eq!(told("total 1500000000 = s0\n", &[line, line]), (3000000000, 1500000000, false, false));
+    let modulo = 2 * line - i64::from(Q);
+    assert_eq!(told(&format!("total {modulo} = s0\n"), &[line, line]), (3000000000, q, false, true));
+    assert_eq!(told("total -1 = 2*s0\n", &[half]), (q - 1, q, false, true));
+    assert_eq!(told("total 0 = s0\n", &[half, half, 1]), (q, q, false, true));
+    assert_eq!(told(&format!("total -{half} = s0\n"), &[-half]), (-i128::from(half), 0, true, true));
+    assert_eq!(told("total 5 = s0\n", &[half, -half, 5]), (5, 0, true, true));
 }
 
 /// Both kinds of constraints of test loads, which their witness meets, with one right side raised.
@@ -48,8 +64,8 @@ fn constraints_of_every_kind() {
         let missed: Vec<_> = checked.sides.iter().filter(|side| !side.is_met()).collect();
         assert_eq!((missed.len(), missed[0].kind, missed[0].index), (2, Kind::ConstantTerm, 0), "{seed}");
         assert_eq!((missed[1].kind, missed[1].index, missed[1].coefficient), (Kind::Ring, 1, 17), "{seed}");
-        assert_eq!((missed[0].difference() + 1) % i64::from(Q), 0);
-        assert_eq!((missed[1].difference() - 1) % i64::from(Q), 0);
+        assert_eq!((missed[0].difference() + 1) % i128::from(Q), 0);
+        assert_eq!((missed[1].difference() - 1) % i128::from(Q), 0);
     }
 }
 

@@ -93,7 +93,7 @@ fn a_statement_is_made_of_its_parts() {
     assert_eq!(Statement::new(p, bounds, totals.clone(), read.seed()), Ok(read.clone()));
     let wrong =
         Statement::new(P, bounds, vec![Total { right: 1 << 40, ..totals[0].clone() }], read.seed()).unwrap_err();
-    assert_eq!((wrong.line, wrong.column), (19, 7));
+    assert_eq!((wrong.first().line, wrong.first().column), (19, 7));
     let past = Lines::Run { vector: 0, first: 0, end: 129 };
     let terms = vec![Term { factor: 1, lines: past }];
     let wrong = Statement::new(P, bounds, vec![Total { right: 0, terms }], read.seed()).unwrap_err();

@@ -1,23 +1,30 @@
 //! Every mistake of a statement file: its place, what stands there and what may stand there.
 
 use labrador::section_one::{BOUNDS, PARAMETERS};
-use labrador::statement::{text_of, Fault, Found, Statement};
+use labrador::statement::{text_of, total_lines, Fault, Found, Statement};
 use labrador::{HALF, Q};
 
 use super::{head, three, SEED, TOTAL};
 
+/// The first mistake of a file.
 fn told(text: &str) -> String {
-    Statement::parse(text).expect_err(text).to_string()
+    Statement::parse(text).expect_err(text).first().to_string()
 }
 
-/// The mistake of a file whose first total is this line.
+/// The mistake of a file whose first total is this line: it has no other.
 fn in_total(line: &str) -> String {
-    let told = told(&format!("{}{line}\n", head()));
+    let told = all(&format!("{}{line}\n", head()));
+    assert_eq!(told.lines().count(), 1, "{told}");
     let place = format!("line {TOTAL}, ");
     told.strip_prefix(&place).unwrap_or_else(|| panic!("{told}")).to_string()
 }
 
-/// The mistake of a file with the line of a name replaced.
+/// All mistakes of a file, a line each.
+fn all(text: &str) -> String {
+    Statement::parse(text).expect_err(text).to_string()
+}
+
+/// The first mistake of a file with the line of a name replaced.
 fn with(name: &str, line: &str) -> String {
     let replaced = |old: &str| if old.split(' ').next() == Some(name) { line.to_string() } else { old.to_string() };
     let lines: Vec<String> = head().lines().map(replaced).collect();
@@ -243,11 +250,87 @@ fn too_few_and_too_many_totals() {
 fn columns_are_characters() {
     let told = told("statement 1\n\tn\té\n");
     assert_eq!(told, "line 2, column 4: é stands there; n is a number from 1 to 64");
-    let wrong = Statement::parse("statement 1\nn 2 ĝĝ 5 x").unwrap_err();
+    let wrong = Statement::parse("statement 1\nn 2 ĝĝ 5 x").unwrap_err().first().clone();
     assert_eq!((wrong.line, wrong.column, wrong.fault), (2, 5, Fault::Behind));
-    let odd = Statement::parse("statement 1\nn \u{a0}5\u{7}").unwrap_err();
+    let odd = Statement::parse("statement 1\nn \u{a0}5\u{7}").unwrap_err().first().clone();
     assert_eq!(odd.found.to_string(), "U+00A05U+0007");
     assert_eq!(odd.found, Found::Text("\u{a0}5\u{7}".to_string()));
+}
+
+/// After a mistake reading goes on in the next line, and what is not known is judged by what it can be at the most.
+#[test]
+fn every_mistake_is_told() {
+    let text = three().replace("n 2\n", "n 65\n").replace("kappa_1 2", "kapa_1 2").replace("t_2 4", "t_2 4 4");
+    let text = text.replace("bound_C 1000000\n", "bound_A 7\n").replace("= s0\n", "= s3\n")
+        + "total 9 = s0[4096] s1\ntotals\n";
+    let names = "a line begins with n, r, kappa, kappa_1, kappa_2, log_q, b, t_1, t_2, L, beta_sq, beta_prime_sq, bound_A, bound_B, \
+                 bound_C, bound_D, seed or total";
+    let lines = [
+        "line 2, column 3: 65 stands there; n is a number from 1 to 64",
+        &format!("line 5, column 1: kapa_1 stands there; {names}"),
+        "line 10, column 7: 4 stands there; the line ends here",
+        "line 16, column 1: bound_A stands there; bound_A is given once, in line 14",
+        "line 19, column 1: total stands there; before the first total stands also kappa_1 and bound_C",
+        "line 19, column 13: s3 stands there; the vectors are s0 to s2",
+        // n is not known, and no n has so many lines
+        "line 22, column 14: 4096 stands there; the lines of s0 are 0 to 4095",
+        &format!("line 23, column 1: totals stands there; {names}"),
+    ];
+    assert_eq!(all(&text).lines().collect::<Vec<_>>(), lines);
+    let wrong = Statement::parse(&text).unwrap_err();
+    assert_eq!((wrong.all().len(), wrong.first().line), (lines.len(), 2));
+    assert_eq!(wrong.all()[4].fault, Fault::Missing { names: vec!["kappa_1", "bound_C"] });
+}
+
+/// One mistake makes no others.
+#[test]
+fn what_follows_of_a_mistake_is_not_told() {
+    let lines = |text: &str| all(text).lines().count();
+    // lines and vectors that can be there with another n or r
+    let far = "total 1 = s2[4095] + s2[100..4096]\n";
+    assert_eq!(lines(&(head().replace("n 2\n", "n x\n") + far)), 1);
+    assert_eq!(lines(&(head().replace("r 3\n", "r 0\n") + "total 1 = s15\n")), 1);
+    // a name that is missing is told at the first total alone, and one that is given behind it is not told again
+    assert_eq!(lines(&(head().replace("L 4\n", "") + "total 1 = s0\ntotal 2 = s0\nL 4\n")), 1);
+    // L and log_q are held against each other once, in either order, and not where one of them is wrong
+    for (l, log_q) in [("L 3", "log_q 32"), ("L 33", "log_q 16"), ("L 3", "log_q 3")] {
+        let text = three().replace("L 4", "X").replace("log_q 32", "Y");
+        for (first, second) in [(l, log_q), (log_q, l)] {
+            assert_eq!(lines(&text.replace('X', first).replace('Y', second)), 1, "{first}, {second}");
+        }
+    }
+    // the 65th total, and not those behind it
+    assert_eq!(lines(&(head() + &"total 1 = s0\n".repeat(70))), 1);
+    // a total that is wrong is one
+    assert_eq!(lines(&(head() + "total 1 = s9\n")), 1);
+    // of a wrong first line nothing more is read
+    assert_eq!(lines(&three().replace("statement 1", "statement 2").replace("n 2", "n 65")), 1);
+}
+
+#[test]
+fn without_any_total() {
+    let lacking = all("statement 1\nn 2\n");
+    let end = "line 3, column 1: the file's end stands there; ";
+    let told: Vec<&str> = lacking.lines().map(|line| line.strip_prefix(end).unwrap()).collect();
+    assert!(told.len() == 2 && told[0].starts_with("before the first total stands also r, kappa, "), "{told:?}");
+    assert_eq!(told[1], "a statement has 1 to 64 totals");
+}
+
+#[test]
+fn a_thousand_mistakes_are_told() {
+    let text = head() + &"x\n".repeat(5000);
+    let wrong = Statement::parse(&text).unwrap_err();
+    assert_eq!(wrong.all().len(), 1001);
+    assert_eq!(
+        wrong.all()[1000].to_string(),
+        "line 1019, column 1: x stands there; 1000 mistakes are told before, and the rest is not read"
+    );
+}
+
+#[test]
+fn the_lines_of_totals() {
+    let text = three().replace("total -7", "# total\n\n total\t-7") + "total-5=s0";
+    assert_eq!(total_lines(&text), [19, 22, 23, 24]);
 }
 
 #[test]

@@ -11,6 +11,7 @@ mod jobs;
 mod mistakes;
 mod random;
 mod seeds;
+mod stated;
 mod stocks;
 mod trips;
 

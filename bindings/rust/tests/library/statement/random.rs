@@ -71,7 +71,7 @@ fn statements() {
     for _ in 0..4000 {
         let text = edited(&mut draw, &three());
         match Statement::parse(&text) {
-            Err(mistake) => stands(&text, &mistake),
+            Err(mistakes) => mistakes.all().iter().for_each(|mistake| stands(&text, mistake)),
             Ok(statement) => {
                 read += 1;
                 assert_eq!(Statement::parse(&statement.to_string()).as_ref(), Ok(&statement), "{text}");
@@ -91,7 +91,7 @@ fn stock_lists() {
         for _ in 0..2000 {
             let text = edited(&mut draw, list);
             match Stock::parse(&p, &text) {
-                Err(mistake) => stands(&text, &mistake),
+                Err(mistakes) => mistakes.all().iter().for_each(|mistake| stands(&text, mistake)),
                 Ok(stock) => {
                     read += 1;
                     assert_eq!(Stock::new(&p, stock.numbers()), Ok(stock), "{text}");

@@ -92,11 +92,28 @@ fn more_numbers_than_lines() {
 }
 
 #[test]
+fn every_mistake_is_told() {
+    let list = "0,0,5\n2,0,1\n7\n0,0,x\n0,0,6\n0,64,1 # so\n1,1,1\n";
+    let lines = [
+        "line 2, column 1: 2 stands there; the vectors are s0 to s1",
+        "line 3, column 1: 7 stands there; I,J,NUMBER stands in every line, as in line 1",
+        &format!("line 4, column 5: x stands there; a line of stock has a number from -{HALF} to {HALF}"),
+        "line 5, column 1: 0,0,6 stands there; s0[0] has its number in line 1",
+        "line 6, column 3: 64 stands there; the lines of s0 are 0 to 63",
+    ];
+    assert_eq!(told(list).lines().collect::<Vec<_>>(), lines);
+    // a wrong number has its place, and numbers beyond the last line are told once
+    let list = format!("x\n{}", "1\n".repeat(140));
+    let full = "line 129, column 1: 1 stands there; the stock has 128 lines, and each has its number";
+    assert_eq!((told(&list).lines().count(), told(&list).lines().last()), (2, Some(full)));
+}
+
+#[test]
 fn a_stock_is_made_of_numbers() {
     let numbers = [5, -3, 0, HALF.into()];
     let stock = Stock::new(&SHORT, &numbers).unwrap();
     assert_eq!((stock.numbers().len(), &stock.numbers()[..4]), (128, &numbers[..]));
     assert_eq!(Stock::of_witness(&SHORT, &stock.witness()), stock);
-    assert_eq!(Stock::new(&SHORT, &[1, 1 << 31]).unwrap_err().line, 2);
+    assert_eq!(Stock::new(&SHORT, &[1, 1 << 31]).unwrap_err().first().line, 2);
     assert!(Stock::new(&SHORT, &[0; 129]).is_err());
 }

@@ -6,8 +6,8 @@ use Rattle.protocol.specs.Layout.{layout, ranged, job-sections, job-refusal}
 use Rattle.relation.specs.Parameters.{parametersOf}
 use Rattle.section_one.specs.SectionOne.{section-one, ofSectionOne, Reads}
 use Rattle.section_one.proofs.Limits.{sound}
-use Rattle.admission.specs.declared.answers.Checked.{Checked}
-use Rattle.admission.specs.Admission.{ofChecked}
+use Rattle.admission.specs.declared.answers.SliceChecked.{SliceChecked}
+use Rattle.admission.specs.Admission.{ofSliceChecked}
 use Rattle.admission.proofs.Stages.{stops-at}
 use borrow.Author.Needs.{needs}
 use Rattle.admission.proofs.job.check.Statement.{statement}
@@ -20,12 +20,12 @@ one c =
     (sym (ap ofSectionOne (c .p .given .1)) ∙ r .ensures .0, subst (Reads _) (c .p .given .1) (r .ensures .1))
 
 -- then the answer is that of the other sections
-two : (c : tie.After-sections) {x : Checked} → c .sections .result ≡ x → ofChecked x ≡ job-refusal (c .before .before .before .before .before .before .args .job .now)
+two : (c : tie.After-sections) {x : SliceChecked} → c .sections .result ≡ x → ofSliceChecked x ≡ job-refusal (c .before .before .before .before .before .before .args .job .now)
 unfolding job-refusal
 two c {x} e =
     let J = c .before .before .before .before .before .before .args .job .now in
     let h = one (c .before .before) in
-    sym (ap ofChecked e)
+    sym (ap ofSliceChecked e)
     ∙ c .sections .ensures
     ∙ ap (λ P. layout 3 J 31 (job-sections P) then ranged 6 J 31 (job-sections P)) (h .1)
     ∙ ap (λ a. a then layout 3 J 31 (job-sections (parameters J)) then ranged 6 J 31 (job-sections (parameters J))) (h .0)

@@ -10,7 +10,7 @@ returns : tie.Need-returns
 returns c =
     let s = c .before .before .before .args in
     let total = c .before .digits-norm .ensures in
-    (c .at-most .ensures ∙ ap (λ x. leb x (value128 (s .bound))) (total .0 .0), total .1)
+    c .at-most .ensures ∙ ap (λ x. leb x (value128 (s .bound))) (total .0 .0)
 
 pub digits-within-spec : {M : Type 1} → statement M
 digits-within-spec = tie.close (tie.spec (λ c κs. search needs) (λ c κs. search needs) returns)

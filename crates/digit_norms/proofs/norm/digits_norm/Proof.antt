@@ -9,7 +9,8 @@ use Rattle.lists.proofs.Sum.{Σ-suc}
 use Rattle.definitions.specs.Answer.{value128}
 use Rattle.definitions.specs.Ring.{element}
 use Rattle.inner_product.specs.Run.{run}
-use Rattle.protocol.specs.Conditions.{digits-norm, one-if-left}
+use Rattle.protocol.specs.Formulas.{one-if-left}
+use Rattle.protocol.specs.Conditions.{digits-norm}
 use Rattle.protocol.proofs.Norms.{digits-of-table}
 use Rattle.protocol.proofs.CellsLeft.{count-of-table, count-at-most}
 use Rattle.digit_norms.proofs.Squares.{rows-norm}

@@ -4,10 +4,10 @@ use mathlib.Core.Bool.{cond}
 use Prim.Native.Nat.{ℕ, _-_, _≤_}
 use native.Mathlib.Omega.{arith}
 use borrow.Author.Needs.{needs}
-use borrow.Author.Tests.{lt-ltb, le-ltb}
 use lib.Dec.{ltb}
 use Rattle.definitions.specs.Zq.{Q, lackQ}
 use Rattle.definitions.proofs.Cases.{ltb-cases}
+use Rattle.transcript.specs.Entries.{by-entry}
 use Rattle.jl.specs.Rows.{term, flipped}
 use Rattle.jl.proofs.projection.term.Statement.{statement}
 use Rattle.jl.proofs.projection.term.Tie as tie
@@ -22,13 +22,9 @@ returns : tie.Need-returns
 returns c = let s = c .before .before .args in c .flipped .ensures ∙ same (s .code) (s .word) (c .before .if1 .taken) (omega arith)
 
 returns-2 : tie.Need-returns-2
-returns-2 c = c .lack .ensures ∙ simp (lt-ltb (c .before .before .before .args .code) 1073741824 (omega arith))
-
-returns-3 : tie.Need-returns-3
-returns-3 c = simp (le-ltb (c .before .before .before .args .code) 1073741824 (omega arith), lt-ltb (c .before .before .before .args .code) 2147483648 (omega arith))
-
-returns-4 : tie.Need-returns-4
-returns-4 c = simp (le-ltb (c .before .before .before .args .code) 1073741824 (omega arith), le-ltb (c .before .before .before .args .code) 2147483648 (omega arith))
+returns-2 c =
+    let s = c .before .before .before .args in
+    c .by-entry .ensures ∙ ap (λ n. by-entry (s .code) n (s .word) 0) (c .before .lack .ensures)
 
 pub term-spec : {M : Type 1} → statement M
-term-spec = tie.close (tie.spec (λ c κs. search needs) returns (λ c κs. search needs) returns-2 returns-3 returns-4)
+term-spec = tie.close (tie.spec (λ c κs. search needs) returns (λ c κs. search needs) (λ c κs. search needs) returns-2)

@@ -29,10 +29,10 @@ left-over-requires c κs =
 
 returns : tie.Need-returns
 returns c =
-    let o = c .before .before .before .before .before .rq-digit-operands in
-    let s = c .before .before .before .before .status-of .ensures in
-    let a = c .before .before .before .before .before .before .args in
-    made (o .result) _ _ _ _ s (c .before .left-over .ensures ∙ kept (o .result) _ (leftRow (a .base) (a .parts) (a .a .coeffs)) rzero s (c .before .before .if1 .taken)) (o .ensures)
+    let o = c .before .before .before .before .rq-digit-operands in
+    let s = c .before .before .before .status-of .ensures in
+    let a = c .before .before .before .before .before .args in
+    made (o .result) _ _ _ _ s (c .left-over .ensures ∙ kept (o .result) _ (leftRow (a .base) (a .parts) (a .a .coeffs)) rzero s (c .before .if1 .taken)) (o .ensures)
 
 returns-2 : tie.Need-returns-2
 unfolding rzero table

@@ -6,7 +6,7 @@ use lib.ListN.{length, length-set}
 use Rattle.protocol.specs.Layout.{transcript-refusal}
 use Rattle.protocol.specs.Many.{transcript-part}
 use Rattle.relation.specs.Parameters.{parametersOf}
-use Rattle.admission.specs.Admission.{ofChecked}
+use Rattle.admission.specs.Admission.{ofSliceChecked}
 use Rattle.many_admission.specs.Admitted.{found-of}
 use Rattle.many_admission.proofs.Found.{stored}
 use Rattle.many_admission.proofs.parts.check_transcripts.Statement.{statement}
@@ -14,7 +14,7 @@ use Rattle.many_admission.proofs.parts.check_transcripts.Tie as tie
 
 abbrev Inv-loop : tie.InvT-loop
 Inv-loop transcripts p count found₀ m₀ found m =
-    (m ≤ count) × (length found ≡ 8) × ((k : ℕ) → k < m → ofChecked (found-of found k) ≡ transcript-refusal (parametersOf p) (transcript-part (parametersOf p) count transcripts k))
+    (m ≤ count) × (length found ≡ 8) × ((k : ℕ) → k < m → ofSliceChecked (found-of found k) ≡ transcript-refusal (parametersOf p) (transcript-part (parametersOf p) count transcripts k))
 
 abbrev μ-loop : tie.MeasureT-loop
 μ-loop transcripts p count found₀ m₀ found m = count - m

@@ -7,13 +7,13 @@ use native.Mathlib.Omega.{arith}
 use borrow.Author.Needs.{needs}
 use Rattle.lists.specs.Table.{padded}
 use Rattle.lists.proofs.Padded.{padded-none, padded-next, padded-done}
-use Rattle.admission.specs.declared.answers.Checked.{Checked}
+use Rattle.admission.specs.declared.answers.SliceChecked.{SliceChecked}
 use Rattle.many_admission.specs.Admitted.{found-of, passing}
 use Rattle.many_admission.proofs.parts.passing_parts.Statement.{statement}
 use Rattle.many_admission.proofs.parts.passing_parts.Tie as tie
 
 -- whether transcript m passes
-abbrev of-part : List Checked → ℕ → Bool
+abbrev of-part : List SliceChecked → ℕ → Bool
 of-part found m = passing (found-of found m)
 
 abbrev Inv-loop : tie.InvT-loop

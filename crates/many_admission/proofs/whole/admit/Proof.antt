@@ -2,7 +2,7 @@
 use mathlib.Core.Path.{sym, ap, subst, _∙_}
 use borrow.Author.Needs.{needs}
 use Rattle.admission.specs.Admission.{ofAdmitted, At}
-use Rattle.many_admission.specs.Admitted.{Given}
+use Rattle.many_admission.specs.Admitted.{Many-given}
 use Rattle.many_admission.proofs.Refused.{none-handed, too-many, so-many}
 use Rattle.many_admission.proofs.whole.admit.Statement.{statement}
 use Rattle.many_admission.proofs.whole.admit.Tie as tie
@@ -24,7 +24,7 @@ returns-4 c =
     let k = c .before .before .before in
     let s = k .before .before .before .before .args in (
       so-many (s .job .now) (s .count) (s .scratch) (k .before .before .if1 .left) (k .before .if2 .left) (sym (ap ofAdmitted (c .before .p .given .1)) ∙ k .admit-job .ensures .0),
-      subst (λ x. At x (Given (s .job .now) (s .count) (s .scratch))) (c .before .p .given .1) (k .admit-job .ensures .1),
+      subst (λ x. At x (Many-given (s .job .now) (s .count) (s .scratch))) (c .before .p .given .1) (k .admit-job .ensures .1),
     )
 
 pub admit-spec : {M : Type 1} → statement M

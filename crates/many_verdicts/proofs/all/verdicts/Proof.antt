@@ -19,7 +19,7 @@ use Rattle.call_answers.specs.Calls.{labradorVerdict}
 use Rattle.workspace.specs.Holds.{Holds}
 use Rattle.many_phi.specs.AlphaPart.{alpha-words, phi-at}
 use Rattle.workspace.proofs.Kept.{kept-refl, kept-trans, kept-weaken}
-use Rattle.many_verdicts.specs.Windows.{unused}
+use Rattle.many_verdicts.specs.Windows.{unused-verdict}
 use Rattle.many_verdicts.proofs.Windows.{same-window}
 use Rattle.many_verdicts.proofs.all.verdicts.Statement.{statement}
 use Rattle.many_verdicts.proofs.all.verdicts.Tie as tie
@@ -30,7 +30,7 @@ of-part J count R T m = labradorVerdict (part-verdict J count R T m)
 
 abbrev Inv-loop : tie.InvT-loop
 Inv-loop job randomness transcripts p count scratch₀ weighed found out₀ m₀ scratch out m =
-    (m ≤ count) × (out ≡ padded 8 m unused (of-part job count randomness transcripts)) × Kept (many-need (parameters job) m) scratch₀ scratch
+    (m ≤ count) × (out ≡ padded 8 m unused-verdict (of-part job count randomness transcripts)) × Kept (many-need (parameters job) m) scratch₀ scratch
 
 abbrev μ-loop : tie.MeasureT-loop
 μ-loop job randomness transcripts p count scratch₀ weighed found out₀ m₀ scratch out m = count - m
@@ -38,7 +38,7 @@ abbrev μ-loop : tie.MeasureT-loop
 loop-holds : tie.Need-loop-holds Inv-loop μ-loop
 loop-holds c =
     let a = c .before .before .before .before .before .args in
-    (omega arith, c .eight .ensures ∙ padded-none 8 unused (of-part (a .job .now) (a .count) (a .randomness .now) (a .transcripts .now)), kept-refl _ _)
+    (omega arith, c .eight .ensures ∙ padded-none 8 unused-verdict (of-part (a .job .now) (a .count) (a .randomness .now) (a .transcripts .now)), kept-refl _ _)
 
 -- what is found of randomness and transcript together
 found-part : (P P′ : Parameters) (count : ℕ) (R T : List ℕ) (m : ℕ) (x sent : Answer) → P′ ≡ P → x ≡ randomness-refusal P′ 7 (randomness-part P′ count R m) then sent
@@ -81,7 +81,7 @@ loop-again c =
     let e = c .before .before .verdict .ensures in
     let more : l .m * scratch-need P ≤ (l .m + 1) * scratch-need P = mul-le-mul-right (scratch-need P) (omega arith) in (
       omega arith,
-      padded-next 8 unused (of-part (a .job .now) (a .count) (a .randomness .now) (a .transcripts .now)) (l .out) (l .m) (c .before .before .verdict .result) (l .inv .1) (omega (arith, s .pre .0 .0 .few)) (e .0),
+      padded-next 8 unused-verdict (of-part (a .job .now) (a .count) (a .randomness .now) (a .transcripts .now)) (l .out) (l .m) (c .before .before .verdict .result) (l .inv .1) (omega (arith, s .pre .0 .0 .few)) (e .0),
       kept-trans (many-need P (l .m + 1)) (a .scratch .now) (l .scratch) _ (kept-weaken (many-need P (l .m)) (many-need P (l .m + 1)) (a .scratch .now) (l .scratch) more (l .inv .2)) (e .1),
     )
 
@@ -91,7 +91,7 @@ returns c =
     let a = c .before .before .before .before .before .before .before .args in
     let P = parameters (a .job .now) in
     let n : l .m ≡ a .count = omega arith in (
-      l .inv .1 ∙ ap (λ k. padded 8 k unused (of-part (a .job .now) (a .count) (a .randomness .now) (a .transcripts .now))) n,
+      l .inv .1 ∙ ap (λ k. padded 8 k unused-verdict (of-part (a .job .now) (a .count) (a .randomness .now) (a .transcripts .now))) n,
       subst (λ k. Kept (many-need P k) (a .scratch .now) (l .scratch)) n (l .inv .2),
     )
 

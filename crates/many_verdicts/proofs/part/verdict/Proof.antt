@@ -1,10 +1,9 @@
 -- `verdict` meets its contract.
 use mathlib.Core.Path.{sym, ap, _∙_}
-use mathlib.Core.Bool.{true, false}
 use borrow.Author.Needs.{needs}
-use Rattle.definitions.specs.Answer.{result}
+use Rattle.definitions.specs.Answer.{is-fine}
 use Rattle.call_answers.specs.Calls.{labradorVerdict}
-use Rattle.admission.specs.Admission.{ofChecked}
+use Rattle.admission.specs.Admission.{ofSliceChecked}
 use Rattle.workspace.proofs.Kept.{kept-refl}
 use Rattle.many_admission.proofs.Verdicts.{part-refused}
 use Rattle.many_verdicts.proofs.part.verdict.Statement.{statement}
@@ -15,8 +14,8 @@ judge-part-requires c κs =
     let k = c .before in
     let s = k .before .before .before .before .before .before in
     let is = k .enum-told .given .1 in
-    let e = sym (s .pre .1 .0) ∙ ap ofChecked is in
-    let pass = ap (λ x. result x true false) e in
+    let e = sym (s .pre .1 .0) ∙ ap ofSliceChecked is in
+    let pass = ap is-fine e in
     (s .pre .0, (e, (s .pre .1 .1 .0 pass, s .pre .1 .1 .1 pass)))
 
 returns : tie.Need-returns
@@ -25,7 +24,7 @@ returns c =
     let s = k .before .before .before .before .before .before in
     let a = s .args in
     let f = k .found .given in (
-      c .verdict-of .ensures ∙ ap labradorVerdict (part-refused (a .job .now) (a .count) (a .randomness .now) (a .transcripts .now) (a .m) (s .pre .0 .0 .fit) (f .0 .0) (sym (ap ofChecked (f .1)) ∙ s .pre .1 .0)),
+      c .verdict-of .ensures ∙ ap labradorVerdict (part-refused (a .job .now) (a .count) (a .randomness .now) (a .transcripts .now) (a .m) (s .pre .0 .0 .fit) (f .0 .0) (sym (ap ofSliceChecked (f .1)) ∙ s .pre .1 .0)),
       kept-refl _ _,
     )
 

@@ -5,7 +5,7 @@ use borrow.Author.Needs.{needs}
 use lib.ListN.{length}
 use Rattle.definitions.specs.Answer.{Answer, fine, _then_}
 use Rattle.protocol.specs.Ranges.{length-refusal, beyond-refusal, crossed-refusal}
-use Rattle.admission.specs.Admission.{ofChecked}
+use Rattle.admission.specs.Admission.{ofSliceChecked}
 use Rattle.admission.proofs.Stages.{stage₁, stage₂}
 use Rattle.ranges.proofs.Ready.{length-is}
 use Rattle.ranges.proofs.checks.check.Statement.{statement}
@@ -26,11 +26,11 @@ crossed c = crossed-refusal (c .args .count) (c .args .lows .now) (c .args .high
 
 -- as many lows as needed
 lows-fine : (c : tie.After-enum-told) → fine ≡ lows-answer (c .before .before .before)
-lows-fine c = sym (ap ofChecked (c .enum-told .given .1)) ∙ c .before .before .check-length .ensures
+lows-fine c = sym (ap ofSliceChecked (c .enum-told .given .1)) ∙ c .before .before .check-length .ensures
 
 -- as many highs as needed
 highs-fine : (c : tie.After-enum-told2) → fine ≡ highs-answer (c .before .before .before .before .before .before)
-highs-fine c = sym (ap ofChecked (c .enum-told2 .given .1)) ∙ c .before .before .check-length2 .ensures
+highs-fine c = sym (ap ofSliceChecked (c .enum-told2 .given .1)) ∙ c .before .before .check-length2 .ensures
 
 check-pairs-requires : tie.Need-check-pairs-requires
 check-pairs-requires c κs =
@@ -45,7 +45,7 @@ returns c =
     let k = c .before in
     let s = k .before .before .before in
     let r = k .refusal .given .0 .0 in
-    let e = sym (ap ofChecked (k .refusal .given .1)) ∙ k .before .before .check-length .ensures in
+    let e = sym (ap ofSliceChecked (k .refusal .given .1)) ∙ k .before .before .check-length .ensures in
     stage₁ (lows-answer s) (highs-answer s) (beyond s) (crossed s) r e
 
 returns-2 : tie.Need-returns-2
@@ -54,7 +54,7 @@ returns-2 c =
     let m = k .before .before .before in
     let s = m .before .before .before in
     let r = k .refusal2 .given .0 .0 in
-    let e = sym (ap ofChecked (k .refusal2 .given .1)) ∙ k .before .before .check-length2 .ensures in
+    let e = sym (ap ofSliceChecked (k .refusal2 .given .1)) ∙ k .before .before .check-length2 .ensures in
     stage₂ (lows-answer s) (highs-answer s) (beyond s) (crossed s) (lows-fine m) r e
 
 returns-3 : tie.Need-returns-3

@@ -24,7 +24,7 @@ next-power base i power r p e = e ∙ ap (λ x. (x * base) % Q) p ∙ mul-mod-fi
 
 abbrev Inv-loop : tie.InvT-loop
 Inv-loop base digits sum₀ power₀ i₀ end sum power i =
-    (end ≡ length digits) × (i ≤ end) × (sum ≡ Σ i (λ k. getD digits k 0 * base ^ k) % Q) × (power ≡ base ^ i % Q)
+    (end ≡ length digits) × (i ≤ end) × (sum .0 ≡ Σ i (λ k. getD digits k 0 * base ^ k) % Q) × (power .0 ≡ base ^ i % Q)
 
 abbrev μ-loop : tie.MeasureT-loop
 μ-loop base digits sum₀ power₀ i₀ end sum power i = end - i
@@ -40,7 +40,7 @@ loop-again c =
     let term : ℕ → ℕ = λ k. getD (a .digits .now) k 0 * a .base ^ k in (
       refl,
       omega arith,
-      next-sum (Σ (l .i) term) (getD (a .digits .now) (l .i) 0) (a .base ^ l .i) _ _ _ (l .inv .2) (l .inv .3) (c .before .add .ensures ∙ ap (zadd (l .sum)) (c .before .before .mul .ensures))
+      next-sum (Σ (l .i) term) (getD (a .digits .now) (l .i) 0) (a .base ^ l .i) _ _ _ (l .inv .2) (l .inv .3) (c .before .add .ensures ∙ ap (zadd (l .sum .0)) (c .before .before .mul .ensures))
           ∙ ap (λ t. t % Q) (sym (Σ-suc (l .i) term)),
       next-power (a .base) (l .i) _ _ (l .inv .3) (c .mul2 .ensures),
     )

@@ -8,10 +8,10 @@ use Rattle.rq_digits.proofs.digits.left_over.Statement.{statement}
 use Rattle.rq_digits.proofs.digits.left_over.Tie as tie
 
 abbrev Inv-loop : tie.InvT-loop
-Inv-loop base parts coeffs sizes₀ k₀ sizes k = (k ≤ parts) × (sizes ≡ sizesAfter base coeffs k)
+Inv-loop base parts coeffs left₀ k₀ left k = (k ≤ parts) × (left ≡ sizesAfter base coeffs k)
 
 abbrev μ-loop : tie.MeasureT-loop
-μ-loop base parts coeffs sizes₀ k₀ sizes k = parts - k
+μ-loop base parts coeffs left₀ k₀ left k = parts - k
 
 loop-holds : tie.Need-loop-holds Inv-loop μ-loop
 loop-holds c = (omega arith, sizes-first _ _ _ (c .sizes-of .ensures))
@@ -23,7 +23,7 @@ returns : tie.Need-returns Inv-loop μ-loop
 returns c =
     let l = c .before .loop in
     let s = c .before .before .before .before .args in
-    sizes-left (s .base) (s .parts) (l .k) (s .a .coeffs) (l .sizes) (omega arith) (l .inv .1)
+    sizes-left (s .base) (s .parts) (l .k) (s .a .coeffs) (l .left) (omega arith) (l .inv .1)
 
 pub left-over-spec : {M : Type 1} → statement M
 left-over-spec =

@@ -1,43 +1,34 @@
 -- `check_all` meets its contract.
-use mathlib.Core.Path.{ap, _∙_}
 use borrow.Author.Needs.{needs}
 use Rattle.workspace.proofs.Kept.{kept-refl}
-use Rattle.definitions.specs.Answer.{accepted, _then_}
-use Rattle.protocol.specs.Parameters.{parameters}
-use Rattle.verifier_common.specs.Answers.{cells-left}
-use Rattle.verifier_norms.specs.Order.{norms}
-use Rattle.verifier.specs.Order.{rest}
-use Rattle.verifier_common.proofs.Verdicts.{accepts-on, refuses}
-use Rattle.verifier.proofs.Whole.{norms-unaccepted, groups-are}
+use Rattle.verifier.proofs.Whole.{stopped-is, goes-on-is}
 use Rattle.verifier.proofs.verify.check_all.Statement.{statement}
 use Rattle.verifier.proofs.verify.check_all.Tie as tie
 
 returns : tie.Need-returns
 returns c =
-    let n = c .before in
+    let n = c .before .before in
     let s = n .before .before .before .before .before .args in
-    let J = s .job .now in
-    let R = s .randomness .now in
-    let T = s .transcript .now in (
-      refuses (norms J R T) (cells-left (parameters J) T) (n .check-norms .result) (n .check-norms .ensures) (c .match .keys2) (rest J R T) ∙ groups-are J R T,
-      kept-refl _ _,
-    )
+    (stopped-is (s .job .now) (s .randomness .now) (s .transcript .now) (n .check-norms .result .checked) (n .check-norms .ensures .0) (c .before .match .keys2) (c .verdict-of .result) (c .verdict-of .ensures), kept-refl _ _)
+
+-- what is found of the digits
+check-rest-requires : tie.Need-check-rest-requires
+check-rest-requires c κs =
+    let t = c .before .before in
+    let n = t .before .before in
+    let s = n .before .before .before .before .before .pre in
+    (s .0, s .1, n .check-norms .ensures .1 (t .enum-told .given .1))
 
 returns-2 : tie.Need-returns-2
 returns-2 c =
     let r = c .before .before .before in
     let t = r .before .before .before in
     let n = t .before .before in
-    let s = n .before .before .before .before .before .args in
-    let J = s .job .now in
-    let R = s .randomness .now in
-    let T = s .transcript .now in
-    let e = r .check-rest .ensures in
-    let k = t .first .given in (
-      c .verdict-of .ensures
-          ∙ ap (λ a. a then accepted (k .0 .0)) (e .0)
-          ∙ accepts-on (norms J R T) (cells-left (parameters J) T) (n .check-norms .result) (k .0 .0) (norms-unaccepted J R T) (n .check-norms .ensures) (k .1) (rest J R T)
-          ∙ groups-are J R T,
+    let s = n .before .before .before .before .before in
+    let k = n .check-norms .ensures in
+    let e = r .check-rest .ensures in (
+      goes-on-is (s .args .job .now) (s .args .randomness .now) (s .args .transcript .now) (s .args .p) (s .pre .0 .posed .same) (n .check-norms .result .checked) (k .0) (t .enum-told .given .1)
+          (n .check-norms .result .digits) (k .1 (t .enum-told .given .1)) (r .check-rest .result) (e .0) (c .verdict-of2 .result) (c .verdict-of2 .ensures),
       e .1,
     )
 
@@ -47,8 +38,9 @@ check-all-spec =
     (tie.spec
     (λ c κs. c .before .before .before .before .pre .0)
     (λ c. search needs)
+    (λ c κs. tt)
     returns
-    (λ c κs. c .before .before .before .before .before .before .before .before .before .pre)
-    (λ c κs. search needs)
+    check-rest-requires
+    (λ c κs. tt)
     (λ c. c .before .before .before .check-rest .ensures .1 .size)
     returns-2)

@@ -19,7 +19,7 @@ check-commitments-requires : tie.Need-check-commitments-requires
 check-commitments-requires c κs =
     let f = c .before .before .before .before .before in
     let s = f .before .before .before .before .before .before in
-    (s .pre .0 .posed, ready-changed _ _ _ (s .args .scratch .now) (s .pre .1) _ (f .check-relations .ensures .1 .size))
+    (s .pre .0 .posed, ready-changed _ _ _ (s .args .scratch .now) (s .pre .1) _ (f .check-relations .ensures .1 .size), s .pre .2)
 
 returns-2 : tie.Need-returns-2
 returns-2 c =
@@ -36,7 +36,7 @@ pub check-rest-spec : {M : Type 1} → statement M
 check-rest-spec =
     tie.close
     (tie.spec
-    (λ c κs. c .before .before .before .before .before .pre)
+    (λ c κs. let s = c .before .before .before .before .before .pre in (s .0, s .1))
     (λ c. search needs)
     (λ c. c .before .before .before .check-relations .ensures .1 .size)
     returns

@@ -18,7 +18,7 @@ second-requires : tie.Need-check-second-commitment-requires
 second-requires c κs =
     let f = c .before .before .before .before .before in
     let s = f .before .before .before .before .before in
-    (s .pre .0, ready-changed _ _ _ (s .args .scratch .now) (s .pre .1) _ (f .check-first-commitment .ensures .1 .size))
+    (s .pre .0, ready-changed _ _ _ (s .args .scratch .now) (s .pre .1) _ (f .check-first-commitment .ensures .1 .size), s .pre .2)
 
 returns-2 : tie.Need-returns-2
 returns-2 c =

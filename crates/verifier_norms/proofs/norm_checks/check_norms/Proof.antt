@@ -1,13 +1,13 @@
 -- `check_norms` meets its contract.
 use mathlib.Core.Path.{_≡_, sym, ap, _∙_}
 use borrow.Author.Needs.{needs}
-use Rattle.definitions.specs.Answer.{accepted, ofChecked, _then_}
+use Rattle.definitions.specs.Answer.{ofChecked, _then_}
 use Rattle.protocol.specs.Parameters.{Parameters, parameters}
-use Rattle.protocol.proofs.Then.{then-assoc}
-use Rattle.verifier_common.specs.Answers.{projection-norm, constant-terms, norm-sum, cells-left}
+use Rattle.relation.specs.Parameters.{parametersOf}
+use Rattle.verifier_common.specs.Answers.{projection-norm, constant-terms, norm-sum}
 use Rattle.verifier_common.proofs.Sent.{received}
-use Rattle.verifier_common.proofs.Verdicts.{goes-on, stops, stops-all}
-use Rattle.verifier_norms.specs.Order.{counted-sum}
+use Rattle.verifier_common.proofs.Verdicts.{goes-on, stops, never-passed}
+use Rattle.verifier_norms.proofs.Norms.{check-23-is}
 use Rattle.verifier_norms.proofs.norm_checks.check_norms.Statement.{statement}
 use Rattle.verifier_norms.proofs.norm_checks.check_norms.Tie as tie
 
@@ -34,10 +34,9 @@ returns c =
     let s = m .before .before .before .before .before .args in
     let v = m .before .check-projection-norm .result in
     let k = m .match .keys2 in
-    let P = parameters (s .job .now) in
     let T = s .transcript .now in
-    let all = stops v (stops v (answer-21 (m .before)) k (constant-terms (s .job .now) (s .randomness .now) T)) k (norm-sum P T) in
-    stops-all v (c .verdict-of .result) 0 (c .verdict-of .ensures) all k (accepted (cells-left P T))
+    let e = c .before-digits .ensures in
+    (ap ofChecked e ∙ stops v (stops v (answer-21 (m .before)) k (constant-terms (s .job .now) (s .randomness .now) T)) k (norm-sum (parameters (s .job .now)) T), λ passed. never-passed v k (sym e ∙ passed))
 
 returns-2 : tie.Need-returns-2
 returns-2 c =
@@ -45,20 +44,21 @@ returns-2 c =
     let s = m .before .before .before .before .before .before .before .before .args in
     let v = m .before .check-constant-terms .result in
     let k = m .match2 .keys2 in
-    let P = parameters (s .job .now) in
-    let T = s .transcript .now in
-    stops-all v (c .verdict-of2 .result) 0 (c .verdict-of2 .ensures) (stops v (answer-22 (m .before)) k (norm-sum P T)) k (accepted (cells-left P T))
+    let e = c .before-digits2 .ensures in
+    (ap ofChecked e ∙ stops v (answer-22 (m .before)) k (norm-sum (parameters (s .job .now)) (s .transcript .now)), λ passed. never-passed v k (sym e ∙ passed))
 
 returns-3 : tie.Need-returns-3
 returns-3 c =
-    let k = c .before .before .before in
+    let d = c .before .take in
+    let k = c .before .before .before .before in
     let s = k .before .before .before .before .before .before .before in
-    let P = parameters (s .args .job .now) in
-    let T = s .args .transcript .now in
-    c .check-norm-sum .ensures
-    ∙ ap (λ (P : Parameters). counted-sum P T) (s .pre .posed .same)
-    ∙ goes-on (k .check-constant-terms .result) (answer-22 k) (c .before .enum-told2 .given .1) (counted-sum P T)
-    ∙ sym (then-assoc (projection-norm P T then constant-terms (s .args .job .now) (s .args .randomness .now) T) (norm-sum P T) (accepted (cells-left P T)))
+    let T = s .args .transcript .now in (
+      c .check-norm-sum .ensures
+          ∙ check-23-is (parametersOf (s .args .p)) T (d .result) (d .ensures)
+          ∙ ap (λ (P : Parameters). norm-sum P T) (s .pre .posed .same)
+          ∙ goes-on (k .check-constant-terms .result) (answer-22 k) (c .before .before .enum-told2 .given .1) (norm-sum (parameters (s .args .job .now)) T),
+      λ passed. d .ensures,
+    )
 
 pub check-norms-spec : {M : Type 1} → statement M
 check-norms-spec =
@@ -73,4 +73,5 @@ check-norms-spec =
     (λ c κs. search needs)
     returns-2
     (λ c κs. received (c .before .before .before .before .before .before .before .before .before .pre .posed))
+    (λ c κs. tt)
     returns-3)

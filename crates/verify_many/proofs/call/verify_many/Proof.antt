@@ -3,7 +3,7 @@ use mathlib.Core.Path.{sym, ap, subst, _∙_}
 use borrow.Author.Needs.{needs}
 use lib.ListN.{length}
 use Rattle.verifier.proofs.Whole.{length-zeroed}
-use Rattle.many_admission.specs.Admitted.{ofManyAdmitted, AtMany, Given}
+use Rattle.many_admission.specs.Admitted.{ofManyAdmitted, AtMany, Many-given}
 use Rattle.many_verdicts.specs.Windows.{verdicts-of}
 use Rattle.verify_many.proofs.Whole.{count-answer, count-scratch, refused-answer, refused-scratch, given-answer, given-scratch}
 use Rattle.verify_many.proofs.call.verify_many.Statement.{statement}
@@ -13,7 +13,7 @@ work-requires : tie.Need-work-requires
 work-requires c κs =
     let k = c .before .before .before .before in
     let a = k .before .before .before .before .before .args in
-    subst (λ x. AtMany x (Given (a .job .now) (a .count) (length (a .scratch .now)))) (c .before .before .p .given .1) (k .admit .ensures .1)
+    subst (λ x. AtMany x (Many-given (a .job .now) (a .count) (length (a .scratch .now)))) (c .before .before .p .given .1) (k .admit .ensures .1)
 
 returns : tie.Need-returns
 returns c =

@@ -2,11 +2,11 @@
 
 use labrador::section_one::{SectionOne, BOUNDS, PARAMETERS};
 use labrador::sections::Placed;
-use labrador::{expected, Refusal, Slice};
+use labrador::{expected, Slice};
 
 use super::Read;
+use crate::constraints::{constraints, json, total};
 use crate::json::Json;
-use crate::stated;
 
 fn sections_json(sections: &[Placed]) -> Json {
     let section = |s: &Placed| {
@@ -27,20 +27,22 @@ fn parameters_json(one: &SectionOne) -> Json {
     Json::Object(words.chain(bounds).collect())
 }
 
-pub fn json_of(file: &Read, job: Option<&[u32]>, refusal: Option<&Refusal>) -> Json {
-    let text = |text: Option<String>| text.map_or(Json::Null, Json::Text);
+pub fn json_of(file: &Read, job: Option<&[u32]>, wrong: Option<&str>) -> Json {
+    let text = |text: Option<&str>| text.map_or(Json::Null, Json::text);
     let words = &file.words.words[..];
     let one = SectionOne::read(words).filter(|_| file.kind == Some(Slice::Job));
     let job = if one.is_some() { words } else { job.unwrap_or_default() };
     let sections = file.kind.map(|kind| expected(kind, job, usize::MAX)).unwrap_or_default();
-    let states = if one.is_some() { stated::constraints(words) } else { Vec::new() };
+    let stated = if one.is_some() { constraints(words) } else { Vec::new() };
     Json::Object(vec![
         ("file", Json::text(file.path.display())),
-        ("kind", text(file.kind.map(|kind| kind.name().to_string()))),
+        ("kind", text(file.kind.map(Slice::name))),
         ("words", Json::Number(file.words.length)),
-        ("wrong", text(refusal.map(|refusal| refusal.to_string()))),
+        ("sha256", text(file.sha256.as_deref())),
+        ("wrong", text(wrong)),
         ("parameters", one.as_ref().map_or(Json::Null, parameters_json)),
         ("sections", sections_json(&sections)),
-        ("states", Json::List(states.iter().map(Json::text).collect())),
+        ("states", Json::List(stated.iter().map(|stated| Json::text(total(stated))).collect())),
+        ("constraints", Json::List(stated.iter().map(json).collect())),
     ])
 }

@@ -2,18 +2,20 @@
 
 use std::path::{Path, PathBuf};
 
-use labrador::Slice;
+use labrador::{Slice, ARCHIVE_SHA256};
 
 use crate::args::Args;
 use crate::end::{unfit, usage, End, Outcome, Status};
+use crate::filed::{sha256_of, version, Filed};
 use crate::files::{read, read_slice, Words};
 use crate::help::Command;
 use crate::json::Json;
 use crate::judge;
+use crate::shown;
 use crate::stated::{Compared, Given};
 
 use self::json::json_of;
-use self::text::describe;
+use self::text::{describe, wrong};
 
 mod json;
 mod text;
@@ -22,6 +24,8 @@ mod text;
 struct Read {
     path: PathBuf,
     words: Words,
+    /// In hex; of a file that is longer than any slice it is not taken.
+    sha256: Option<String>,
     kind: Option<Slice>,
 }
 
@@ -52,24 +56,30 @@ fn compared(given: &Given, job: Option<&[u32]>) -> Compared {
         Some(job) => given.compared(job),
         None => Compared {
             same: false,
-            told: vec![format!("there is no fit job to hold {} against", given.path.display())],
+            told: vec![format!("there is no fit job to hold {} against", shown::name(given.path))],
         },
     }
+}
+
+/// The files, each of the kind that `--as` names.
+fn read_files(args: &Args) -> Result<Vec<Read>, End> {
+    let most = Slice::ALL.into_iter().map(Slice::greatest_length).max().unwrap_or(0) + 1;
+    let kind = forced(args)?;
+    let file = |path| {
+        let words = read(Path::new(path), most)?;
+        let sha256 = sha256_of(&words.words, most);
+        Ok(Read { path: PathBuf::from(path), words, sha256, kind })
+    };
+    args.rest.iter().map(file).collect()
 }
 
 pub fn run(command: &Command, args: &Args) -> Outcome {
     if args.rest.is_empty() {
         return Err(usage(format!("describe takes a file or more; {}", command.hint())));
     }
+    let filed = Filed::of(args)?;
     let given = args.file("--statement").map(Given::read).transpose()?;
-    let most = Slice::ALL.into_iter().map(Slice::greatest_length).max().unwrap_or(0) + 1;
-    let forced = forced(args)?;
-    let mut files = Vec::new();
-    for path in &args.rest {
-        let path = PathBuf::from(path);
-        let words = read(&path, most)?;
-        files.push(Read { path, words, kind: forced });
-    }
+    let mut files = read_files(args)?;
     let named = args.file("--job").map(named_job).transpose()?;
     let among = files.iter().find(|f| f.kind.or(judge::kind_of(&f.words.words, None)) == Some(Slice::Job));
     let job: Option<Vec<u32>> = named.or(among.map(|file| file.words.words.clone()));
@@ -78,10 +88,11 @@ pub fn run(command: &Command, args: &Args) -> Outcome {
     }
     let (mut out, mut list, mut first) = (String::new(), Vec::new(), None);
     for file in &files {
-        let (told, refusal) = describe(file, job.as_deref());
+        let wrong = wrong(file, job.as_deref());
+        let told = describe(file, job.as_deref(), wrong.as_deref());
         out += &format!("{}{told}", if out.is_empty() { "" } else { "\n" });
-        list.push(json_of(file, job.as_deref(), refusal.as_ref()));
-        first = first.or(refusal.map(|refusal| format!("{}: {refusal}", file.path.display())));
+        list.push(json_of(file, job.as_deref(), wrong.as_deref()));
+        first = first.or(wrong.map(|wrong| format!("{}: {wrong}", file.path.display())));
     }
     let compared = given.as_ref().map(|given| compared(given, job.as_deref()));
     let told = compared.as_ref().map(|compared| compared.told.clone()).unwrap_or_default();
@@ -91,7 +102,9 @@ pub fn run(command: &Command, args: &Args) -> Outcome {
         (None, Some(_)) => Status::Failed,
         (None, None) => Status::Fine,
     };
+    out += &format!("\n{}, SHA-256 of its archive {ARCHIVE_SHA256}\n", version());
+    out.extend(filed.given().map(|(name, text)| format!("{name}: {text}\n")));
     out.extend(told.iter().map(|line| format!("{line}\n")));
     let fields = vec![("files", Json::List(list)), ("compared", Json::List(told.iter().map(Json::text).collect()))];
-    Ok(End::new(status, first.or(differs).unwrap_or_default()).printing(out).with(fields))
+    Ok(End::new(status, first.or(differs).unwrap_or_default()).printing(out).with(fields).with(filed.fields()))
 }

@@ -22,21 +22,24 @@ fn name(side: &Side) -> String {
     }
 }
 
-fn told(side: &Side) -> String {
-    let Side { left, right, .. } = side;
-    let met = if side.is_met() { "met" } else { "missed" };
-    let at = match side.coefficient {
-        0 => String::new(),
-        coefficient => format!(" at coefficient {coefficient}"),
-    };
-    let mut out = format!("{} is {met}{at}: left {left}, right {right}, difference {}", name(side), side.difference());
-    if let Some((total, sum)) = &side.total {
-        if *sum != i128::from(*left) {
-            out += &format!("; the lines add up to {sum}, which is {left} modulo Q");
-        }
-        out += &format!(" ({})", total.cut(TERMS));
+fn verdict(side: &Side) -> &'static str {
+    match (side.is_met(), side.is_met_modulo_q()) {
+        (true, _) => "met",
+        (false, true) => "met modulo Q only",
+        (false, false) => "missed",
     }
-    out
+}
+
+/// `total 1 is missed: left 61, right 60, difference 1, in grams (total 60 = s0)`
+pub fn told(side: &Side) -> String {
+    let Side { left, right, coefficient, .. } = side;
+    let at = if *coefficient == 0 { String::new() } else { format!(" at coefficient {coefficient}") };
+    let (name, verdict, difference) = (name(side), verdict(side), side.difference());
+    let out = format!("{name} is {verdict}{at}: left {left}, right {right}, difference {difference}");
+    match &side.total {
+        Some(total) => format!("{out}, in grams ({})", total.cut(TERMS)),
+        None => out,
+    }
 }
 
 fn norm_told(checked: &Checked, vector: usize) -> String {
@@ -45,25 +48,32 @@ fn norm_told(checked: &Checked, vector: usize) -> String {
     format!("vector {vector}: norm {norm} {held} A's bound {bound}")
 }
 
-fn side_json(side: &Side) -> Json {
-    let met = if side.is_met() { "met" } else { "missed" };
-    Json::Object(vec![
+/// For machines.
+pub fn figures(side: &Side) -> Vec<(&'static str, Json)> {
+    vec![
         ("constraint", Json::text(name(side))),
-        ("verdict", Json::text(met)),
+        ("verdict", Json::text(verdict(side))),
         ("left", Json::text(side.left)),
         ("right", Json::text(side.right)),
         ("difference", Json::text(side.difference())),
-    ])
+    ]
+}
+
+/// How many constraints are met, in words.
+pub fn met(checked: &Checked) -> String {
+    let kind = if checked.sides.iter().all(|side| side.total.is_some()) { "total" } else { "constraint" };
+    let all = counted(checked.sides.len(), kind);
+    match (checked.missed(), checked.modulo_q()) {
+        (0, 0) if checked.sides.len() == 1 => format!("the {kind} is met"),
+        (0, 0) => format!("all {all} are met"),
+        (0, modulo) => format!("{modulo} of {all} met modulo Q only"),
+        (missed, 0) => format!("{missed} of {all} missed"),
+        (missed, modulo) => format!("{missed} of {all} missed, {modulo} met modulo Q only"),
+    }
 }
 
 fn summary(checked: &Checked) -> String {
-    let (all, missed) = (checked.sides.len(), checked.missed());
-    let kind = if checked.sides.iter().all(|side| side.total.is_some()) { "total" } else { "constraint" };
-    let first = match missed {
-        0 if all == 1 => format!("the {kind} is met"),
-        0 => format!("all {} are met", counted(all, kind)),
-        _ => format!("{missed} of {} missed", counted(all, kind)),
-    };
+    let first = met(checked);
     let vectors = counted(checked.norms.len(), "vector");
     let second = match checked.above() {
         0 => format!("no norm of {vectors} is above A's bound"),
@@ -85,10 +95,11 @@ pub fn run(command: &Command, args: &Args) -> Outcome {
     let norms = (0..checked.norms.len()).map(|vector| norm_told(&checked, vector));
     let out = sides.chain(norms).map(|line| format!("{line}\n")).collect();
     let fields = vec![
-        ("constraints", Json::List(checked.sides.iter().map(side_json).collect())),
+        ("constraints", Json::List(checked.sides.iter().map(|side| Json::Object(figures(side))).collect())),
         ("norms", Json::List(checked.norms.iter().map(Json::text).collect())),
         ("bound_A", Json::text(checked.bound)),
     ];
-    let status = if checked.missed() + checked.above() == 0 { Status::Fine } else { Status::Failed };
+    let fine = checked.sides.iter().all(Side::is_met) && checked.above() == 0;
+    let status = if fine { Status::Fine } else { Status::Failed };
     Ok(End::new(status, summary(&checked)).printing(out).with(fields))
 }

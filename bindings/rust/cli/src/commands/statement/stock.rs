@@ -24,7 +24,7 @@ pub fn run(command: &Command, args: &Args) -> Outcome {
     let job = read_slice(Slice::Job, &job)?.words;
     output_need(&job).map_err(|refusal| refused(&refusal, refusal.to_string()))?;
     let p = SectionOne::read(&job).expect("the job is fit").parameters;
-    let stock = Stock::parse(&p, &texts::read(file)?).map_err(|mistake| texts::wrong(file, &mistake))?;
+    let stock = Stock::parse(&p, &texts::read(file)?).map_err(|mistakes| texts::wrong(file, &mistakes))?;
     let witness = stock.witness();
     output::write(&[Output { path, secret: true, bytes: bytes_of(&witness) }], force)?;
     let line = format!("made a witness of {} words", witness.len());

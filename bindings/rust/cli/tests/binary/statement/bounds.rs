@@ -39,14 +39,44 @@ fn forty_sessions_and_a_tenth_where_nothing_is_said() {
     assert_eq!(plain.out, run(&desk, "bounds --statement a.statement --stock a.stock --slack 10 --sessions 40").out);
 }
 
+/// The totals that are missed are named with their lines, and by how much.
 #[test]
 fn a_stock_that_misses_a_total_is_1() {
     let desk = store("bounds_missed");
     desk.text("b.stock", &STOCK.replace("25", "26"));
-    let ran = run(&desk, "bounds --statement a.statement --stock b.stock --sessions 2");
+    desk.text("b.statement", &text().replace("total 60", "# the first\ntotal 60"));
+    let call = "bounds --statement b.statement --stock b.stock --sessions 2";
+    let ran = run(&desk, call);
     assert_eq!((ran.status, ran.out.lines().count()), (1, 6));
-    let told = "labrador: with these bounds 0 of 2 honest transcripts pass; the first of the others: check 22 failed: ";
-    assert!(ran.line.starts_with(told), "{}", ran.line);
+    let lines: Vec<&str> = ran.line.lines().collect();
+    let missed =
+        "labrador: b.statement: line 20: total 0 is missed: left 61, right 60, difference 1, in grams (total 60 = s0)";
+    let passed = "labrador: 1 of 2 totals missed; with these bounds 0 of 2 honest transcripts pass; the first of the others: check 22 failed: ";
+    assert!(lines.len() == 2 && lines[0] == missed && lines[1].starts_with(passed), "{}", ran.line);
+    let json = run(&desk, &format!("{call} --json")).out;
+    let object = "\"missed\":[{\"line\":20,\"constraint\":\"total 0\",\"verdict\":\"missed\",\"left\":\"61\",\"right\":\"60\",\"difference\":\"1\"}]";
+    assert!(json.contains(object), "{json}");
+    desk.text("b.stock", &STOCK.replace("25", "24").replace("35", "34"));
+    let ran = run(&desk, call);
+    let second = "labrador: b.statement: line 21: total 1 is missed: left -3, right -5, difference 2, in grams (";
+    assert!(ran.line.lines().count() == 3 && ran.line.lines().nth(1).unwrap().starts_with(second), "{}", ran.line);
+}
+
+/// A total that is met modulo Q only is told, though every transcript passes.
+#[test]
+fn a_total_that_is_met_modulo_q_only_is_1() {
+    let desk = store("bounds_modulo");
+    let half = labrador::HALF;
+    desk.text("b.stock", &format!("0,0,{half}\n0,1,35\n0,2,{half}\n0,3,26\n1,0,65\n"));
+    let ran = run(&desk, "bounds --statement a.statement --stock b.stock --sessions 2");
+    assert_eq!(ran.status, 1);
+    assert!(
+        ran.line.starts_with("labrador: a.statement: line 19: total 0 is met modulo Q only: left "),
+        "{}",
+        ran.line
+    );
+    let passed = "labrador: 1 of 2 totals met modulo Q only; with these bounds 2 of 2 honest transcripts pass";
+    assert_eq!(ran.line.lines().nth(1), Some(passed));
 }
 
 #[test]
@@ -61,4 +91,7 @@ fn mistakes_are_told_with_their_file() {
     let told =
         "labrador: b.statement: line 13, column 1: total stands there; before the first total stands also seed\n";
     assert_eq!((ran.status, ran.line.as_str(), ran.out.as_str()), (2, told, ""));
+    desk.text("b.stock", "0,0\n9,0,1\n");
+    let ran = run(&desk, "bounds --statement a.statement --stock b.stock");
+    assert_eq!((ran.status, ran.line.lines().count(), ran.out.as_str()), (2, 2, ""));
 }

@@ -11,8 +11,8 @@ use crate::run::{run, PROVE, VERIFY};
 fn what_is_met() {
     let desk = made("check_met");
     let ran = run(&desk, "check --job job --witness witness");
-    let told = "total 0 is met: left 60, right 60, difference 0 (total 60 = s0)\n\
-                total 1 is met: left -5, right -5, difference 0 (total -5 = - 2 * s0[1] + s1[0..32])\n\
+    let told = "total 0 is met: left 60, right 60, difference 0, in grams (total 60 = s0)\n\
+                total 1 is met: left -5, right -5, difference 0, in grams (total -5 = - 2 * s0[1] + s1[0..32])\n\
                 vector 0: norm 1850 is at most A's bound 99999999\n\
                 vector 1: norm 4225 is at most A's bound 99999999\n";
     assert_eq!((ran.status, ran.out.as_str()), (0, told));
@@ -25,8 +25,8 @@ fn what_is_missed() {
     desk.text("b.stock", "0,0,25\n0,1,36\n1,0,65\n1,40,20000\n");
     assert_eq!(run(&desk, "stock b.stock --job job --witness witness --force").status, 0);
     let ran = run(&desk, "check --job job --witness witness");
-    let told = "total 0 is missed: left 61, right 60, difference 1 (total 60 = s0)\n\
-                total 1 is missed: left -7, right -5, difference -2 (total -5 = - 2 * s0[1] + s1[0..32])\n\
+    let told = "total 0 is missed: left 61, right 60, difference 1, in grams (total 60 = s0)\n\
+                total 1 is missed: left -7, right -5, difference -2, in grams (total -5 = - 2 * s0[1] + s1[0..32])\n\
                 vector 0: norm 1921 is at most A's bound 99999999\n\
                 vector 1: norm 400004225 is above A's bound 99999999\n";
     assert_eq!((ran.status, ran.out.as_str()), (1, told));
@@ -36,16 +36,27 @@ fn what_is_missed() {
     assert!(json.out.contains(first) && json.out.contains("\"bound_A\":\"99999999\""), "{}", json.out);
 }
 
+/// Grams are not taken modulo Q, and a total that is met so only is told as that, with status 1.
 #[test]
-fn a_sum_that_passes_q_is_told() {
+fn sums_beyond_q() {
     let desk = made("check_modulo");
     let most = HALF;
     desk.text("b.stock", &format!("0,0,{most}\n0,1,35\n0,2,{most}\n0,3,26\n1,0,65\n"));
     let sum = u64::from(Q) + 60;
     assert_eq!(run(&desk, "stock b.stock --job job --witness witness --force").status, 0);
     let ran = run(&desk, "check --job job --witness witness");
-    let told = format!("total 0 is met: left 60, right 60, difference 0; the lines add up to {sum}, which is 60 modulo Q (total 60 = s0)");
-    assert_eq!(ran.out.lines().next(), Some(told.as_str()));
+    let told = format!("total 0 is met modulo Q only: left {sum}, right 60, difference {Q}, in grams (total 60 = s0)");
+    assert_eq!((ran.status, ran.out.lines().next()), (1, Some(told.as_str())));
+    assert!(ran.line.starts_with("labrador: 1 of 2 totals met modulo Q only, 1 of 2 vectors above"), "{}", ran.line);
+    let json = run(&desk, "check --job job --witness witness --json").out;
+    let first =
+        format!("\"verdict\":\"met modulo Q only\",\"left\":\"{sum}\",\"right\":\"60\",\"difference\":\"{Q}\"}}");
+    assert!(json.contains(&first), "{json}");
+    desk.text("b.stock", "1500000000\n1500000000\n");
+    assert_eq!(run(&desk, "stock b.stock --job job --witness witness --force").status, 0);
+    let ran = run(&desk, "check --job job --witness witness");
+    let told = "total 0 is missed: left 3000000000, right 60, difference 2999999940, in grams (total 60 = s0)";
+    assert_eq!((ran.status, ran.out.lines().next()), (1, Some(told)));
 }
 
 #[test]

@@ -1,5 +1,7 @@
 //! A job held against a statement file: describe, verify, verify-many and the page; and the totals in words.
 
+use labrador::Q;
+
 use super::{proved, text};
 use crate::common::with_answer;
 use crate::desk::Desk;
@@ -12,7 +14,12 @@ const MANY: &str = "verify-many --job job randomness transcript";
 fn describe_says_the_totals() {
     let desk = proved("held_describe");
     let plain = run(&desk, "describe job");
-    assert!(plain.out.ends_with("\nstates\n  total 60 = s0\n  total -5 = - 2 * s0[1] + s1[0..32]\n"), "{}", plain.out);
+    let first = "  total 60 = s0\n    constant-term constraint 0: b0 is 60, centred 60; it touches s0 with 64 terms\n";
+    let second = format!(
+        "  total -5 = - 2 * s0[1] + s1[0..32]\n    constant-term constraint 1: b0 is {}, centred -5; it touches s0 with 1 term, s1 with 32 terms\n",
+        Q - 5
+    );
+    assert!(plain.out.contains(&format!("\nstates\n{first}{second}\n")), "{}", plain.out);
     assert!(!plain.out.contains("seed"));
     let held = run(&desk, "describe --statement a.statement job");
     assert_eq!((held.status, held.out.as_str(), held.line.as_str()), (0, format!("{}{SAME}", plain.out).as_str(), ""));
@@ -34,6 +41,8 @@ fn describe_says_what_is_no_total() {
     let told = run(&desk, "describe job").out;
     assert!(told.contains("\nstates\n  constant-term constraint 0 is no total: it has quadratic"), "{told}");
     assert!(told.contains("\n  ring constraint 1 is no total ("), "{told}");
+    let touched = "63 of the other 63 are not 0; it touches s0 to s2 with 256 terms and 3 products each\n";
+    assert!(told.contains("\n    ring constraint 1: coefficient 0 of b is ") && told.contains(touched), "{told}");
 }
 
 #[test]
@@ -78,12 +87,9 @@ fn the_page_has_the_totals() {
     };
     let (status, plain) = page("");
     assert_eq!(status, 0);
-    assert!(
-        plain.contains(
-            "<li class=\"stated\">total 60 = s0</li>\n<li class=\"stated\">total -5 = - 2 * s0[1] + s1[0..32]</li>"
-        ),
-        "{plain}"
-    );
+    for total in ["<td>total 60 = s0</td>", "<td>total -5 = - 2 * s0[1] + s1[0..32]</td>"] {
+        assert!(plain.contains(total), "{plain}");
+    }
     assert!(!plain.contains("those of the seed"));
     let (status, held) = page("--statement a.statement");
     assert_eq!(status, 0);

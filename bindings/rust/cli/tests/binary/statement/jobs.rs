@@ -37,6 +37,26 @@ fn a_mistake_makes_nothing() {
     assert_eq!(desk.names(), ["a.statement", "a.stock", "b.statement"]);
 }
 
+/// A line each on standard error, and all of them for machines.
+#[test]
+fn every_mistake_is_told() {
+    let desk = store("statement_mistakes");
+    desk.text("b.statement", &text().replace("kappa 2", "kappa 0").replace("= s0\n", "= s2\n"));
+    let told = [
+        "line 4, column 7: 0 stands there; kappa is a number from 1 to 16",
+        "line 19, column 12: s2 stands there; the vectors are s0 to s1",
+    ];
+    let ran = run(&desk, "statement b.statement --job job");
+    let lines = told.map(|line| format!("labrador: b.statement: {line}\n")).concat();
+    assert_eq!((ran.status, ran.out.as_str(), ran.line), (2, "", lines));
+    let json = run(&desk, "statement b.statement --job job --json").out;
+    let first = "\"line\":4,\"column\":7,\"found\":\"0\",\"expected\":\"kappa is a number from 1 to 16\"";
+    let second = "\"line\":19,\"column\":12,\"found\":\"s2\",\"expected\":\"the vectors are s0 to s1\"";
+    let all = format!("\"file\":\"b.statement\",{first},\"mistakes\":[{{{first}}},{{{second}}}]}}");
+    assert!(json.contains(&all), "{json}");
+    assert_eq!(desk.names(), ["a.statement", "a.stock", "b.statement"]);
+}
+
 #[test]
 fn the_file_of_a_job() {
     let desk = made("statement_from");

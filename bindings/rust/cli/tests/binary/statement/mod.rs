@@ -10,7 +10,7 @@ use crate::run::run;
 
 mod bounds;
 mod checks;
-mod docs;
+pub mod docs;
 mod held;
 mod jobs;
 mod stocks;

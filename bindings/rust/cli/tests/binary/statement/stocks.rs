@@ -41,5 +41,9 @@ fn a_mistake_makes_nothing() {
     desk.text("b.stock", "0,0,1\n0,64,2\n");
     let ran = run(&desk, "stock b.stock --job job --witness witness --json");
     assert!(ran.out.contains("\"line\":2,\"column\":3,\"found\":\"64\","), "{}", ran.out);
+    desk.text("b.stock", "0,0,1\n0,64,2\n2,0,1\n1,0,1\n");
+    let ran = run(&desk, "stock b.stock --job job --witness witness");
+    assert_eq!((ran.status, ran.line.lines().count()), (2, 2), "{}", ran.line);
+    assert!(ran.line.lines().nth(1).unwrap().starts_with("labrador: b.stock: line 3, column 1: "), "{}", ran.line);
     assert!(!desk.names().contains(&"witness".to_string()));
 }

@@ -1,0 +1,4 @@
+pub mod Demand3
+pub mod Binding
+pub mod Load
+pub mod Ranges

@@ -1,0 +1,46 @@
+// The digits of what the prover sends, taken once for check 23, for 14 to 16 and for the number that an acceptance states (document 02, Item 5).
+use definitions::answers::U128;
+use digit_norms::norm;
+use digit_norms::parts;
+use norm_bounds::bound;
+use relation::env_params::EnvironmentParameters;
+use sizes::offsets;
+use sizes::slices;
+ghost use Rattle.relation.specs.Parameters.{parametersOf};
+ghost use Rattle.verifier_common.specs.Work.{Received};
+ghost use Rattle.verifier_digits.specs.Taken.{Taken};
+
+// The sum of check 23, whether the digits of t, g and h are within the bounds of B, C and D, and how many cells have something left.
+pub struct SentDigits {
+    pub sum: U128,
+    pub t_within: bool,
+    pub g_within: bool,
+    pub h_within: bool,
+    pub cells_left: usize,
+}
+
+// What is found of the digits of a transcript.
+pub fn take(transcript: &[u32], p: EnvironmentParameters) -> SentDigits
+    requires { ⌜ Received (now transcript) p ⌝ }
+    ensures { λ d. ⌜ Taken (parametersOf p) (now (transcript .entry)) d ⌝ }
+{
+    let cells = slices::triangle(p.multiplicity);
+    let z = parts::two_parts_norm(transcript, offsets::of_transcript(p, 4), p.rank, p.b);
+    let t = norm::digits_norm(
+        transcript,
+        offsets::of_transcript(p, 5),
+        p.multiplicity * p.kappa,
+        p.b,
+        p.t_1,
+    );
+    let g = norm::digits_norm(transcript, offsets::of_transcript(p, 6), cells, p.b, p.t_2);
+    let h = norm::digits_norm(transcript, offsets::of_transcript(p, 7), cells, p.b, p.t_1);
+    let sum = bound::add(bound::add(bound::add(z, t.norm), g.norm), h.norm);
+    SentDigits {
+        sum,
+        t_within: bound::at_most(t.norm, p.bound_b),
+        g_within: bound::at_most(g.norm, p.bound_c),
+        h_within: bound::at_most(h.norm, p.bound_d),
+        cells_left: t.cells_left + g.cells_left + h.cells_left,
+    }
+}
