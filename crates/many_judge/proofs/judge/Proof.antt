@@ -22,8 +22,11 @@ check-rest-requires c κs =
 returns : tie.Need-returns
 returns c =
     let n = c .before .before in
-    let s = n .before .before .before .before .before .before .args in
-    (stopped-is (s .job .now) (s .randomness .now) (s .transcript .now) (n .check-norms .result .checked) (n .check-norms .ensures .0) (c .before .match .keys2) (c .verdict-of .result) (c .verdict-of .ensures), refl)
+    let s = n .before .before .before .before .before .before .args in (
+      stopped-is (s .job .now) (s .randomness .now) (s .transcript .now) (n .check-norms .result .checked) (n .check-norms .ensures .0) (c .before .match .keys2) (c .verdict-of .result)
+          (c .verdict-of .ensures),
+      refl,
+    )
 
 returns-2 : tie.Need-returns-2
 returns-2 c =

@@ -50,28 +50,45 @@ digits-norm-requires : tie.Need-digits-norm-requires
 digits-norm-requires c κs =
     let s = c .before .before .before .before .before .before .args in
     let w = c .before .before .before .before .before .before .pre in
-    let o = c .before .of-transcript2 in
-    (received-room w 5 (o .result) (omega arith) (o .ensures), w .sized .within .b .0, w .sized .within .t₁ .1, few _ 256 (product-small (s .p .multiplicity) (s .p .kappa) (w .sized .within .r .1) (w .sized .within .κ .1)) (omega arith))
+    let o = c .before .of-transcript2 in (
+      received-room w 5 (o .result) (omega arith) (o .ensures),
+      w .sized .within .b .0,
+      w .sized .within .t₁ .1,
+      few _ 256
+          (product-small (s .p .multiplicity) (s .p .kappa) (w .sized .within .r .1) (w .sized .within .κ .1)) (omega arith),
+    )
 
 digits-norm-requires-2 : tie.Need-digits-norm-requires-2
 digits-norm-requires-2 c κs =
     let s = c .before .before .before .before .before .before .before .before .args in
     let w = c .before .before .before .before .before .before .before .before .pre in
     let t = c .before .before .before .before .before .before .triangle in
-    let o = c .of-transcript3 in
-    (subst (λ n. o .result + 64 * n ≤ length (s .transcript .now)) (sym (t .ensures .0)) (received-room w 6 (o .result) (omega arith) (o .ensures)), w .sized .within .b .0, w .sized .within .t₂ .1, few (t .result) 136 (t .ensures .1) (omega arith))
+    let o = c .of-transcript3 in (
+      subst (λ n. o .result + 64 * n ≤ length (s .transcript .now)) (sym (t .ensures .0))
+          (received-room w 6 (o .result) (omega arith) (o .ensures)),
+      w .sized .within .b .0,
+      w .sized .within .t₂ .1,
+      few (t .result) 136 (t .ensures .1) (omega arith),
+    )
 
 digits-norm-requires-3 : tie.Need-digits-norm-requires-3
 digits-norm-requires-3 c κs =
     let s = c .before .before .before .before .before .before .before .before .before .before .args in
     let w = c .before .before .before .before .before .before .before .before .before .before .pre in
     let t = c .before .before .before .before .before .before .before .before .triangle in
-    let o = c .of-transcript4 in
-    (subst (λ n. o .result + 64 * n ≤ length (s .transcript .now)) (sym (t .ensures .0)) (received-room w 7 (o .result) (omega arith) (o .ensures)), w .sized .within .b .0, w .sized .within .t₁ .1, few (t .result) 136 (t .ensures .1) (omega arith))
+    let o = c .of-transcript4 in (
+      subst (λ n. o .result + 64 * n ≤ length (s .transcript .now)) (sym (t .ensures .0))
+          (received-room w 7 (o .result) (omega arith) (o .ensures)),
+      w .sized .within .b .0,
+      w .sized .within .t₁ .1,
+      few (t .result) 136 (t .ensures .1) (omega arith),
+    )
 
 -- the upper halves of the four norms
 z-hi : (c : tie.After-digits-norm3) → c .before .before .before .before .before .before .before .two-parts-norm .result .hi ≤ 524288
-z-hi c = parts-hi _ _ (c .before .before .before .before .before .before .before .two-parts-norm .ensures .1) (c .before .before .before .before .before .before .before .before .before .before .before .pre .sized .within .n .1)
+z-hi c =
+    parts-hi _ _ (c .before .before .before .before .before .before .before .two-parts-norm .ensures .1)
+    (c .before .before .before .before .before .before .before .before .before .before .before .pre .sized .within .n .1)
 
 t-hi : (c : tie.After-digits-norm3) → c .before .before .before .before .digits-norm .result .norm .hi ≤ 524288
 t-hi c =
@@ -87,13 +104,19 @@ h-hi c = norm-hi _ _ 136 (c .digits-norm3 .ensures .0 .1) (c .before .before .be
 
 -- the upper halves of the sums
 add-hi : (c : tie.After-add) → c .add .result .hi ≤ 1048577
-add-hi c = sum-hi (c .add .result .hi) (c .before .before .before .before .before .before .before .before .two-parts-norm .result .hi) (c .before .before .before .before .before .digits-norm .result .norm .hi) 524288 524288 (c .add .ensures .1) (z-hi (c .before)) (t-hi (c .before))
+add-hi c =
+    sum-hi (c .add .result .hi) (c .before .before .before .before .before .before .before .before .two-parts-norm .result .hi)
+    (c .before .before .before .before .before .digits-norm .result .norm .hi) 524288 524288 (c .add .ensures .1) (z-hi (c .before)) (t-hi (c .before))
 
 add2-hi : (c : tie.After-add2) → c .add2 .result .hi ≤ 1572866
-add2-hi c = sum-hi (c .add2 .result .hi) (c .before .add .result .hi) (c .before .before .before .before .digits-norm2 .result .norm .hi) 1048577 524288 (c .add2 .ensures .1) (add-hi (c .before)) (g-hi (c .before .before))
+add2-hi c =
+    sum-hi (c .add2 .result .hi) (c .before .add .result .hi) (c .before .before .before .before .digits-norm2 .result .norm .hi) 1048577 524288 (c .add2 .ensures .1)
+    (add-hi (c .before)) (g-hi (c .before .before))
 
 add-requires : tie.Need-add-requires
-add-requires c κs = small (c .before .before .before .before .before .before .before .two-parts-norm .result .hi) (c .before .before .before .before .digits-norm .result .norm .hi) 524288 524288 (z-hi c) (t-hi c) (omega arith)
+add-requires c κs =
+    small (c .before .before .before .before .before .before .before .two-parts-norm .result .hi) (c .before .before .before .before .digits-norm .result .norm .hi) 524288 524288
+    (z-hi c) (t-hi c) (omega arith)
 
 add-requires-2 : tie.Need-add-requires-2
 add-requires-2 c κs = small (c .add .result .hi) (c .before .before .before .digits-norm2 .result .norm .hi) 1048577 524288 (add-hi c) (g-hi (c .before)) (omega arith)
@@ -110,7 +133,8 @@ t-left c =
     let s = c .before .before .before .before .before .before .before .before .before .before .before in
     let w = s .pre .sized .within in
     let d = c .before .before .before .before .digits-norm in
-    few-left (s .args .p .b) (s .args .p .«t_1») (s .args .p .multiplicity * s .args .p .kappa) 256 (d .result .«cells_left») (run (s .args .transcript .now) (c .before .before .before .before .before .before .of-transcript2 .result) 64)
+    few-left (s .args .p .b) (s .args .p .«t_1») (s .args .p .multiplicity * s .args .p .kappa) 256 (d .result .«cells_left»)
+    (run (s .args .transcript .now) (c .before .before .before .before .before .before .of-transcript2 .result) 64)
     (d .ensures .1)
     (product-small (s .args .p .multiplicity) (s .args .p .kappa) (w .r .1) (w .κ .1))
 
@@ -131,9 +155,11 @@ h-left c =
 -- what is found of the four norms
 found : (c : tie.After-digits-norm3)
     → let s = c .before .before .before .before .before .before .before .before .before .before .before .args in
-    Found (s .transcript .now) (s .p) (c .before .before .before .before .before .before .before .before .before .triangle .result) (c .before .before .before .before .before .before .before .before .of-transcript .result) (c .before .before .before .before .before .before .of-transcript2 .result)
+    Found (s .transcript .now) (s .p) (c .before .before .before .before .before .before .before .before .before .triangle .result)
+    (c .before .before .before .before .before .before .before .before .of-transcript .result) (c .before .before .before .before .before .before .of-transcript2 .result)
     (c .before .before .before .of-transcript3 .result) (c .before .of-transcript4 .result)
-    (value128 (c .before .before .before .before .before .before .before .two-parts-norm .result)) (value128 (c .before .before .before .before .digits-norm .result .norm)) (value128 (c .before .before .digits-norm2 .result .norm)) (value128 (c .digits-norm3 .result .norm))
+    (value128 (c .before .before .before .before .before .before .before .two-parts-norm .result)) (value128 (c .before .before .before .before .digits-norm .result .norm))
+    (value128 (c .before .before .digits-norm2 .result .norm)) (value128 (c .digits-norm3 .result .norm))
 found c = record {
   size = c .before .before .before .before .before .before .before .before .before .triangle .ensures .0;
   z-place = c .before .before .before .before .before .before .before .before .of-transcript .ensures;
@@ -158,11 +184,13 @@ returns c =
     let m = a .before .before .before .before .before .before in
     let s = m .before .before .before .before .before .before .before .before .before .before .before .args in
     let f = found m in record {
-      sum = sum-is (s .transcript .now) (s .p) _ _ _ _ _ _ _ _ _ f _ _ _ (a .before .before .before .before .before .add .ensures .0) (a .before .before .before .before .add2 .ensures .0) (a .before .before .before .add3 .ensures .0);
+      sum = sum-is (s .transcript .now) (s .p) _ _ _ _ _ _ _ _ _ f _ _ _ (a .before .before .before .before .before .add .ensures .0)
+          (a .before .before .before .before .add2 .ensures .0) (a .before .before .before .add3 .ensures .0);
       t = a .before .before .at-most .ensures ∙ ap (λ x. leb x (value128 (s .p .«bound_b»))) (t-norm-is (s .transcript .now) (s .p) _ _ (f .t-place) (f .t-is));
       g = a .before .at-most2 .ensures ∙ ap (λ x. leb x (value128 (s .p .«bound_c»))) (g-norm-is (s .transcript .now) (s .p) _ _ _ (f .g-place) (f .size) (f .g-is));
       h = a .at-most3 .ensures ∙ ap (λ x. leb x (value128 (s .p .«bound_d»))) (h-norm-is (s .transcript .now) (s .p) _ _ _ (f .h-place) (f .size) (f .h-is));
-      left = cells-left-is (s .transcript .now) (s .p) _ _ _ _ _ _ _ (f .size) (f .t-place) (f .g-place) (f .h-place) (m .before .before .before .before .digits-norm .ensures .1) (m .before .before .digits-norm2 .ensures .1) (m .digits-norm3 .ensures .1);
+      left = cells-left-is (s .transcript .now) (s .p) _ _ _ _ _ _ _ (f .size) (f .t-place) (f .g-place) (f .h-place) (m .before .before .before .before .digits-norm .ensures .1)
+          (m .before .before .digits-norm2 .ensures .1) (m .digits-norm3 .ensures .1);
     }
 
 pub take-spec : {M : Type 1} → statement M

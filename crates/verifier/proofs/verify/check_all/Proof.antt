@@ -8,8 +8,11 @@ use Rattle.verifier.proofs.verify.check_all.Tie as tie
 returns : tie.Need-returns
 returns c =
     let n = c .before .before in
-    let s = n .before .before .before .before .before .args in
-    (stopped-is (s .job .now) (s .randomness .now) (s .transcript .now) (n .check-norms .result .checked) (n .check-norms .ensures .0) (c .before .match .keys2) (c .verdict-of .result) (c .verdict-of .ensures), kept-refl _ _)
+    let s = n .before .before .before .before .before .args in (
+      stopped-is (s .job .now) (s .randomness .now) (s .transcript .now) (n .check-norms .result .checked) (n .check-norms .ensures .0) (c .before .match .keys2) (c .verdict-of .result)
+          (c .verdict-of .ensures),
+      kept-refl _ _,
+    )
 
 -- what is found of the digits
 check-rest-requires : tie.Need-check-rest-requires

@@ -17,7 +17,8 @@ bounded : (c : tie.After-check-t-and-g)
     ofChecked (c .check-t-and-g .result) ≡ t-and-g-bounds (parameters (s .job .now)) (s .transcript .now)
 bounded c =
     let s = c .before .before .before .before in
-    c .check-t-and-g .ensures ∙ t-and-g-is (parametersOf (s .args .p)) (s .args .transcript .now) (s .args .digits) (s .pre .2) ∙ ap (λ (P : Parameters). t-and-g-bounds P (s .args .transcript .now)) (s .pre .0 .same)
+    c .check-t-and-g .ensures ∙ t-and-g-is (parametersOf (s .args .p)) (s .args .transcript .now) (s .args .digits) (s .pre .2) ∙ ap
+    (λ (P : Parameters). t-and-g-bounds P (s .args .transcript .now)) (s .pre .0 .same)
 
 returns : tie.Need-returns
 returns c =

@@ -26,7 +26,8 @@ answer-22 : (c : tie.After-check-constant-terms)
 answer-22 c =
     let s = c .before .before .before .before .before .before .before .args in
     let f = c .before .before .before in
-    c .check-constant-terms .ensures ∙ goes-on (f .check-projection-norm .result) (answer-21 f) (c .before .enum-told .given .1) (constant-terms (s .job .now) (s .randomness .now) (s .transcript .now))
+    c .check-constant-terms .ensures ∙ goes-on (f .check-projection-norm .result) (answer-21 f) (c .before .enum-told .given .1)
+    (constant-terms (s .job .now) (s .randomness .now) (s .transcript .now))
 
 returns : tie.Need-returns
 returns c =
@@ -35,8 +36,11 @@ returns c =
     let v = m .before .check-projection-norm .result in
     let k = m .match .keys2 in
     let T = s .transcript .now in
-    let e = c .before-digits .ensures in
-    (ap ofChecked e ∙ stops v (stops v (answer-21 (m .before)) k (constant-terms (s .job .now) (s .randomness .now) T)) k (norm-sum (parameters (s .job .now)) T), λ passed. never-passed v k (sym e ∙ passed))
+    let e = c .before-digits .ensures in (
+      ap ofChecked e ∙ stops v (stops v (answer-21 (m .before)) k (constant-terms (s .job .now) (s .randomness .now) T)) k
+          (norm-sum (parameters (s .job .now)) T),
+      λ passed. never-passed v k (sym e ∙ passed),
+    )
 
 returns-2 : tie.Need-returns-2
 returns-2 c =
