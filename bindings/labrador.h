@@ -326,8 +326,8 @@ labrador_answer labrador_shed_rows(const uint32_t *job, size_t job_length, uint3
 labrador_answer labrador_add_projections(const uint32_t *p, size_t p_length, const uint32_t *other, size_t other_length, uint32_t *output,
                                          size_t output_length);
 
-/* The verdict on a transcript. With Q = 4294967295 one acceptance leaves a false statement a chance of at least 1 in 81 (L 4) or 1 in 86 (larger L); it is worth nothing there where the
-   randomness was hashed from the one transcript, and with either Q where the sender could know or choose it: ask for eight or more, and see docs/SOUNDNESS.md. */
+/* The verdict on a transcript. With Q = 4294967295 one acceptance leaves a false statement a chance of at least 1 in 81 (L 4) or 1 in 86 (larger L; 1 in 129 where r is 1); it is worth
+   nothing there where the randomness was hashed from the one transcript, and with either Q where the sender could know or choose it: ask for eight or more, and see docs/SOUNDNESS.md. */
 labrador_verdict labrador_verify(const uint32_t *job, size_t job_length, const uint32_t *randomness, size_t randomness_length,
                                  const uint32_t *transcript, size_t transcript_length, uint32_t *scratch,
                                  size_t scratch_length);
