@@ -9,8 +9,9 @@ use Rattle.lists.specs.Table.{table}
 use Rattle.lists.specs.Sum.{Σ}
 use Rattle.lists.proofs.Sum.{Σ-bound, Σ-suc}
 use Rattle.lists.proofs.Table.{getD-table, table-ext, is-table}
-use Rattle.definitions.specs.Zq.{Q, zsub}
+use Rattle.definitions.specs.Zq.{Q, lackQ, zsub}
 use Rattle.definitions.specs.Rq.{coeff, low, high, rmul}
+use Rattle.definitions.proofs.Suited.{suited, offset-above}
 use Rattle.fast_product.specs.Join.{joinOf, joinedOf}
 use Rattle.fast_product.specs.Kept.{ProductsFit, valuesOf, valuesAdded, sumsOf, offsetQ, scaledOf, backOf}
 use Rattle.fast_product.proofs.Joining.{join-is}
@@ -54,7 +55,7 @@ module _ (n : ℕ) (hn : n ≤ 64) (a b : ℕ → List ℕ) (wa : (m : ℕ) → 
       at k h =
           let hl : Σ n (λ m. low (a m) (b m) k) ≤ n * (64 * 18446744065119617025) = Σ-bound n (64 * 18446744065119617025) (λ m. low (a m) (b m) k) (λ m l. low-bound (a m) (b m) (wa m) (wb m) k h) in
           let hh : Σ n (λ m. high (a m) (b m) k) ≤ n * (63 * 18446744065119617025) = Σ-bound n (63 * 18446744065119617025) (λ m. high (a m) (b m) k) (λ m l. high-bound (a m) (b m) (wa m) (wb m) k h) in
-          joined k h (Σ n (λ m. low (a m) (b m) k)) (Σ n (λ m. high (a m) (b m) k)) refl refl (omega arith) (omega arith)
+          joined k h (Σ n (λ m. low (a m) (b m) k)) (Σ n (λ m. high (a m) (b m) k)) refl refl (omega arith) (omega (arith, offset-above lackQ suited))
         where
           joined : (k : ℕ) → k < 64 → (L H : ℕ) → L ≡ Σ n (λ m. low (a m) (b m) k) → H ≡ Σ n (λ m. high (a m) (b m) k) → L ≤ 75557863690729951334400 → H < offsetQ
               → joinOf (getD (scaledOf 0 (sumsOf 0 n a b)) k 0) (getD (scaledOf 1 (sumsOf 1 n a b)) k 0) (getD (scaledOf 2 (sumsOf 2 n a b)) k 0) ≡ zsub L H
