@@ -5,10 +5,11 @@ use Prim.Native.Nat.{ℕ, zero, suc, _-_, _*_, _≤_, _<_}
 use native.Mathlib.Omega.{arith}
 use lib.IntN.{pos, negsuc, negℤ, negℤ-negℤ, natAbs, _-ℤ_, _*ℤ_}
 use borrow.Author.Tests.{lt-ltb, le-ltb}
-use Rattle.definitions.specs.Zq.{Q, halfQ, Canonical, zneg, isLargerThanHalf, centre, size}
+use Rattle.definitions.specs.Zq.{Q, lackQ, halfQ, Canonical, zneg, isLargerThanHalf, centre, size}
 use Rattle.definitions.specs.Digits.{signed}
 use Rattle.definitions.specs.Norm.{square}
 use Rattle.definitions.proofs.Cases.{ltb-cases}
+use Rattle.definitions.proofs.Suited.{suited, odd-modulus}
 
 -- a size is at most the greatest centre
 pub size-le : (a : ℕ) → Canonical a → size a ≤ halfQ
@@ -63,9 +64,9 @@ pub signed-canonical : (t : Bool) (n : ℕ) → n < Q → Canonical (signed t n)
 signed-canonical true n l = omega arith
 signed-canonical false n l = l
 
--- a value with a sign and a positive size is above half where the sign says so
+-- a value with a sign and a positive size is above half where the sign says so, since Q is odd
 half-signed : (t : Bool) (n : ℕ) → 0 < n → n ≤ halfQ → isLargerThanHalf (signed t n) ≡ t
-half-signed true n p l = lt-ltb halfQ (zneg n) (omega arith)
+half-signed true n p l = lt-ltb halfQ (zneg n) (omega (arith, odd-modulus lackQ suited))
 half-signed false n p l = le-ltb halfQ n l
 
 -- the size of a value given by its sign and size

@@ -10,13 +10,14 @@ use native.Mathlib.Omega.{arith}
 use lib.ListN.{getD}
 use Rattle.lists.specs.Sum.{Σ}
 use Rattle.lists.proofs.Sum.{Σ-ext, Σ-le, Σ-mono}
-use Rattle.definitions.specs.Zq.{Q, topQ, halfQ, Canonical, isLargerThanHalf, size}
+use Rattle.definitions.specs.Zq.{Q, lackQ, topQ, halfQ, Canonical, isLargerThanHalf, size}
 use Rattle.definitions.specs.Digits.{signed, digit, digits, sizeAfter, leftover}
 use Rattle.definitions.specs.Answer.{fine, _then_}
 use Rattle.definitions.specs.Leaf.{limitedBy}
 use Rattle.definitions.specs.Recompose.{recompose, Enough, PartsNeeded, recomposeOperands}
 use Rattle.definitions.proofs.Leaf.{below-fine, within-fine}
 use Rattle.definitions.proofs.Centre.{size-le}
+use Rattle.definitions.proofs.Suited.{suited, odd-modulus, half-near}
 use Rattle.definitions.proofs.Digits.{digits-sum, digits-whole, zneg-times, sizeAfter-le, leftover-zero, enough-parts, digit-canonical, length-digits, getD-digits}
 
 -- the greatest size of which n parts in base b leave nothing: Σ_{k<n} (b/2)·b^k
@@ -122,18 +123,18 @@ needed-recompose b n a p x h = recompose-iff b n a p h .1 (x .enough a h)
 -- "31 for base 2"
 pub needed-of-2 : PartsNeeded 2 31
 unfolding reach Σ
-needed-of-2 = needed-by-reach 2 31 (omega arith) (omega arith) (λ fewer l. omega (arith, Σ-mono fewer 30 (λ k. 2 / 2 * 2 ^ k) (omega arith)))
+needed-of-2 = needed-by-reach 2 31 (omega arith) (omega arith) (λ fewer l. omega (arith, half-near lackQ suited, Σ-mono fewer 30 (λ k. 2 / 2 * 2 ^ k) (omega arith)))
 
 -- "21 for base 3"
 pub needed-of-3 : PartsNeeded 3 21
 unfolding reach Σ
-needed-of-3 = needed-by-reach 3 21 (omega arith) (omega arith) (λ fewer l. omega (arith, Σ-mono fewer 20 (λ k. 3 / 2 * 3 ^ k) (omega arith)))
+needed-of-3 = needed-by-reach 3 21 (omega arith) (omega arith) (λ fewer l. omega (arith, half-near lackQ suited, Σ-mono fewer 20 (λ k. 3 / 2 * 3 ^ k) (omega arith)))
 
--- one part is enough in the greatest base alone
+-- one part is enough in the greatest base alone, since Q is odd
 pub needed-is-1 : (b : ℕ) → 2 ≤ b → b ≤ topQ → PartsNeeded b 1 ↔ (b ≡ topQ)
 needed-is-1 b p l = (
   λ x. let r : halfQ ≤ reach b 1 = enough-iff b 1 (omega arith) .0 (x .enough) in omega (arith, one),
-  λ e. needed-by-reach b 1 (omega arith) (omega (arith, one)) (λ fewer h. let z : fewer ≡ 0 = omega arith in omega (arith, ap (reach b) z, reach-none b)),
+  λ e. needed-by-reach b 1 (omega arith) (omega (arith, one, odd-modulus lackQ suited)) (λ fewer h. let z : fewer ≡ 0 = omega arith in omega (arith, ap (reach b) z, reach-none b)),
 )
   where
     one : reach b 1 ≡ b / 2

@@ -9,10 +9,11 @@ use Rattle.lists.specs.Table.{table}
 use Rattle.lists.specs.Sum.{Σ}
 use Rattle.lists.proofs.Sum.{Σ-bound, Σ-suc}
 use Rattle.lists.proofs.Table.{getD-table, table-ext, is-table}
-use Rattle.definitions.specs.Zq.{Q, zsub}
+use Rattle.definitions.specs.Zq.{Q, lackQ, zsub}
 use Rattle.definitions.specs.Rq.{coeff, low, high, rmul}
+use Rattle.definitions.proofs.Suited.{suited, offset-above}
 use Rattle.fast_product.specs.Join.{joinOf, joinedOf}
-use Rattle.fast_product.specs.Kept.{Room, valuesOf, valuesAdded, sumsOf, offsetQ, scaledOf, backOf}
+use Rattle.fast_product.specs.Kept.{ProductsFit, valuesOf, valuesAdded, sumsOf, offsetQ, scaledOf, backOf}
 use Rattle.fast_product.proofs.Joining.{join-is}
 use Rattle.fast_product.proofs.Residue.{Words, value-bound, product-small, sums-bound, scaled-at}
 
@@ -54,7 +55,7 @@ module _ (n : ℕ) (hn : n ≤ 64) (a b : ℕ → List ℕ) (wa : (m : ℕ) → 
       at k h =
           let hl : Σ n (λ m. low (a m) (b m) k) ≤ n * (64 * 18446744065119617025) = Σ-bound n (64 * 18446744065119617025) (λ m. low (a m) (b m) k) (λ m l. low-bound (a m) (b m) (wa m) (wb m) k h) in
           let hh : Σ n (λ m. high (a m) (b m) k) ≤ n * (63 * 18446744065119617025) = Σ-bound n (63 * 18446744065119617025) (λ m. high (a m) (b m) k) (λ m l. high-bound (a m) (b m) (wa m) (wb m) k h) in
-          joined k h (Σ n (λ m. low (a m) (b m) k)) (Σ n (λ m. high (a m) (b m) k)) refl refl (omega arith) (omega arith)
+          joined k h (Σ n (λ m. low (a m) (b m) k)) (Σ n (λ m. high (a m) (b m) k)) refl refl (omega arith) (omega (arith, offset-above lackQ suited))
         where
           joined : (k : ℕ) → k < 64 → (L H : ℕ) → L ≡ Σ n (λ m. low (a m) (b m) k) → H ≡ Σ n (λ m. high (a m) (b m) k) → L ≤ 75557863690729951334400 → H < offsetQ
               → joinOf (getD (scaledOf 0 (sumsOf 0 n a b)) k 0) (getD (scaledOf 1 (sumsOf 1 n a b)) k 0) (getD (scaledOf 2 (sumsOf 2 n a b)) k 0) ≡ zsub L H
@@ -76,7 +77,7 @@ module _ (n : ℕ) (hn : n ≤ 64) (a b : ℕ → List ℕ) (wa : (m : ℕ) → 
       ∙ sym (Σ-suc n (λ m. getD (valuesOf i (a m)) k 0 * getD (valuesOf i (b m)) k 0)))
 
   -- for which there is room
-  pub sums-room : (i : ℕ) → i < 3 → Room (sumsOf i n a b) (valuesOf i (a n)) (valuesOf i (b n))
+  pub sums-room : (i : ℕ) → i < 3 → ProductsFit (sumsOf i n a b) (valuesOf i (a n)) (valuesOf i (b n))
   sums-room i hi k h =
       omega (arith, sums-bound i hi n hn a b wa wb k h, product-small (getD (valuesOf i (a n)) k 0) (getD (valuesOf i (b n)) k 0) (value-bound i hi (a n) (wa n) k h) (value-bound i hi (b n) (wb n) k h))
 
@@ -94,11 +95,11 @@ one-product a b wa wb =
 
 -- the first product: lists by what they hold
 module _ (i : ℕ) (hi : i < 3) (a b s x y : List ℕ) (wa : Words a) (wb : Words b) (es : s ≡ replicate 64 0) (ex : x ≡ valuesOf i a) (ey : y ≡ valuesOf i b) where
-  pub first-room : Room s x y
+  pub first-room : ProductsFit s x y
   first-room =
-      subst (λ l. Room l x y) (sym (es ∙ no-sums i (λ m. a) (λ m. b)))
-      (subst (λ l. Room (sumsOf i 0 (λ m. a) (λ m. b)) l y) (sym ex)
-      (subst (λ l. Room (sumsOf i 0 (λ m. a) (λ m. b)) (valuesOf i a) l) (sym ey) (sums-room 0 (omega arith) (λ m. a) (λ m. b) (λ m. wa) (λ m. wb) i hi)))
+      subst (λ l. ProductsFit l x y) (sym (es ∙ no-sums i (λ m. a) (λ m. b)))
+      (subst (λ l. ProductsFit (sumsOf i 0 (λ m. a) (λ m. b)) l y) (sym ex)
+      (subst (λ l. ProductsFit (sumsOf i 0 (λ m. a) (λ m. b)) (valuesOf i a) l) (sym ey) (sums-room 0 (omega arith) (λ m. a) (λ m. b) (λ m. wa) (λ m. wb) i hi)))
 
   pub first-sums : (r : List ℕ) → r ≡ valuesAdded s x y → r ≡ sumsOf i 1 (λ m. a) (λ m. b)
   first-sums r e =

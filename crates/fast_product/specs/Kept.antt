@@ -25,9 +25,9 @@ pub record Transform (a first second third : List ℕ) : Type 0 where
 unfoldable pub valuesAdded : List ℕ → List ℕ → List ℕ → List ℕ
 valuesAdded s x y = table 64 (λ k. getD s k 0 + getD x k 0 * getD y k 0)
 
--- there is room for them
-abbrev pub Room : List ℕ → List ℕ → List ℕ → Type 0
-Room s x y = (k : ℕ) → k < 64 → getD s k 0 + getD x k 0 * getD y k 0 < 2 ^ 64
+-- with which the sums fit a u64
+abbrev pub ProductsFit : List ℕ → List ℕ → List ℕ → Type 0
+ProductsFit s x y = (k : ℕ) → k < 64 → getD s k 0 + getD x k 0 * getD y k 0 < 2 ^ 64
 
 -- the sums of n products of values modulo prime i
 unfoldable pub sumsOf : ℕ → ℕ → (ℕ → List ℕ) → (ℕ → List ℕ) → List ℕ

@@ -7,7 +7,7 @@ use zq::wide::wide;
 ghost use mathlib.Core.Path.{_≡_};
 ghost use lib.ListN.{replicate};
 ghost use Rattle.ntt.specs.Roots.{twiddleTable};
-ghost use Rattle.fast_product.specs.Kept.{Room, Transform, valuesAdded, backOf};
+ghost use Rattle.fast_product.specs.Kept.{ProductsFit, Transform, valuesAdded, backOf};
 
 // The values of an element modulo the three primes.
 pub struct Transformed {
@@ -50,7 +50,7 @@ pub fn transform(a: [u32; 64], w: &[u32]) -> Transformed
 
 // The products of values added, modulo one prime.
 pub fn add_values(s: [u64; 64], x: [u32; 64], y: [u32; 64]) -> [u64; 64]
-    requires { ⌜ Room s x y ⌝ }
+    requires { ⌜ ProductsFit s x y ⌝ }
     ensures { λ r. ⌜ r ≡ valuesAdded s x y ⌝ }
 {
     let mut out = [0u64; 64];
@@ -62,9 +62,9 @@ pub fn add_values(s: [u64; 64], x: [u32; 64], y: [u32; 64]) -> [u64; 64]
 
 // The product of two transformed elements added to the sums. From no sums there is room for 64 products.
 pub fn add_product(sums: Sums, x: Transformed, y: Transformed) -> Sums
-    requires first { ⌜ Room (sums .first) (x .first) (y .first) ⌝ }
-    requires second { ⌜ Room (sums .second) (x .second) (y .second) ⌝ }
-    requires third { ⌜ Room (sums .third) (x .third) (y .third) ⌝ }
+    requires first { ⌜ ProductsFit (sums .first) (x .first) (y .first) ⌝ }
+    requires second { ⌜ ProductsFit (sums .second) (x .second) (y .second) ⌝ }
+    requires third { ⌜ ProductsFit (sums .third) (x .third) (y .third) ⌝ }
     ensures first { λ r. ⌜ r .first ≡ valuesAdded (sums .first) (x .first) (y .first) ⌝ }
     ensures second { λ r. ⌜ r .second ≡ valuesAdded (sums .second) (x .second) (y .second) ⌝ }
     ensures third { λ r. ⌜ r .third ≡ valuesAdded (sums .third) (x .third) (y .third) ⌝ }

@@ -4,7 +4,7 @@ use mathlib.Core.List.{List}
 use Prim.Native.Nat.{ℕ, _+_, _≤_, _<_}
 use native.Mathlib.Omega.{arith}
 use lib.ListN.{replicate}
-use Rattle.fast_product.specs.Kept.{Room, Transform, valuesOf, valuesAdded, sumsOf, backOf}
+use Rattle.fast_product.specs.Kept.{ProductsFit, Transform, valuesOf, valuesAdded, sumsOf, backOf}
 use Rattle.fast_product.proofs.Residue.{Words}
 use Rattle.fast_product.proofs.Inner.{back-is, sums-next, sums-room, no-sums}
 use Rattle.kept_calls.specs.Repeated.{repeated}
@@ -24,18 +24,18 @@ held-none a b s t u es et eu = record {
 }
 
 module _ (m : ℕ) (hm : m ≤ 64) (a b : List ℕ) (wa : Words a) (wb : Words b) where
-  room : (i : ℕ) → i < 3 → (s x y : List ℕ) → s ≡ sumsOf i m (λ j. a) (λ j. b) → x ≡ valuesOf i a → y ≡ valuesOf i b → Room s x y
+  room : (i : ℕ) → i < 3 → (s x y : List ℕ) → s ≡ sumsOf i m (λ j. a) (λ j. b) → x ≡ valuesOf i a → y ≡ valuesOf i b → ProductsFit s x y
   room i hi s x y es ex ey =
-      subst (λ l. Room l x y) (sym es)
-      (subst (λ l. Room (sumsOf i m (λ j. a) (λ j. b)) l y) (sym ex)
-      (subst (λ l. Room (sumsOf i m (λ j. a) (λ j. b)) (valuesOf i a) l) (sym ey) (sums-room m hm (λ j. a) (λ j. b) (λ j. wa) (λ j. wb) i hi)))
+      subst (λ l. ProductsFit l x y) (sym es)
+      (subst (λ l. ProductsFit (sumsOf i m (λ j. a) (λ j. b)) l y) (sym ex)
+      (subst (λ l. ProductsFit (sumsOf i m (λ j. a) (λ j. b)) (valuesOf i a) l) (sym ey) (sums-room m hm (λ j. a) (λ j. b) (λ j. wa) (λ j. wb) i hi)))
 
   next : (i : ℕ) → i < 3 → (s x y r : List ℕ) → s ≡ sumsOf i m (λ j. a) (λ j. b) → x ≡ valuesOf i a → y ≡ valuesOf i b → r ≡ valuesAdded s x y → r ≡ sumsOf i (m + 1) (λ j. a) (λ j. b)
   next i hi s x y r es ex ey e = e ∙ ap (λ l. valuesAdded l x y) es ∙ ap₂ (valuesAdded (sumsOf i m (λ j. a) (λ j. b))) ex ey ∙ sums-next m hm (λ j. a) (λ j. b) (λ j. wa) (λ j. wb) i hi
 
   module _ (s t u x₁ x₂ x₃ y₁ y₂ y₃ : List ℕ) (h : Held m a b s t u) (tx : Transform a x₁ x₂ x₃) (ty : Transform b y₁ y₂ y₃) where
     -- there is room for one more
-    pub held-room : Room s x₁ y₁ × (Room t x₂ y₂ × Room u x₃ y₃)
+    pub held-room : ProductsFit s x₁ y₁ × (ProductsFit t x₂ y₂ × ProductsFit u x₃ y₃)
     held-room = (room 0 (omega arith) s x₁ y₁ (h .first) (tx .one) (ty .one), (room 1 (omega arith) t x₂ y₂ (h .second) (tx .two) (ty .two), room 2 (omega arith) u x₃ y₃ (h .third) (tx .three) (ty .three)))
 
     -- one more

@@ -139,6 +139,7 @@ examples =
 
 -- each row of the table holds
 pub examples-hold : Holds examples
-unfolding comes-before pairs-refusal beyond-refusal crossed-refusal first many-refusal cut job-refusal randomness-refusal witness-refusal transcript-refusal prove-refusal counted limits enough-aggregations layout ranged span sections below decLe ℕ-discrete
+unfolding comes-before pairs-refusal beyond-refusal crossed-refusal first many-refusal cut job-refusal randomness-refusal witness-refusal transcript-refusal
+    prove-refusal counted limits enough-aggregations layout ranged span sections below decLe ℕ-discrete
 examples-hold =
     (refl, (refl, (refl, (refl, (refl, (refl, (refl, (refl, (refl, (refl, (refl, (refl, (refl, (refl, (refl, (refl, (refl, (refl, (refl, (refl, (refl, (refl, (refl, tt)))))))))))))))))))))))

@@ -10,7 +10,7 @@ use native.Mathlib.Omega.{arith}
 use lib.Dec.{eqb}
 use Rattle.lists.specs.Sum.{Σ}
 use Rattle.lists.proofs.Sum.{Σ-changed}
-use Rattle.definitions.specs.Zq.{Q, halfQ, Canonical, zadd, zsub, size}
+use Rattle.definitions.specs.Zq.{Q, lackQ, halfQ, Canonical, zadd, zsub, size}
 use Rattle.definitions.specs.Rq.{coeff}
 use Rattle.definitions.specs.Ring.{words}
 use Rattle.definitions.specs.Answer.{Answer, fine, failed}
@@ -18,6 +18,7 @@ use Rattle.definitions.proofs.Modulo.{mul-mod-second, add-cancel-mod}
 use Rattle.definitions.proofs.ZqRing.{zsub-iff}
 use Rattle.definitions.proofs.Cases.{ltb-cases}
 use Rattle.definitions.proofs.Bridge.{coeff-canonical}
+use Rattle.definitions.proofs.Suited.{suited, odd-modulus}
 use Rattle.protocol.specs.Checks.{require}
 use Rattle.protocol.specs.Parameters.{Parameters}
 use Rattle.protocol.specs.Views.{Public, Message}
@@ -58,7 +59,7 @@ double-zero d h e = go ((d + d) / Q) (sym (mod-add-div' (d + d) Q) ∙ ap (λ r.
     go (suc zero) f = absurd (odd d f)
       where
         odd : (d : ℕ) → d + d ≡ 0 + 1 * Q → ⊥
-        odd d f = omega arith
+        odd d f = omega (arith, odd-modulus lackQ suited)
     go (suc (suc q)) f = omega arith
 
 -- words of equal size are equal or opposite

@@ -25,7 +25,8 @@ use Rattle.prover_commit.proofs.Answers.{passed-on, gone-on}
 use Rattle.prover_commit.proofs.Commitments.{held-stored, held-after, where-made, given-changed, t-room, g-room, t-checked, g-checked}
 
 -- a scratch of which needed words changed, into which t was stored
-module _ (J W : List ℕ) (p : EnvironmentParameters) (q : Regions) (S : List ℕ) (h : Work-given J W p q S) (S₀ : List ℕ) (kept : Kept (scratch-need (parameters J)) S S₀) (S₁ : List ℕ) (e : S₁ ≡ splice S₀ (q .t) (t-words J W)) where
+module _ (J W : List ℕ) (p : EnvironmentParameters) (q : Regions) (S : List ℕ) (h : Work-given J W p q S)
+    (S₀ : List ℕ) (kept : Kept (scratch-need (parameters J)) S S₀) (S₁ : List ℕ) (e : S₁ ≡ splice S₀ (q .t) (t-words J W)) where
   abbrev P : Parameters
   P = parameters J
 

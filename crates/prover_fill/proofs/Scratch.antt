@@ -109,7 +109,8 @@ module _ (J R W : List ℕ) (p : EnvironmentParameters) (q : Regions) (S : List 
         }
 
 -- round 3: a scratch with t and g
-module _ (J R W : List ℕ) (p : EnvironmentParameters) (q : Regions) (S : List ℕ) (h : Work-given J W p q S) (d : Drawn 3 J R) (S₁ : List ℕ) (kept : Kept (scratch-need (parameters J)) S S₁) (k : Committed J W q S₁) where
+module _ (J R W : List ℕ) (p : EnvironmentParameters) (q : Regions) (S : List ℕ) (h : Work-given J W p q S) (d : Drawn 3 J R)
+    (S₁ : List ℕ) (kept : Kept (scratch-need (parameters J)) S S₁) (k : Committed J W q S₁) where
   given₁ : Work-given J W p q S₁
   given₁ = given-kept J W p q (scratch-need (parameters J)) S S₁ kept h
 
@@ -134,7 +135,8 @@ module _ (J R W : List ℕ) (p : EnvironmentParameters) (q : Regions) (S : List 
           kept-trans (scratch-need (parameters J)) S S₂ S₃ (kept-trans (scratch-need (parameters J)) S S₁ S₂ kept (double-prime-kept J R W p q S₁ given₁ S₂ e₂)) (b″-kept J R W p q S₂ given₂ S₃ e₃)
 
 -- the calls that are handed all randomness: a scratch with t, g and h
-module _ (J R W : List ℕ) (p : EnvironmentParameters) (q : Regions) (S : List ℕ) (h : Work-given J W p q S) (d : Drawn 7 J R) (S₁ : List ℕ) (kept : Kept (scratch-need (parameters J)) S S₁) (k : Aggregated J R W q S₁) where
+module _ (J R W : List ℕ) (p : EnvironmentParameters) (q : Regions) (S : List ℕ) (h : Work-given J W p q S) (d : Drawn 7 J R)
+    (S₁ : List ℕ) (kept : Kept (scratch-need (parameters J)) S S₁) (k : Aggregated J R W q S₁) where
   given₇ : Work-given J W p q S₁
   given₇ = given-kept J W p q (scratch-need (parameters J)) S S₁ kept h
 

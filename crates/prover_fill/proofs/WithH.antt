@@ -107,7 +107,8 @@ module _ (J R W : List ℕ) (p : EnvironmentParameters) (q : Regions) (S : List 
             }
 
 -- h after φ: a scratch with t, g and φ
-module _ (J R W : List ℕ) (p : EnvironmentParameters) (q : Regions) (S : List ℕ) (h : Work-given J W p q S) (S₁ : List ℕ) (kept : Kept (scratch-need (parameters J)) S S₁) (k : Weighed J R W q S₁) where
+module _ (J R W : List ℕ) (p : EnvironmentParameters) (q : Regions) (S : List ℕ) (h : Work-given J W p q S)
+    (S₁ : List ℕ) (kept : Kept (scratch-need (parameters J)) S S₁) (k : Weighed J R W q S₁) where
   pub weighed-given : Work-given J W p q S₁
   weighed-given = given-changed J W p q S h S₁ (kept .size)
 

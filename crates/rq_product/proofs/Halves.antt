@@ -8,6 +8,7 @@ use Rattle.lists.specs.Sum.{Σ}
 use Rattle.lists.proofs.Sum.{Σ-bound, Σ-suc}
 use Rattle.definitions.specs.Zq.{Q, lackQ}
 use Rattle.definitions.proofs.Fits.{product-max}
+use Rattle.definitions.proofs.Suited.{suited, sum-fits}
 use Rattle.rq_product.specs.Product.{AllWords, folded, growth, halvesSum, WithProduct}
 
 -- the sum is 2^32 times that of the upper halves and that of the lower halves
@@ -20,11 +21,17 @@ halves (suc n) p = omega (arith, halves n p)
 pub lower-small : (p : ℕ → ℕ) → Σ 64 (λ i. p i % 4294967296) ≤ 274877906944
 lower-small p = Σ-bound 64 4294967296 (λ i. p i % 4294967296) (λ i l. omega arith)
 
+-- all halves of 64 products come to 2^45 at most, since Q lacks little of 2^32
+pub growth-small : growth ≤ 2 ^ 45
+growth-small = sum-fits lackQ suited
+
 -- what the upper halves' sum leaves of the sum modulo 2^64 is the lower halves' sum
-halves-sum-is : (sum upper lower total : ℕ) → total ≡ 4294967296 * upper + lower → lower ≤ 274877906944 → upper ≤ 274877906944 → sum ≡ total % 2 ^ 64 → halvesSum sum upper ≡ lower + upper * lackQ
-halves-sum-is sum upper lower total t l u m = rest sum (upper % 4294967296 * 4294967296) lower (upper * lackQ) (omega arith) (omega arith) (omega arith)
+halves-sum-is : (sum upper lower total : ℕ) → total ≡ 4294967296 * upper + lower → lower ≤ 274877906944 → upper ≤ 274877906944 → sum ≡ total % 2 ^ 64
+    → halvesSum sum upper ≡ lower + upper * lackQ
+halves-sum-is sum upper lower total t l u m =
+    rest sum (upper % 4294967296 * 4294967296) lower (upper * lackQ) (omega arith) (omega arith) (omega (arith, growth-small))
   where
-    rest : (sum taken lower upper : ℕ) → sum ≡ (taken + lower) % 2 ^ 64 → taken ≤ 18446744069414584320 → lower + upper ≤ growth → (sum + (2 ^ 64 - taken) + upper) % 2 ^ 64 ≡ lower + upper
+    rest : (sum taken lower upper : ℕ) → sum ≡ (taken + lower) % 2 ^ 64 → taken ≤ 18446744069414584320 → lower + upper ≤ 2 ^ 45 → (sum + (2 ^ 64 - taken) + upper) % 2 ^ 64 ≡ lower + upper
     rest sum taken lower upper e l h = omega arith
 
 -- 2^32 is what Q lacks of it modulo Q

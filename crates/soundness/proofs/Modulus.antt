@@ -1,9 +1,10 @@
 -- All that is used of Q: it is positive and odd.
-use mathlib.Core.Path.{_≡_, refl, ap, _∙_}
+use mathlib.Core.Path.{_≡_, ap, _∙_}
 use Prim.Native.Nat.{ℕ, _+_, _*_, _/_, _%_, _<_}
 use native.Mathlib.Nat.{add-mod-left}
 use native.Mathlib.Omega.{arith}
-use Rattle.definitions.specs.Zq.{Q}
+use Rattle.definitions.specs.Zq.{Q, lackQ}
+use Rattle.definitions.proofs.Suited.{suited, odd-modulus}
 
 -- 0 < Q
 pub Q-positive : 0 < Q
@@ -11,7 +12,7 @@ Q-positive = omega arith
 
 -- Q is odd
 pub Q-odd : Q % 2 ≡ 1
-Q-odd = refl
+Q-odd = odd-modulus lackQ suited
 
 -- so (Q + 1) / 2 is the inverse of 2 modulo Q
 pub half-Q : (2 * ((Q + 1) / 2)) % Q ≡ 1 % Q

@@ -43,7 +43,8 @@ sent-fine : (P : Parameters) (count : ℕ) (R T : List ℕ) (m : ℕ) → Many.p
 unfolding part-refusal
 sent-fine P count R T m pass = then-fine-right (randomness-refusal P 7 (randomness-part P count R m)) (transcript-refusal P (transcript-part P count T m)) (fine-if _ pass)
 
-module _ (J R T : List ℕ) (count scratch : ℕ) (p : EnvironmentParameters) (g : Many-given J count scratch p) (found : List SliceChecked) (passes : List Bool) (is : passes ≡ table 8 (λ m. passing (found-of found m))) where
+module _ (J R T : List ℕ) (count scratch : ℕ) (p : EnvironmentParameters) (g : Many-given J count scratch p)
+    (found : List SliceChecked) (passes : List Bool) (is : passes ≡ table 8 (λ m. passing (found-of found m))) where
   -- transcript m passes
   passes-at : (m : ℕ) → m < count → getD passes m false ≡ passing (found-of found m)
   passes-at m h = ap (λ l. getD l m false) is ∙ getD-table 8 (λ m. passing (found-of found m)) m false (omega (arith, g .few))

@@ -6,9 +6,14 @@ use Prim.Native.Nat.{ℕ, _+_, _-_, _*_, _%_, _^_, _≤_, _<_}
 use native.Mathlib.Nat.{zero-add}
 use native.Mathlib.Omega.{arith}
 use borrow.Author.Tests.{le-ltb}
-use Rattle.definitions.specs.Zq.{Q, zneg, zsub}
+use Rattle.definitions.specs.Zq.{Q, lackQ, zneg, zsub}
 use Rattle.definitions.proofs.Cases.{ltb-cases}
+use Rattle.definitions.proofs.Suited.{suited, words-below-twice}
 use Rattle.zq.specs.Words.{lack, lowered}
+
+-- a word is below 2·Q, since Q lacks little of 2^32
+pub word-below : (a : ℕ) → a < 2 ^ 32 → a < 2 * Q
+word-below a h = omega (arith, words-below-twice lackQ suited)
 
 -- it is at most Q
 pub lack-le : (a : ℕ) → lack a ≤ Q
@@ -21,7 +26,7 @@ over a = cond (ltb Q a) 2 1
 -- they make so many Q
 pub lack-whole : (a : ℕ) → a < 2 ^ 32 → lack a + a ≡ Q * over a
 unfolding over
-lack-whole a h = ltb-cases (λ t. cond t (Q - (a - Q)) (Q - a) + a ≡ Q * cond t 2 1) Q a (λ l. omega arith) (λ l. omega arith)
+lack-whole a h = ltb-cases (λ t. cond t (Q - (a - Q)) (Q - a) + a ≡ Q * cond t 2 1) Q a (λ l. omega (arith, word-below a h)) (λ l. omega arith)
 
 -- of a canonical value it is what is missing to Q
 pub lack-canonical : (a : ℕ) → a < Q → lack a ≡ Q - a
@@ -32,7 +37,7 @@ pub lack-sub : (x a : ℕ) → a < 2 ^ 32 → (x + lack a) % Q ≡ zsub x a
 lack-sub x a h = ltb-cases (λ t. (x + cond t (Q - (a - Q)) (Q - a)) % Q ≡ zsub x a) Q a (λ l. above l) (λ l. omega arith)
   where
     above : Q < a → (x + (Q - (a - Q))) % Q ≡ zsub x a
-    above l = let e : a % Q ≡ a - Q = omega arith in omega arith
+    above l = let e : a % Q ≡ a - Q = omega (arith, word-below a h) in omega (arith, word-below a h)
 
 -- modulo Q it is the negative
 pub lack-neg : (a : ℕ) → a < 2 ^ 32 → lack a % Q ≡ zneg a
@@ -40,7 +45,7 @@ lack-neg a h = ap (λ x. x % Q) (sym (zero-add (lack a))) ∙ lack-sub 0 a h ∙
 
 -- a word that is lowered is at most Q, and the same modulo Q
 pub lowered-le : (a : ℕ) → a < 2 ^ 32 → lowered a ≤ Q
-lowered-le a h = ltb-cases (λ t. cond t (a - Q) a ≤ Q) Q a (λ l. omega arith) (λ l. l)
+lowered-le a h = ltb-cases (λ t. cond t (a - Q) a ≤ Q) Q a (λ l. omega (arith, word-below a h)) (λ l. l)
 
 pub lowered-mod : (a : ℕ) → lowered a % Q ≡ a % Q
 lowered-mod a = ltb-cases (λ t. cond t (a - Q) a % Q ≡ a % Q) Q a (λ l. omega arith) (λ l. refl)

@@ -75,7 +75,11 @@ returns-2 c =
     let J = s .args .job .now in
     let T = s .args .transcript .now in (
       c .check-commitments .ensures
-          ∙ found J T (s .args .p) (s .pre .0 .0 .posed .same) (s .args .digits) (s .pre .0 .2) (c .before .before .before .before .before .before .before .before .before .check-u1 .result) (c .before .before .before .before .before .before .before .check-u2 .result) (c .before .before .before .before .before .before .before .before .before .check-u1 .ensures) (c .before .before .before .before .before .before .before .check-u2 .ensures)
+          ∙ found J T (s .args .p) (s .pre .0 .0 .posed .same) (s .args .digits) (s .pre .0 .2)
+          (c .before .before .before .before .before .before .before .before .before .check-u1 .result)
+          (c .before .before .before .before .before .before .before .check-u2 .result)
+          (c .before .before .before .before .before .before .before .before .before .check-u1 .ensures)
+          (c .before .before .before .before .before .before .before .check-u2 .ensures)
           ∙ goes-on (f .result) (f .ensures .0) (c .before .enum-told .given .1) (commitments J T),
       kept-trans _ (s .args .window .now) _ _ (drawn (c .before .before .before .before .before .before .before .before .before .before .before .before .before .before .before) .kept) (f .ensures .1),
     )

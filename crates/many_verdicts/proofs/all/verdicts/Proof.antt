@@ -81,7 +81,8 @@ loop-again c =
     let e = c .before .before .verdict .ensures in
     let more : l .m * scratch-need P ≤ (l .m + 1) * scratch-need P = mul-le-mul-right (scratch-need P) (omega arith) in (
       omega arith,
-      padded-next 8 unused-verdict (of-part (a .job .now) (a .count) (a .randomness .now) (a .transcripts .now)) (l .out) (l .m) (c .before .before .verdict .result) (l .inv .1) (omega (arith, s .pre .0 .0 .few)) (e .0),
+      padded-next 8 unused-verdict (of-part (a .job .now) (a .count) (a .randomness .now) (a .transcripts .now)) (l .out) (l .m) (c .before .before .verdict .result)
+          (l .inv .1) (omega (arith, s .pre .0 .0 .few)) (e .0),
       kept-trans (many-need P (l .m + 1)) (a .scratch .now) (l .scratch) _ (kept-weaken (many-need P (l .m)) (many-need P (l .m + 1)) (a .scratch .now) (l .scratch) more (l .inv .2)) (e .1),
     )
 

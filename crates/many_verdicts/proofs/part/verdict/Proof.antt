@@ -24,7 +24,8 @@ returns c =
     let s = k .before .before .before .before .before .before in
     let a = s .args in
     let f = k .found .given in (
-      c .verdict-of .ensures ∙ ap labradorVerdict (part-refused (a .job .now) (a .count) (a .randomness .now) (a .transcripts .now) (a .m) (s .pre .0 .0 .fit) (f .0 .0) (sym (ap ofSliceChecked (f .1)) ∙ s .pre .1 .0)),
+      c .verdict-of .ensures
+          ∙ ap labradorVerdict (part-refused (a .job .now) (a .count) (a .randomness .now) (a .transcripts .now) (a .m) (s .pre .0 .0 .fit) (f .0 .0) (sym (ap ofSliceChecked (f .1)) ∙ s .pre .1 .0)),
       kept-refl _ _,
     )
 

@@ -4,6 +4,7 @@ use Prim.Native.Nat.{ℕ, _+_, _-_, _*_, _%_, _<_, _^_}
 use native.Mathlib.Omega.{arith}
 use Rattle.definitions.specs.Zq.{lackQ}
 use borrow.Author.Needs.{needs}
+use Rattle.rq_product.proofs.Halves.{growth-small}
 use Rattle.rq_product.proofs.product.join.Statement.{statement}
 use Rattle.rq_product.proofs.product.join.Tie as tie
 
@@ -18,4 +19,4 @@ returns c =
     difference (s .h .sum) (s .h .upper * lackQ) (s .h .upper % 4294967296 * 4294967296) _ _ (c .before .before .wrapping-sub-u64 .ensures) (omega arith) (c .wrapping-add-u64 .ensures)
 
 pub join-spec : {M : Type 1} → statement M
-join-spec = tie.close (tie.spec (λ c. search needs) (λ c κs. search needs) (λ c. omega arith) (λ c κs. search needs) returns)
+join-spec = tie.close (tie.spec (λ c. search needs) (λ c κs. search needs) (λ c. omega (arith, growth-small)) (λ c κs. search needs) returns)

@@ -15,7 +15,7 @@ use Rattle.definitions.specs.Rq.{coeff, rmul}
 use Rattle.rq_product.specs.Product.{extended, reversed, folded, growth}
 use Rattle.rq_product.specs.Sums.{Added}
 use Rattle.rq_product.proofs.Fours.{padded-four}
-use Rattle.rq_product.proofs.Halves.{folded-small}
+use Rattle.rq_product.proofs.Halves.{growth-small, folded-small}
 use Rattle.rq_product.proofs.Coefficient.{product-at, kernel-fits}
 use Rattle.rq_product.proofs.sums.add_product.Statement.{statement}
 use Rattle.rq_product.proofs.sums.add_product.Tie as tie
@@ -59,22 +59,26 @@ four-requires c κs =
 add-out : tie.Need-add-out Inv-loop μ-loop
 add-out c =
     let l = c .before .before .before .before .before .loop in
-    omega (arith, c .before .four .ensures .1 .1 .0, c .before .before .before .before .before .before .before .before .pre (4 * l .b) (omega arith))
+    let room = c .before .before .before .before .before .before .before .before .pre (4 * l .b) (omega arith) in
+    omega (arith, growth-small, c .before .four .ensures .1 .1 .0, room)
 
 add-out-3 : tie.Need-add-out-3 Inv-loop μ-loop
 add-out-3 c =
     let l = c .before .before .before .before .before .before .loop in
-    omega (arith, c .before .before .four .ensures .1 .1 .1, c .before .before .before .before .before .before .before .before .before .pre (4 * l .b + 1) (omega arith))
+    let room = c .before .before .before .before .before .before .before .before .before .pre (4 * l .b + 1) (omega arith) in
+    omega (arith, growth-small, c .before .before .four .ensures .1 .1 .1, room)
 
 add-out-6 : tie.Need-add-out-6 Inv-loop μ-loop
 add-out-6 c =
     let l = c .before .before .before .before .before .before .before .loop in
-    omega (arith, c .before .before .before .four .ensures .1 .1 .2, c .before .before .before .before .before .before .before .before .before .before .pre (4 * l .b + 2) (omega arith))
+    let room = c .before .before .before .before .before .before .before .before .before .before .pre (4 * l .b + 2) (omega arith) in
+    omega (arith, growth-small, c .before .before .before .four .ensures .1 .1 .2, room)
 
 add-out-9 : tie.Need-add-out-9 Inv-loop μ-loop
 add-out-9 c =
     let l = c .before .before .before .before .before .before .before .before .loop in
-    omega (arith, c .before .before .before .before .four .ensures .1 .1 .3, c .before .before .before .before .before .before .before .before .before .before .before .pre (4 * l .b + 3) (omega arith))
+    let room = c .before .before .before .before .before .before .before .before .before .before .before .pre (4 * l .b + 3) (omega arith) in
+    omega (arith, growth-small, c .before .before .before .before .four .ensures .1 .1 .3, room)
 
 -- sum k + off, from what the kernel gives
 sum-at : (sums x y : List ℕ) (k off r : ℕ) → r ≡ folded x y (k + 1 + off) → getD sums (k + off) 0 + r ≡ with-kernel sums x y (k + off)

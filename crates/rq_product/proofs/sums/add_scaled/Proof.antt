@@ -16,6 +16,7 @@ use Rattle.definitions.specs.Rq.{coeff, rscale}
 use Rattle.definitions.proofs.Fits.{product-max}
 use Rattle.rq_product.specs.Sums.{Added}
 use Rattle.rq_product.specs.Product.{growth}
+use Rattle.rq_product.proofs.Halves.{growth-small}
 use Rattle.rq_product.proofs.sums.add_scaled.Statement.{statement}
 use Rattle.rq_product.proofs.sums.add_scaled.Tie as tie
 
@@ -72,7 +73,7 @@ sum-at c =
 
 add-sums-2 : tie.Need-add-sums-2 Inv-loop μ-loop
 add-sums-2 c =
-    omega (arith, product-at (c .before), sum-at c, c .before .before .before .before .before .before .before .before .pre .2 (c .before .before .before .before .loop .k) (omega arith))
+    omega (arith, growth-small, product-at (c .before), sum-at c, c .before .before .before .before .before .before .before .before .pre .2 (c .before .before .before .before .loop .k) (omega arith))
 
 loop-again : tie.Need-loop-again Inv-loop μ-loop
 unfolding halves

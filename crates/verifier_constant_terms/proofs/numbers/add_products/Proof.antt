@@ -8,12 +8,13 @@ use Rattle.lists.specs.Sum.{Σ}
 use Rattle.lists.proofs.Sum.{Σ-suc}
 use Rattle.definitions.specs.Zq.{Q, lackQ}
 use Rattle.definitions.proofs.Fits.{product-max}
+use Rattle.definitions.proofs.Suited.{suited, halves-fit}
 use Rattle.verifier_constant_terms.proofs.numbers.add_products.Statement.{statement}
 use Rattle.verifier_constant_terms.proofs.numbers.add_products.Tie as tie
 
--- the halves of a product are below 2^39 together
+-- the halves of a product come to 2^39 at most, since Q lacks little of 2^32
 halves-small : (p : ℕ) → p ≤ 18446744065119617025 → p / 4294967296 * lackQ + p % 4294967296 ≤ 549755813888
-halves-small p h = omega arith
+halves-small p h = halves-fit lackQ p suited (omega arith)
 
 -- 2^32 is what Q lacks of it modulo Q
 folds : (t p : ℕ) → (t + (p / 4294967296 * lackQ + p % 4294967296)) % Q ≡ (t + p) % Q

@@ -2,6 +2,7 @@
 use native.Mathlib.Omega.{arith}
 use borrow.Author.Tests.{lt-ltb, le-ltb}
 use Rattle.definitions.specs.Zq.{Q}
+use Rattle.zq.proofs.Words.{word-below}
 use Rattle.zq.proofs.zq.lack.Statement.{statement}
 use Rattle.zq.proofs.zq.lack.Tie as tie
 
@@ -12,4 +13,4 @@ returns-2 : tie.Need-returns-2
 returns-2 c = simp (lt-ltb Q (c .before .args .word) (omega arith))
 
 pub lack-spec : {M : Type 1} → statement M
-lack-spec = tie.close (tie.spec (λ c. omega arith) (λ c. omega arith) returns returns-2)
+lack-spec = tie.close (tie.spec (λ c. omega arith) (λ c. omega (arith, word-below (c .before .args .word) (omega arith))) returns returns-2)
