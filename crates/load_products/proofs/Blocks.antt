@@ -68,5 +68,6 @@ module _ (J : List ℕ) (base m to count : ℕ) (before : Before J base m to cou
       (λ x l.
       ap (λ y. G x ⊕ y)
       (sum-ext RqOps n (λ j. element-at (plus J t none G) base (x * m + (c + j)) ⊗ ω (c + j)) (λ j. element-at J base (x * m + (0 + (c + j))) ⊗ ω (c + j))
-      (λ j h. ap (λ y. y ⊗ ω (c + j)) (read-between J t 0 base m placed none G (x * m + (c + j)) (omega (arith, rows-within x count m l)) ∙ ap (λ q. element-at J base (x * m + q)) (sym (zero-add (c + j))))))
+      (λ j h. ap (λ y. y ⊗ ω (c + j))
+      (read-between J t 0 base m placed none G (x * m + (c + j)) (omega (arith, rows-within x count m l)) ∙ ap (λ q. element-at J base (x * m + q)) (sym (zero-add (c + j))))))
       ∙ sym (sum-split RqOps rq-ring c n (λ j. element-at J base (x * m + (0 + j)) ⊗ ω j)))

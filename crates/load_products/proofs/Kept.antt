@@ -86,7 +86,8 @@ pub cells-before : (base m cell n count to k : ℕ) → base + 64 * (count * m) 
 cells-before base m cell n count to k h l below = omega (arith, rows-within k count m below)
 
 -- and lie within the slice
-pub cells-run : (J job : List ℕ) (base m cell n count to k at : ℕ) → Before J base m to count → cell + n ≤ m → n ≤ 64 → k < count → at ≡ base + 64 * (k * m + cell) → length job ≡ length J → length job < 2 ^ 61 → Run job at 64 n
+pub cells-run : (J job : List ℕ) (base m cell n count to k at : ℕ) → Before J base m to count → cell + n ≤ m → n ≤ 64 → k < count
+    → at ≡ base + 64 * (k * m + cell) → length job ≡ length J → length job < 2 ^ 61 → Run job at 64 n
 cells-run J job base m cell n count to k at before inside few below there size short = record {
   within = λ j h. omega (arith, before, cells-before base m cell n count to k (before .before) inside below);
   few = omega arith;
@@ -107,8 +108,10 @@ pub line-next : (J job : List ℕ) (base m cell n count to k at : ℕ) (kept : L
 line-next J job base m cell n count to k at kept place x p e next before inside below there now here read product sum stored =
     let f : ℕ → Element = with-line J base m to cell n kept in
     let old = ap element (read ∙ ap (λ q. part job q 64) here ∙ stored-rest J job to k f (to + 64 * k) 64 now (omega arith)) in
-    let line = product ∙ ap words (kept-line-before J job at n kept to (flat (table k f)) now (omega (arith, cells-before base m cell n count to k (before .before) inside below)) ∙ ap (λ q. kept-line J q n kept) there) in
-    fill-next J to job next e k place f now here (words-of-sum e x p (element-at J to k) (kept-line J (base + 64 * (k * m + cell)) n kept) sum old (stands-for p (kept-line J (base + 64 * (k * m + cell)) n kept) line)) stored
+    let one : Element = kept-line J (base + 64 * (k * m + cell)) n kept in
+    let ends : at + 64 * n ≤ to = omega (arith, cells-before base m cell n count to k (before .before) inside below) in
+    let line = product ∙ ap words (kept-line-before J job at n kept to (flat (table k f)) now ends ∙ ap (λ q. kept-line J q n kept) there) in
+    fill-next J to job next e k place f now here (words-of-sum e x p (element-at J to k) one sum old (stands-for p one line)) stored
 
 -- the products with kept weights are those with the weights
 pub block-is : (J : List ℕ) (base m to cell n count : ℕ) (kept W : List ℕ) (s-at : ℕ) (next : List ℕ) → n ≤ 64 → Keeps kept 0 W s-at n → ((j : ℕ) → getD J j 0 ≤ 4294967295)

@@ -29,7 +29,8 @@ returns : tie.Need-returns
 returns c =
     let b = c .before .before .before .before .before .before .before .before .before .before in
     let s = b .args in
-    line-added (s .job .now) _ _ (s .t) (s .base0) (s .base) (s .m) (run (s .s .now) (s .s-at) 64) (b .pre .0) (c .before .before .before .before .before .before .add-terms .ensures) (c .before .before .add-products .ensures)
+    line-added (s .job .now) _ _ (s .t) (s .base0) (s .base) (s .m) (run (s .s .now) (s .s-at) 64) (b .pre .0)
+    (c .before .before .before .before .before .before .add-terms .ensures) (c .before .before .add-products .ensures)
 
 pub add-line-spec : {M : Type 1} → statement M
 add-line-spec = tie.close (tie.spec add-terms-requires add-products-requires (λ c. search needs) returns)

@@ -33,7 +33,9 @@ line-requires c κs =
     let b = c .before .before .before .before .before .before .before .before in
     let s = b .args in
     let l = c .before .before .before .before .loop in
-    (b .pre .0, cells-run (s .job .now) (l .job) (s .base) (s .m) (s .cell) (s .n) (s .count) (s .to) (l .k) (l .at) (b .pre .1) (b .pre .2) (b .pre .4) (omega arith) (l .inv .1) (l .inv .4) (omega arith), b .pre .3, b .pre .4)
+    let run = cells-run (s .job .now) (l .job) (s .base) (s .m) (s .cell) (s .n) (s .count) (s .to) (l .k) (l .at)
+    (b .pre .1) (b .pre .2) (b .pre .4) (omega arith) (l .inv .1) (l .inv .4) (omega arith) in
+    (b .pre .0, run, b .pre .3, b .pre .4)
 
 add-at-2 : tie.Need-add-at-2 Inv-loop μ-loop
 add-at-2 c =
@@ -47,12 +49,14 @@ loop-again c =
     let b = c .before .before .before .before .before .before .before .before .before .before .before .before .before .before in
     let s = b .args in
     let l = c .before .before .before .before .before .before .before .before .before .before .loop in
+    let read = c .before .before .before .before .before .before .before .load .ensures in
     let stored = c .before .before .store .ensures in (
       omega arith,
       omega arith,
       omega arith,
-      line-next (s .job .now) (l .job) (s .base) (s .m) (s .cell) (s .n) (s .count) (s .to) (l .k) (l .at) (s .kept .now) (l .place) _ _ _ _ (b .pre .1) (b .pre .2) (omega arith) (l .inv .1) (l .inv .3) (l .inv .2)
-          (c .before .before .before .before .before .before .before .load .ensures) (c .before .before .before .before .before .line .ensures) (c .before .before .before .before .add .ensures) stored,
+      line-next (s .job .now) (l .job) (s .base) (s .m) (s .cell) (s .n) (s .count) (s .to) (l .k) (l .at) (s .kept .now) (l .place) _ _ _ _
+          (b .pre .1) (b .pre .2) (omega arith) (l .inv .1) (l .inv .3) (l .inv .2)
+          read (c .before .before .before .before .before .line .ensures) (c .before .before .before .before .add .ensures) stored,
       length-filled _ _ _ _ stored ∙ l .inv .4,
     )
 

@@ -33,7 +33,8 @@ add-block-requires c κs =
     let s = b .args in
     let l = c .before .before .before .before .loop in
     let n = c .before .before .block .ensures in
-    (c .before .before .before .before .before .twiddles .ensures, before-same (s .job .now) (s .base) (s .m) (s .to) (s .count) (b .pre .0) (l .job) (l .inv .2), omega (arith, n), omega (arith, n), n .0)
+    let room = before-same (s .job .now) (s .base) (s .m) (s .to) (s .count) (b .pre .0) (l .job) (l .inv .2) in
+    (c .before .before .before .before .before .twiddles .ensures, room, omega (arith, n), omega (arith, n), n .0)
 
 loop-again : tie.Need-loop-again Inv-loop μ-loop
 loop-again c =
