@@ -20,9 +20,9 @@ use Rattle.rq_matrix.specs.Region.{vector, gram}
 use Rattle.rq_matrix.proofs.Place.{rows-within, triangle-within}
 use Rattle.rq_matrix.proofs.Mirror.{triangle-by-rows}
 use Rattle.load_sums.specs.declared.Target.{Target}
-use Rattle.load_sums.specs.Sums.{term, plus, Placed, Reduced}
+use Rattle.load_sums.specs.Sums.{term, terms, plus, Placed, Reduced}
 use Rattle.load_sums.proofs.Plus.{plus-plus, plus-ext, plus-none, read-before, read-between}
-use Rattle.load_constraints.specs.Terms.{weight-of, terms, rows-of, left-of}
+use Rattle.load_constraints.specs.Terms.{weight-of, rows-of, left-of}
 
 -- element of constraint x, of count constraints of m elements each
 inside : (x count m q : ℕ) → x < count → q < m → x * m + q < count * m

@@ -8,10 +8,10 @@ use Rattle.definitions.specs.Rq.{Element}
 use Rattle.definitions.specs.Ring.{RqOps}
 use Rattle.protocol.specs.Parameters.{triangular}
 use Rattle.protocol.specs.Views.{element-at, cell}
-use Rattle.protocol.specs.Formulas.{_⊕_, _⊗_, sum}
+use Rattle.protocol.specs.Formulas.{_⊕_, sum}
 use Rattle.rq_matrix.specs.Region.{vector, gram}
 use Rattle.load_sums.specs.declared.Target.{Target}
-use Rattle.load_sums.specs.Sums.{plus}
+use Rattle.load_sums.specs.Sums.{terms, plus}
 
 -- ⟨s_i, s_j⟩, twice left of the diagonal
 abbrev pub weight-of : List ℕ → ℕ → ℕ → ℕ → ℕ → Element
@@ -20,10 +20,6 @@ weight-of s at n i j = cond (ltb j i) (gram s at n i j ⊕ gram s at n i j) (gra
 -- b0 and b with the same sums added, each of its own constraints: those whose elements stand from one place on, and from another
 abbrev pub plus-both : List ℕ → Target → (base0 base : ℕ) → (ℕ → ℕ → Element) → List ℕ
 plus-both J t base0 base sums = plus J t (sums base0) (sums base)
-
--- of constraint x: so many of its m elements from one on, each with its weight
-abbrev pub terms : List ℕ → (base m row count : ℕ) → (ℕ → Element) → ℕ → Element
-terms J base m row count ω x = sum count (λ j. element-at J base (x * m + (row + j)) ⊗ ω j)
 
 -- the first rows of its triangle
 abbrev pub rows-of : List ℕ → (base m : ℕ) → List ℕ → (at n r : ℕ) → ℕ → Element

@@ -1,4 +1,5 @@
 // The left sides of all constraints of a job, added up where b0 and b stand: each ⟨s_i, s_j⟩ is worked out once and weighed into every constraint.
+use load_products;
 use load_sums::Target;
 use rq::rq::Rq;
 use rq_matrix::vector_at;
@@ -8,8 +9,8 @@ ghost use lib.ListN.{length};
 ghost use Rattle.definitions.specs.Ring.{words};
 ghost use Rattle.inner_product.specs.Run.{run};
 ghost use Rattle.protocol.specs.Parameters.{triangular};
-ghost use Rattle.load_sums.specs.Sums.{Placed, Reduced, plus};
-ghost use Rattle.load_constraints.specs.Terms.{plus-both, weight-of, terms, rows-of, left-of};
+ghost use Rattle.load_sums.specs.Sums.{Placed, Reduced, terms, plus};
+ghost use Rattle.load_constraints.specs.Terms.{plus-both, weight-of, rows-of, left-of};
 
 // What cell (i, j) of a triangle is multiplied with, j at most i: ⟨s_i, s_j⟩, twice off the diagonal.
 fn weight(s: &[u32], s_at: usize, r: usize, n: usize, i: usize, j: usize) -> Rq
@@ -71,8 +72,16 @@ fn add_triangle(
     }
 }
 
-// Every vector's elements, m of them, with the witness's.
-fn add_line(job: &mut [u32], t: Target, base0: usize, base: usize, m: usize, s: &[u32], s_at: usize)
+// Every vector's elements, m of them, with the witness's, one after the other.
+fn add_terms(
+    job: &mut [u32],
+    t: Target,
+    base0: usize,
+    base: usize,
+    m: usize,
+    s: &[u32],
+    s_at: usize,
+)
     requires { ⌜ Placed (now job) t base0 base m × Reduced (now job) t × («s_at» + 64 * m ≤ length (now s)) ⌝ }
     ensures { λ _. ⌜ now (job .exit) ≡ plus-both (now (job .entry)) t base0 base (λ at. terms (now (job .entry)) at m 0 m (run (now (s .entry)) «s_at» 64)) ⌝ }
 {
@@ -81,6 +90,25 @@ fn add_line(job: &mut [u32], t: Target, base0: usize, base: usize, m: usize, s: 
         load_sums::add_term(job, t, base0, base, m, e, words::load(s, s_at + 64 * e));
         e += 1;
     }
+}
+
+// The same for b0 alone, and then for b with the witness's elements kept transformed.
+fn add_line(job: &mut [u32], t: Target, base0: usize, base: usize, m: usize, s: &[u32], s_at: usize)
+    requires { ⌜ Placed (now job) t base0 base m × Reduced (now job) t × («s_at» + 64 * m ≤ length (now s)) ⌝ }
+    ensures { λ _. ⌜ now (job .exit) ≡ plus-both (now (job .entry)) t base0 base (λ at. terms (now (job .entry)) at m 0 m (run (now (s .entry)) «s_at» 64)) ⌝ }
+{
+    let b0_at = t.b0_at;
+    let l = t.l;
+    let b_at = t.b_at;
+    let k = t.k;
+    let numbers = Target {
+        b0_at,
+        l,
+        b_at,
+        k: 0,
+    };
+    add_terms(job, numbers, base0, base, m, s, s_at);
+    load_products::add_products(job, base, m, b_at, k, s, s_at);
 }
 
 // Both: triangles from `a0` and `a` on, vectors from `phi0` and `phi` on.

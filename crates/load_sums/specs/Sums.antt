@@ -9,7 +9,7 @@ use Rattle.definitions.specs.Zq.{Q, zadd}
 use Rattle.definitions.specs.Rq.{Element, coeff}
 use Rattle.definitions.specs.Ring.{words, element}
 use Rattle.protocol.specs.Views.{element-at}
-use Rattle.protocol.specs.Formulas.{_⊕_, _⊗_, flat}
+use Rattle.protocol.specs.Formulas.{_⊕_, _⊗_, sum, flat}
 use Rattle.load_sums.specs.declared.Target.{Target}
 
 -- coefficients times the words from a place on, added up
@@ -19,6 +19,10 @@ dot-at c ws at = Σ 64 (λ i. coeff c i * getD ws (at + i) 0) % Q
 -- element `cell` of constraint x, of m elements each from a place on, times a weight's words
 abbrev pub term : List ℕ → (base m cell : ℕ) → List ℕ → ℕ → Element
 term J base m cell weight x = element-at J base (x * m + cell) ⊗ element weight
+
+-- of constraint x: so many of its m elements from one on, each with its weight
+abbrev pub terms : List ℕ → (base m row count : ℕ) → (ℕ → Element) → ℕ → Element
+terms J base m row count ω x = sum count (λ j. element-at J base (x * m + (row + j)) ⊗ ω j)
 
 -- a job with F x added to number x of b0, its constant coefficient alone, and G k to element k of b
 unfoldable pub plus : List ℕ → Target → (ℕ → Element) → (ℕ → Element) → List ℕ

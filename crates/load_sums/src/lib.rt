@@ -31,7 +31,7 @@ fn wide(x: u32) -> u64
     x as u64
 }
 
-// The products of an element's coefficients with the words from `at` on, added up.
+// The products of an element's coefficients with the words from `at` on, each reduced, added up.
 fn dot(coeffs: [u32; 64], words: &[u32], at: usize) -> u32
     requires { ⌜ at + 64 ≤ length (now words) ⌝ }
     ensures { λ r. ⌜ r ≡ dot-at coeffs (now (words .entry)) at ⌝ }
@@ -39,10 +39,10 @@ fn dot(coeffs: [u32; 64], words: &[u32], at: usize) -> u32
     let mut sum: u64 = 0;
     let mut k = 0;
     while k < 64 {
-        sum = (sum + wide(coeffs[k]) * wide(words[at + k])) % MODULUS;
+        sum = sum + wide(coeffs[k]) * wide(words[at + k]) % MODULUS;
         k += 1;
     }
-    sum as u32
+    (sum % MODULUS) as u32
 }
 
 // To each of `count` numbers from `to` on: the product of coefficients with element `cell` of m, of constraint after constraint from `base` on.

@@ -1,71 +1,36 @@
--- `add_line` meets its contract. The invariant: the first e elements are added.
-use mathlib.Core.Path.{_≡_, refl, sym, ap, subst, _∙_}
-use Prim.Native.Nat.{_+_, _-_, _*_, _≤_}
-use native.Mathlib.Omega.{arith}
+-- `add_line` meets its contract.
 use borrow.Author.Needs.{needs}
-use lib.ListN.{length}
-use native.Mathlib.Nat.{zero-add}
-use Rattle.definitions.specs.Ring.{element}
 use Rattle.inner_product.specs.Run.{run}
-use Rattle.load_sums.specs.Sums.{term, plus, Placed}
-use Rattle.load_sums.proofs.Plus.{placed-plus, length-plus}
-use Rattle.load_constraints.specs.Terms.{terms}
-use Rattle.load_constraints.proofs.Order.{terms-none, terms-next}
+use Rattle.load_sums.specs.Sums.{terms}
+use Rattle.load_constraints.proofs.Line.{numbers-placed, numbers-reduced, line-before, line-canonical, line-added}
 use Rattle.load_constraints.proofs.add_line.Statement.{statement}
 use Rattle.load_constraints.proofs.add_line.Tie as tie
 
-abbrev Inv-loop : tie.InvT-loop
-Inv-loop job₀ t base0 base m s s-at e₀ job e =
-    (e ≤ m) × (job ≡ plus job₀ t (terms job₀ base0 m 0 e (run s s-at 64)) (terms job₀ base m 0 e (run s s-at 64))) × (length job ≡ length job₀)
+add-terms-requires : tie.Need-add-terms-requires
+add-terms-requires c κs =
+    let b = c .before .before .before in
+    let s = b .args in
+    (numbers-placed (s .job .now) (s .t) (s .base0) (s .base) (s .m) (b .pre .0), numbers-reduced (s .job .now) (s .t) (s .base0) (s .base) (s .m) (b .pre .0) (b .pre .1), b .pre .2)
 
-abbrev μ-loop : tie.MeasureT-loop
-μ-loop job₀ t base0 base m s s-at e₀ job e = m - e
-
-loop-holds : tie.Need-loop-holds Inv-loop μ-loop
-loop-holds c =
-    let s = c .before .before .args in
-    let h = c .before .before .pre in
-    (omega arith, terms-none (s .job .now) (s .t) (s .base0) (s .base) (s .m) (h .0) 0 (run (s .s .now) (s .s-at) 64) (h .1), refl)
-
-add-term-requires : tie.Need-add-term-requires Inv-loop μ-loop
-add-term-requires c κs =
-    let s = c .before .before .before .before .before .before .args in
-    let l = c .before .before .before .loop in
+add-products-requires : tie.Need-add-products-requires
+add-products-requires c κs =
+    let b = c .before .before .before .before .before .before .before in
+    let s = b .args in
     let ω = run (s .s .now) (s .s-at) 64 in
-    (subst (λ job. Placed job (s .t) (s .base0) (s .base) (s .m)) (sym (l .inv .1)) (placed-plus (s .job .now) (s .t) (s .base0) (s .base) (s .m) (c .before .before .before .before .before .before .pre .0) (terms (s .job .now) (s .base0) (s .m) 0 (l .e) ω) (terms (s .job .now) (s .base) (s .m) 0 (l .e) ω)), omega arith)
+    let F = terms (s .job .now) (s .base0) (s .m) 0 (s .m) ω in
+    let G = terms (s .job .now) (s .base) (s .m) 0 (s .m) ω in
+    let e = c .before .before .before .add-terms .ensures in (
+      line-before (s .job .now) (s .t) (s .base0) (s .base) (s .m) (b .pre .0) _ F G e,
+      line-canonical (s .job .now) (s .t) (s .base0) (s .base) (s .m) (b .pre .0) _ F G e (b .pre .1),
+      b .pre .2,
+    )
 
-loop-again : tie.Need-loop-again Inv-loop μ-loop
-loop-again c =
-    let s = c .before .before .before .before .before .before .before .before .before .args in
-    let l = c .before .before .before .before .before .before .loop in
-    let ω = run (s .s .now) (s .s-at) 64 in
-    let w = c .before .before .before .load .result .coeffs in
-    let next = terms-next (s .job .now) (s .t) (s .base0) (s .base) (s .m) (c .before .before .before .before .before .before .before .before .before .pre .0) (l .job) _ 0 (l .e) ω w (omega arith) (l .inv .1)
-    (c .before .before .add-term .ensures ∙ ap (λ q. plus (l .job) (s .t) (term (l .job) (s .base0) (s .m) q w) (term (l .job) (s .base) (s .m) q w)) (sym (zero-add (l .e))))
-    (ap element (c .before .before .before .load .ensures)) in
-    (omega arith, next, ap length next ∙ length-plus (s .job .now) (s .t) (s .base0) (s .base) (s .m) (c .before .before .before .before .before .before .before .before .before .pre .0) (terms (s .job .now) (s .base0) (s .m) 0 (l .e + 1) ω) (terms (s .job .now) (s .base) (s .m) 0 (l .e + 1) ω))
-
-returns : tie.Need-returns Inv-loop μ-loop
+returns : tie.Need-returns
 returns c =
-    let s = c .before .before .before .before .args in
-    let l = c .before .loop in
-    let ω = run (s .s .now) (s .s-at) 64 in
-    let done : l .e ≡ s .m = omega arith in
-    l .inv .1 ∙ ap (λ e. plus (s .job .now) (s .t) (terms (s .job .now) (s .base0) (s .m) 0 e ω) (terms (s .job .now) (s .base) (s .m) 0 e ω)) done
+    let b = c .before .before .before .before .before .before .before .before .before .before in
+    let s = b .args in
+    line-added (s .job .now) _ _ (s .t) (s .base0) (s .base) (s .m) (run (s .s .now) (s .s-at) 64) (b .pre .0)
+    (c .before .before .before .before .before .before .add-terms .ensures) (c .before .before .add-products .ensures)
 
 pub add-line-spec : {M : Type 1} → statement M
-add-line-spec =
-    tie.close
-    (tie.spec
-    Inv-loop
-    μ-loop
-    loop-holds
-    (λ c. omega arith)
-    (λ c. omega arith)
-    (λ c κs. omega arith)
-    add-term-requires
-    (λ c. omega arith)
-    (λ c. omega arith)
-    loop-again
-    (λ c. omega arith)
-    returns)
+add-line-spec = tie.close (tie.spec add-terms-requires add-products-requires (λ c. search needs) returns)

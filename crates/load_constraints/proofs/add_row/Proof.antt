@@ -5,9 +5,9 @@ use native.Mathlib.Omega.{arith}
 use borrow.Author.Needs.{needs}
 use lib.ListN.{length}
 use Rattle.rq_matrix.proofs.Word.{stands-for}
-use Rattle.load_sums.specs.Sums.{plus, Placed}
+use Rattle.load_sums.specs.Sums.{terms, plus, Placed}
 use Rattle.load_sums.proofs.Plus.{placed-plus, length-plus}
-use Rattle.load_constraints.specs.Terms.{weight-of, terms}
+use Rattle.load_constraints.specs.Terms.{weight-of}
 use Rattle.load_constraints.proofs.Order.{terms-none, terms-next}
 use Rattle.load_constraints.proofs.add_row.Statement.{statement}
 use Rattle.load_constraints.proofs.add_row.Tie as tie
