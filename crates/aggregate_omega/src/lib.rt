@@ -106,7 +106,8 @@ pub fn omega_ones(
     }
 }
 
-// The omega part of φ'' for each k: four at a time, and those that are left one at a time.
+// The omega part of φ'' for each k, four at a time: the last four may overlap those before, which costs less than the rest one at a time. Fewer than
+// four are made one at a time.
 pub fn omega_all(
     randomness: &[u32],
     pi_at: usize,
@@ -120,17 +121,14 @@ pub fn omega_all(
     requires { ⌜ Projected (now randomness) «pi_at» r n «omega_at» (number * 256) (now out) to (number * (r * n)) ⌝ }
     ensures { λ _. ⌜ now (out .exit) ≡ splice (now (out .entry)) to (omega-regions (now (randomness .entry)) «pi_at» «omega_at» r n number) ⌝ }
 {
-    let groups = number / 4;
-    let place = to + 64 * (4 * groups * (r * n));
-    omega_fours(randomness, pi_at, omega_at, r, n, groups, out, to);
-    omega_ones(
-        randomness,
-        pi_at,
-        omega_at + groups * 1024,
-        r,
-        n,
-        number % 4,
-        out,
-        place,
-    );
+    if number < 4 {
+        omega_ones(randomness, pi_at, omega_at, r, n, number, out, to);
+        return;
+    }
+    omega_fours(randomness, pi_at, omega_at, r, n, number / 4, out, to);
+    if number % 4 > 0 {
+        let first = number - 4;
+        let place = to + 64 * (first * (r * n));
+        omega_parts_of_four(randomness, pi_at, omega_at + first * 256, r, n, out, place);
+    }
 }

@@ -1,3 +1,4 @@
 pub mod Terms
 pub mod Places
+mod Made
 pub mod Formula

@@ -4,10 +4,10 @@ use Prim.Native.Nat.{ℕ, _+_, _*_, _%_, _≤_, _<_}
 use native.Mathlib.Nat.{mul-le-mul-right, mod-add-mod, add-mod-mod}
 use native.Mathlib.Omega.{arith}
 
--- row j of vector i ends before the matrices of `end` vectors do
-pub row-within : (i j end w : ℕ) → i < end → j < 256 → (i * 256 + j) * w + w ≤ end * 256 * w
-row-within i j end w h l =
-    let rows : i * 256 + j + 1 ≤ end * 256 = omega arith in
+-- the rows of vector i end before the matrices of `end` vectors do
+pub rows-within : (i end w : ℕ) → i < end → i * 256 * w + 256 * w ≤ end * 256 * w
+rows-within i end w h =
+    let rows : i * 256 + 256 ≤ end * 256 = omega arith in
     omega (arith, mul-le-mul-right w rows)
 
 -- vector i ends before `end` vectors do

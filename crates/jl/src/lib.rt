@@ -1,2 +1,3 @@
 // The projection (core/jl.rs).
 pub mod projection;
+pub mod rows;

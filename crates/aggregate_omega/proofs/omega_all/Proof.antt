@@ -1,70 +1,101 @@
 -- `omega_all` meets its contract.
-use mathlib.Core.Path.{_≡_, _∙_, ap}
+use mathlib.Core.Path.{_≡_, sym, _∙_, ap}
 use mathlib.Core.List.{List}
-use Prim.Native.Nat.{ℕ, _+_, _*_, _/_, _%_}
+use Prim.Native.Nat.{ℕ, _+_, _-_, _*_, _/_, _%_, _≤_}
+use native.Mathlib.Nat.{mul-le-mul-right}
 use native.Mathlib.Omega.{arith}
 use borrow.Author.Needs.{needs}
+use lib.ListN.{length}
 use Rattle.lists.specs.Table.{cat}
 use Rattle.lists.specs.Part.{splice}
 use Rattle.definitions.specs.Rq.{Element}
 use Rattle.protocol.specs.Formulas.{flat}
 use Rattle.protocol.proofs.Flat.{length-rows}
 use Rattle.aggregate_omega.specs.Omega.{omega-rows}
-use Rattle.aggregate_omega.proofs.Rows.{lists-more, omega-rows-from}
+use Rattle.aggregate_omega.proofs.Rows.{lists-over, omega-rows-from}
 use Rattle.aggregate_omega.proofs.omega_all.Statement.{statement}
 use Rattle.aggregate_omega.proofs.omega_all.Tie as tie
 
--- the fours and what is left
-whole : (number : ℕ) → 4 * (number / 4) + number % 4 ≡ number
-whole number = omega arith
+-- the elements of the fours are not more than all
+fours : (number width : ℕ) → 4 * (number / 4) * width ≤ number * width
+fours number width =
+    let few : 4 * (number / 4) ≤ number = omega arith in
+    mul-le-mul-right width few
 
--- the elements of both
-elements : (number width : ℕ) → 4 * (number / 4) * width + number % 4 * width ≡ number * width
-elements number width = both ∙ ap (λ m. m * width) (whole number)
+-- the last four end where all do
+last : (number width : ℕ) → 4 ≤ number → (number - 4) * width + 4 * width ≡ number * width
+last number width h = both ∙ ap (λ m. m * width) whole
   where
-    both : 4 * (number / 4) * width + number % 4 * width ≡ (4 * (number / 4) + number % 4) * width
+    whole : number - 4 + 4 ≡ number
+    whole = omega arith
+
+    both : (number - 4) * width + 4 * width ≡ (number - 4 + 4) * width
     both = omega arith
 
-add-place : tie.Need-add-place
-add-place c =
-    let s = c .before .before .args in
-    omega (arith, elements (s .number) (s .r * s .n))
+omega-ones-requires : tie.Need-omega-ones-requires
+omega-ones-requires c κs = c .before .before .before .before .pre
+
+returns : tie.Need-returns
+returns c = c .before .before .omega-ones .ensures
 
 omega-fours-requires : tie.Need-omega-fours-requires
 omega-fours-requires c κs =
-    let s = c .before .before .before .args in
-    let h = c .before .before .before .pre in
-    (h .0, omega (arith, h .1), omega (arith, elements (s .number) (s .r * s .n)), h .3, h .4)
+    let s = c .before .before .before .before .args in
+    let h = c .before .before .before .before .pre in
+    (h .0, omega (arith, h .1), omega (arith, fours (s .number) (s .r * s .n)), h .3, h .4)
 
-omega-ones-requires : tie.Need-omega-ones-requires
-omega-ones-requires c κs =
-    let s = c .before .before .before .before .before .before .before .args in
-    let h = c .before .before .before .before .before .before .before .pre in
-    (h .0, omega (arith, h .1), omega (arith, elements (s .number) (s .r * s .n)), h .3, h .4)
+-- what the places of the last four need
+last-place : tie.Need-add-place
+last-place c =
+    let s = c .before .before .before .before .before .before .before .before .args in
+    omega (arith, last (s .number) (s .r * s .n) (omega arith))
 
-returns : tie.Need-returns
-returns c =
-    let s = c .before .before .before .before .before .before .before .before .before .before .args in
+omega-parts-of-four-requires : tie.Need-omega-parts-of-four-requires
+omega-parts-of-four-requires c κs =
+    let s = c .before .before .before .before .before .before .before .before .before .args in
+    let h = c .before .before .before .before .before .before .before .before .before .pre in
+    (h .0, omega (arith, h .1), omega (arith, last (s .number) (s .r * s .n) (omega arith)), h .3, h .4)
+
+returns-2 : tie.Need-returns-2
+returns-2 c =
+    let s = c .before .before .before .before .before .before .before .before .before .before .before .before .args in
+    let m = s .number - 4 in
+    let k = 4 * (s .number / 4) - m in
     let f : ℕ → List Element = omega-rows (s .randomness .now) (s .pi-at) (s .omega-at) (s .r) (s .n) in
-    c .before .before .omega-ones .ensures
-    ∙ lists-more (s .out .now) _ (s .to) (4 * (s .number / 4)) (s .number % 4) (s .r * s .n) f (omega-rows (s .randomness .now) (s .pi-at) (s .omega-at + s .number / 4 * 1024) (s .r) (s .n))
-    (c .before .before .before .before .before .before .omega-fours .ensures)
-    (λ k. length-rows (s .r) _ (s .n))
-    (λ q. omega-rows-from (s .randomness .now) (s .pi-at) (s .omega-at) (s .omega-at + s .number / 4 * 1024) (s .r) (s .n) (4 * (s .number / 4)) q (omega arith))
-    ∙ ap (λ m. splice (s .out .now) (s .to) (flat (cat m f))) (whole (s .number))
+    let made : 4 * (s .number / 4) ≡ m + k = omega arith in
+    let all : m + 4 ≡ s .number = omega arith in
+    c .before .before .omega-parts-of-four .ensures
+    ∙ lists-over (s .out .now) _ (s .to) m k 4 (s .r * s .n) f (omega-rows (s .randomness .now) (s .pi-at) (s .omega-at + m * 256) (s .r) (s .n))
+    (c .before .before .before .before .before .before .before .omega-fours .ensures ∙ ap (λ j. splice (s .out .now) (s .to) (flat (cat j f))) made)
+    (λ j. length-rows (s .r) _ (s .n))
+    (λ q. omega-rows-from (s .randomness .now) (s .pi-at) (s .omega-at) (s .omega-at + m * 256) (s .r) (s .n) m q (omega arith))
+    (omega arith)
+    (omega (arith, last (s .number) (s .r * s .n) (omega arith)))
+    ∙ ap (λ j. splice (s .out .now) (s .to) (flat (cat j f))) all
+
+returns-3 : tie.Need-returns-3
+returns-3 c =
+    let s = c .before .before .before .before .before .before .before .before .args in
+    let f : ℕ → List Element = omega-rows (s .randomness .now) (s .pi-at) (s .omega-at) (s .r) (s .n) in
+    let all : 4 * (s .number / 4) ≡ s .number = omega arith in
+    c .before .before .before .omega-fours .ensures ∙ ap (λ j. splice (s .out .now) (s .to) (flat (cat j f))) all
 
 pub omega-all-spec : {M : Type 1} → statement M
 omega-all-spec =
     tie.close
     (tie.spec
-    (λ c. search needs)
-    (λ c. search needs)
-    (λ c. let h = add-place c in omega arith)
-    (λ c. let h = add-place c in omega arith)
-    add-place
-    omega-fours-requires
-    (λ c. search needs)
-    (λ c. search needs)
     omega-ones-requires
     (λ c. search needs)
-    returns)
+    returns
+    omega-fours-requires
+    (λ c. let h = last-place c in omega arith)
+    (λ c. let h = last-place c in omega arith)
+    (λ c. let h = last-place c in omega arith)
+    last-place
+    (λ c. search needs)
+    (λ c. search needs)
+    omega-parts-of-four-requires
+    (λ c. search needs)
+    returns-2
+    (λ c. search needs)
+    returns-3)
