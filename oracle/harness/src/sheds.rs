@@ -247,11 +247,7 @@ struct Fault {
 }
 
 fn fault(name: &'static str, aim: (u32, usize), change: impl Fn(&mut Given) + 'static) -> Fault {
-    Fault {
-        name,
-        change: Box::new(change),
-        aim,
-    }
+    Fault { name, change: Box::new(change), aim }
 }
 
 fn set(words: &mut [u32], at: usize, word: u32) {
@@ -281,7 +277,9 @@ fn faults(given: &Given, p: &Parameters) -> Vec<Fault> {
         all.extend([
             fault("no projection words", (7, 0), |g| g.projection.clear()),
             fault("the projection's count", (7, 0), |g| g.projection[0] += 1),
-            fault("projection words that end early", (7, projection - 1), move |g| g.projection.truncate(projection - 1)),
+            fault("projection words that end early", (7, projection - 1), move |g| {
+                g.projection.truncate(projection - 1)
+            }),
             fault("a projection word too many", (7, projection), |g| g.projection.push(0)),
             fault("the first projection word", (8, 1), |g| set(&mut g.projection, 1, Q)),
             fault("the last projection word", (8, projection - 1), move |g| set(&mut g.projection, projection - 1, Q)),
@@ -481,7 +479,8 @@ pub fn print_sums() {
         if k >= 8 {
             set_bound(&mut load.job, 42 * n);
         }
-        let part = |words: &[u32], each: u32| join(&[words[1 + (each * first) as usize..1 + (each * end) as usize].to_vec()]);
+        let part =
+            |words: &[u32], each: u32| join(&[words[1 + (each * first) as usize..1 + (each * end) as usize].to_vec()]);
         let (projection, vectors) = (part(&load.randomness, 16384 * n), part(&load.witness, 64 * n));
         let run = Run {
             job: &load.job,
