@@ -288,8 +288,8 @@ fn judged(random: &mut Random) -> Kernel {
         }),
         prepare: Box::new(|| {}),
         theirs: Box::new(move || {
-            let above = black_box(&scanned).iter().map(|words| words.iter().filter(|&&word| word >= Q).count());
-            black_box(above.sum::<usize>());
+            let below = black_box(&scanned).iter().map(|words| words.iter().filter(|&&word| word < Q).count());
+            black_box(below.sum::<usize>());
         }),
     }
 }

@@ -204,7 +204,7 @@ fn weigh(random: &mut Random, instance: &mut Instance, weights: Weights) {
                 }
             }
             Weights::SomeZero => {
-                if (k + signs.len()) % 3 == 0 {
+                if (k + signs.len()).is_multiple_of(3) {
                     row.fill(0);
                 }
             }
@@ -369,7 +369,7 @@ const RECORDED: u32 = 20;
 fn recorded(k: u32) -> Given {
     let sizes = [1, 1, 4, 1, 1, 1, 5, 32, 256, 4, 4, 4];
     let lengths = model::load::needs(sizes).expect("parameters within their limits");
-    let made = model::load::load(sizes, k, lengths).ok().expect("the buffers are long enough");
+    let made = model::load::load(sizes, k, lengths).expect("the buffers are long enough");
     let p = Parameters::read(&made.job[1..1 + PARAMETERS]);
     let mut randomness = made.randomness;
     let psi = 2 + 16384 * p.n * p.r;

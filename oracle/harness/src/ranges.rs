@@ -238,7 +238,7 @@ fn one(tally: &mut Tally, random: &mut Random, parameters: Parameters, width: Wi
 fn recorded_job(k: u32) -> Vec<u32> {
     let sizes = [1 + k % 2, 1 + k % 3, 4, 1, 1, 1, 1, 32, 256, 4, 4, 4];
     let lengths = model::load::needs(sizes).expect("parameters within their limits");
-    model::load::load(sizes, k, lengths).ok().expect("the buffers are long enough").job
+    model::load::load(sizes, k, lengths).expect("the buffers are long enough").job
 }
 
 /// The lows and highs of recorded case k: ranges about zero, narrow and wide; the last four with a fault.

@@ -265,11 +265,13 @@ pub fn proof(job: &Job, transcript: &[u32]) -> LabradorTranscript<Playback> {
 }
 
 /// `LabradorVerifier::verify`, over the randomness that is loaded.
+#[allow(clippy::result_large_err)] // the error is the published Rust's
 pub fn run_verifier(job: &Job, proof: &LabradorTranscript<Playback>) -> Result<bool, VerifierError> {
     LabradorVerifier::new(&job.parameters, &job.crs, &job.statement).verify(proof)
 }
 
 /// The verifier's answer.
+#[allow(clippy::result_large_err)] // the error is the published Rust's
 pub fn verify(job: &Job, randomness: &[u32], transcript: &[u32]) -> Answer {
     load(randomness);
     let proof = proof(job, transcript);

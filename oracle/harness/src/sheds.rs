@@ -8,6 +8,7 @@ use model::leaves::{HALF, Q};
 use model::sheds::{add_projections, shed_projection, shed_rows, Made, Run};
 use model::words::{join, split, Parameters, PARAMETERS};
 use model::{Answer, Call};
+use std::slice::from_ref;
 
 pub const RUNS: &str = "answers of the calls on a run";
 pub const ADDED: &str = "answers of the call that adds two p";
@@ -219,7 +220,7 @@ fn one_split(tally: &mut Tally, random: &mut Random, instance: &Instance, turn: 
     let case = || format!("{ends:?} of {:?}", instance.parameters);
     tally.compare(SUMS, &sums[0], &whole.0, case);
     tally.compare(LAID, &rows, &whole.1, case);
-    tally.compare(WHOLE, &(sums.swap_remove(0), rows), &(join(&[sent.p.clone()]), join(&sent.sections()[5..6])), case);
+    tally.compare(WHOLE, &(sums.swap_remove(0), rows), &(join(from_ref(&sent.p)), join(&sent.sections()[5..6])), case);
 }
 
 /// A's bound at each vector's norm and one below: 13 names the run's first vector above it, counted over the whole job. The
@@ -475,7 +476,7 @@ pub fn print_sums() {
         let end = first + 1 + k / 3 % (r - first);
         let sizes = [n, r, kappa, 1, 1, 1, 1, 32, 256, 4, 4, 4];
         let lengths = model::load::needs(sizes).expect("parameters within their limits");
-        let mut load = model::load::load(sizes, k, lengths).ok().expect("the buffers are long enough");
+        let mut load = model::load::load(sizes, k, lengths).expect("the buffers are long enough");
         if k >= 8 {
             set_bound(&mut load.job, 42 * n);
         }

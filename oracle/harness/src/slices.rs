@@ -132,6 +132,7 @@ fn triangle_rows(cells: usize) -> usize {
 }
 
 /// What the Rust's function makes.
+#[allow(clippy::large_enum_variant)] // the benchmark times it, and the Rust makes no box
 pub enum Made {
     Element(Rq),
     Numbers(Vec<Zq>),
