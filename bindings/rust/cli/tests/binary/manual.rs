@@ -1,10 +1,10 @@
-//! The page of the command line, `docs/CLI.md`: its tour, pasted, and its commands against the help.
+//! The page of the command line, `docs/CLI.md`: its tour, pasted, and its commands against the help. The README's commands, pasted.
 
 use std::fs;
 
 use crate::common::over;
 use crate::desk::Desk;
-use crate::pasted::{page_is_true, root};
+use crate::pasted::{page_is_true, root, typed};
 use crate::run::run;
 
 #[cfg(unix)]
@@ -14,6 +14,16 @@ fn the_tour_says_what_it_says() {
         return println!("not tried: docs/CLI.md, whose figures are of 4294967295");
     }
     page_is_true("CLI.md", 4);
+}
+
+#[cfg(unix)]
+#[test]
+fn the_commands_of_the_readme_are_accepted() {
+    let readme = fs::read_to_string(root().join("README.md")).expect("the README");
+    let commands: Vec<&str> = readme.lines().filter(|line| line.starts_with("    labrador ")).collect();
+    assert_eq!(commands.len(), 3, "{commands:?}");
+    let told = typed(&Desk::new("readme"), &commands.join("\n"));
+    assert!(told.lines().last().is_some_and(|line| line.starts_with("labrador: accepted; one transcript: 1 in ")), "{told}");
 }
 
 /// What `.ci/cli` writes of a command: its help, with all but the first line in a block.
