@@ -23,7 +23,10 @@ fn the_commands_of_the_readme_are_accepted() {
     let commands: Vec<&str> = readme.lines().filter(|line| line.starts_with("    labrador ")).collect();
     assert_eq!(commands.len(), 3, "{commands:?}");
     let told = typed(&Desk::new("readme"), &commands.join("\n"));
-    assert!(told.lines().last().is_some_and(|line| line.starts_with("labrador: accepted; one transcript: 1 in ")), "{told}");
+    assert!(
+        told.lines().last().is_some_and(|line| line.starts_with("labrador: accepted; one transcript: 1 in ")),
+        "{told}"
+    );
 }
 
 /// What `.ci/cli` writes of a command: its help, with all but the first line in a block.
@@ -41,7 +44,12 @@ fn the_page_has_every_command_as_the_help_tells_it() {
     let page = fs::read_to_string(root().join("docs/CLI.md")).expect("the page");
     let (_, listed) = page.split_once("<!-- the commands: written by .ci/cli -->\n").expect("the mark");
     let help = run(&desk, "help").out;
-    let names = help.split("\n\n").nth(1).expect("the commands").lines().map(|line| line.split_whitespace().next().expect("a name"));
+    let names = help
+        .split("\n\n")
+        .nth(1)
+        .expect("the commands")
+        .lines()
+        .map(|line| line.split_whitespace().next().expect("a name"));
     let all: String = names.map(|name| written(name, &run(&desk, &format!("help {name}")).out)).collect();
     assert!(all.matches("\n### ").count() >= 15, "{all}");
     assert!(listed == all, "docs/CLI.md is not as `bash .ci/cli` writes it");
