@@ -211,13 +211,22 @@ static labrador_element product(labrador_element a, labrador_element b) {
     return c;
 }
 
+/* size is below 2^32 */
+static void add_square(labrador_norm_answer *sum, uint64_t size) {
+    sum->lo += size * size;
+    sum->hi += sum->lo < size * size;
+}
+
 static labrador_norm_answer norm(labrador_element a) {
-    unsigned __int128 sum = 0;
-    for (int k = 0; k < 64; k++) {
-        uint64_t size = size_of(a.coeffs[k]);
-        sum += size * size;
-    }
-    labrador_norm_answer r = {0, 0, (uint64_t)(sum >> 64), (uint64_t)sum};
+    labrador_norm_answer r = {0, 0, 0, 0};
+    for (int k = 0; k < 64; k++) add_square(&r, size_of(a.coeffs[k]));
+    return r;
+}
+
+/* The norm of so many coefficients of the greatest size. */
+static labrador_norm_answer most(int count) {
+    labrador_norm_answer r = {0, 0, 0, 0};
+    for (int k = 0; k < count; k++) add_square(&r, HALF);
     return r;
 }
 
@@ -288,8 +297,7 @@ static void test_elements(void) {
     CHECK(is_element(labrador_rq_add(x, monomial(NEG(1), 1)), zero()));
     CHECK(is_element(labrador_rq_sub(zero(), x), monomial(NEG(1), 1)));
     CHECK(is_element(labrador_rq_scale(monomial(65537, 5), 65535), monomial(LACK - 1, 5)));
-    const unsigned __int128 most = (unsigned __int128)64 * HALF * HALF;
-    CHECK(is_norm(labrador_rq_norm(largest), 0, 0, (uint64_t)(most >> 64), (uint64_t)most));
+    CHECK(is_norm(labrador_rq_norm(largest), 0, 0, most(64).hi, most(64).lo));
     CHECK(is_refused(labrador_rq_add(x, monomial(Q, 5)), 6, 69));
     CHECK(is_refused(labrador_rq_sub(monomial(Q, 63), monomial(Q, 5)), 6, 63));
     CHECK(is_refused(labrador_rq_mul(worst, worst), 6, 0));
@@ -745,8 +753,7 @@ static void test_ranges(void) {
     }
     labrador_ranges_answer a = ranges(NUMBERS, NUMBERS);
     CHECK(a.number == 0 && a.vectors[1].meets == 2 && a.vectors[1].least_hi == 0 && a.vectors[1].least_lo == 0);
-    const unsigned __int128 most = (unsigned __int128)128 * HALF * HALF;
-    CHECK(a.vectors[1].greatest_hi == (uint64_t)(most >> 64) && a.vectors[1].greatest_lo == (uint64_t)most);
+    CHECK(a.vectors[1].greatest_hi == most(128).hi && a.vectors[1].greatest_lo == most(128).lo);
     job[12] = 3;
     CHECK(is_refused_range(ranges(0, 0), 5, 12));
     job[12] = 4;

@@ -16,18 +16,13 @@ extern "C" {
 const TERMS: usize = 64;
 
 fn element(random: &mut Random) -> Element {
-    Element {
-        coeffs: random.numbers(64).try_into().expect("64 words"),
-    }
+    Element { coeffs: random.numbers(64).try_into().expect("64 words") }
 }
 
 /// Each call of `ours` stands for `terms` products of the Rust's.
 fn against_products(random: &mut Random, terms: usize, mut ours: impl FnMut(&Element, &Element) + 'static) -> Kernel {
     let pairs: Vec<_> = (0..TERMS).map(|_| (element(random), element(random))).collect();
-    let theirs: Vec<_> = pairs
-        .iter()
-        .map(|(a, b)| (rust::element(&a.coeffs), rust::element(&b.coeffs)))
-        .collect();
+    let theirs: Vec<_> = pairs.iter().map(|(a, b)| (rust::element(&a.coeffs), rust::element(&b.coeffs))).collect();
     Kernel {
         calls: TERMS,
         rounds: 500,

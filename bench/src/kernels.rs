@@ -35,11 +35,7 @@ pub struct Kernel {
 const BATCH: usize = 64;
 
 fn elements(random: &mut Random) -> Vec<Element> {
-    (0..BATCH)
-        .map(|_| Element {
-            coeffs: random.numbers(64).try_into().expect("64 words"),
-        })
-        .collect()
+    (0..BATCH).map(|_| Element { coeffs: random.numbers(64).try_into().expect("64 words") }).collect()
 }
 
 fn of(element: &Element) -> Rq {
@@ -51,13 +47,7 @@ fn all(elements: &[Element]) -> Vec<Rq> {
 }
 
 fn leaf(ours: impl FnMut() + 'static, theirs: impl FnMut() + 'static) -> Kernel {
-    Kernel {
-        calls: BATCH,
-        rounds: 2000,
-        ours: Box::new(ours),
-        prepare: Box::new(|| {}),
-        theirs: Box::new(theirs),
-    }
+    Kernel { calls: BATCH, rounds: 2000, ours: Box::new(ours), prepare: Box::new(|| {}), theirs: Box::new(theirs) }
 }
 
 pub fn product(random: &mut Random) -> Kernel {
@@ -127,9 +117,7 @@ fn challenge(random: &mut Random) -> Kernel {
     let words: Vec<ChallengeWords> = signs
         .chunks(41)
         .zip(shuffles.chunks(63))
-        .map(|(signs, shuffles)| ChallengeWords {
-            words: [signs, shuffles].concat().try_into().expect("104 words"),
-        })
+        .map(|(signs, shuffles)| ChallengeWords { words: [signs, shuffles].concat().try_into().expect("104 words") })
         .collect();
     let tape = Tape::new(vec![], signs, shuffles);
     let kernel = leaf(
@@ -145,10 +133,7 @@ fn challenge(random: &mut Random) -> Kernel {
             }
         },
     );
-    Kernel {
-        prepare: Box::new(move || tape.clone().load()),
-        ..kernel
-    }
+    Kernel { prepare: Box::new(move || tape.clone().load()), ..kernel }
 }
 
 /// A call of the slice layer, with base 256 where there are digits.
@@ -289,17 +274,9 @@ pub fn whole(random: &mut Random, call: Call, n: usize, r: usize) -> Kernel {
 /// The tests before the work: a call on fit slices that is lent no scratch, so that it is refused once every word of the
 /// slices has been judged. Beside it a plain scan of the same words.
 fn judged(random: &mut Random) -> Kernel {
-    let p = Parameters {
-        ring: 64,
-        constant: 64,
-        ..parameters(16, 4)
-    };
+    let p = Parameters { ring: 64, constant: 64, ..parameters(16, 4) };
     let instance = loads::instance(p, random.word());
-    let slices = [
-        instance.job_words(),
-        instance.randomness_words(),
-        instance.witness_words(),
-    ];
+    let slices = [instance.job_words(), instance.randomness_words(), instance.witness_words()];
     let scanned = slices.clone();
     let need = p.scratch_need() as u64;
     Kernel {
@@ -311,10 +288,8 @@ fn judged(random: &mut Random) -> Kernel {
         }),
         prepare: Box::new(|| {}),
         theirs: Box::new(move || {
-            let above = black_box(&scanned)
-                .iter()
-                .map(|words| words.iter().filter(|&&word| word >= Q).count());
-            black_box(above.sum::<usize>());
+            let below = black_box(&scanned).iter().map(|words| words.iter().filter(|&&word| word < Q).count());
+            black_box(below.sum::<usize>());
         }),
     }
 }
@@ -322,7 +297,7 @@ fn judged(random: &mut Random) -> Kernel {
 /// A kernel's name and how its inputs are made.
 pub type Entry = (&'static str, fn(&mut Random) -> Kernel);
 
-/// Every kernel.
+/// Every kernel, a row each.
 #[rustfmt::skip]
 pub const KERNELS: &[Entry] = &[
     ("element product", product),

@@ -36,11 +36,7 @@ fn desk(p: &Parameters) -> Desk {
         randomness.extend(drawn);
         transcripts.extend_from_slice(&output);
     }
-    Desk {
-        job,
-        randomness,
-        transcripts,
-    }
+    Desk { job, randomness, transcripts }
 }
 
 /// All eight accepted: the ratio is to stay below 1.
@@ -61,9 +57,7 @@ pub fn against_single(p: Parameters) -> Kernel {
         theirs: Box::new(move || {
             let Desk { job, randomness, transcripts } = &*same;
             let parts = |words: &[u32]| words.len() / COUNT;
-            let sent = randomness
-                .chunks_exact(parts(randomness))
-                .zip(transcripts.chunks_exact(parts(transcripts)));
+            let sent = randomness.chunks_exact(parts(randomness)).zip(transcripts.chunks_exact(parts(transcripts)));
             for (randomness, transcript) in sent {
                 let handed = library::Handed {
                     job,

@@ -27,20 +27,27 @@ macro_rules! provers {
 
 provers!(prime_labrador_prove prime_labrador_round_2);
 
-#[rustfmt::skip]
 extern "C" {
     fn prime_labrador_load_needs(parameters: ffi::Parameters) -> LoadNeed;
     fn prime_labrador_load(
-        parameters: ffi::Parameters, seed: u32,
-        job: *mut u32, job_length: usize,
-        witness: *mut u32, witness_length: usize,
-        randomness: *mut u32, randomness_length: usize,
+        parameters: ffi::Parameters,
+        seed: u32,
+        job: *mut u32,
+        job_length: usize,
+        witness: *mut u32,
+        witness_length: usize,
+        randomness: *mut u32,
+        randomness_length: usize,
     ) -> Answer;
     fn prime_labrador_verify(
-        job: *const u32, job_length: usize,
-        randomness: *const u32, randomness_length: usize,
-        transcript: *const u32, transcript_length: usize,
-        scratch: *mut u32, scratch_length: usize,
+        job: *const u32,
+        job_length: usize,
+        randomness: *const u32,
+        randomness_length: usize,
+        transcript: *const u32,
+        transcript_length: usize,
+        scratch: *mut u32,
+        scratch_length: usize,
     ) -> Verdict;
     fn prime_labrador_rq_mul(a: Element, b: Element) -> ElementAnswer;
     fn prime_labrador_rq_add(a: Element, b: Element) -> ElementAnswer;

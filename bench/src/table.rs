@@ -44,20 +44,14 @@ pub fn run_batch(name: &str, side: &str) {
 fn instructions(name: &str, side: &str) -> f64 {
     let me = std::env::current_exe().expect("a path");
     let run = Command::new("valgrind")
-        .args([
-            "--tool=callgrind",
-            "--callgrind-out-file=/dev/null",
-            "--toggle-collect=bench_counted",
-        ])
+        .args(["--tool=callgrind", "--callgrind-out-file=/dev/null", "--toggle-collect=bench_counted"])
         .arg(me)
         .args(["count", name, side])
         .output()
         .expect("valgrind is at hand");
     let text = String::from_utf8_lossy(&run.stderr).into_owned();
     let line = text.lines().find(|line| line.contains("Collected"));
-    let count = line
-        .and_then(|line| line.split_whitespace().last())
-        .and_then(|word| word.parse().ok());
+    let count = line.and_then(|line| line.split_whitespace().last()).and_then(|word| word.parse().ok());
     match count {
         Some(count) if count > 0.0 => count,
         _ => panic!("callgrind counted nothing of {name}: {text}"),

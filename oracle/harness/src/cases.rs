@@ -60,14 +60,8 @@ pub const OF_CELLS: &str = "cells of t, g and h with something left, of acceptan
 pub const SIZES: &str = "κ and L of the prover's calls";
 
 /// How κ and L lie to each other and to the least L.
-const KAPPA_AND_L: [&str; 6] = [
-    "κ below L",
-    "κ above L",
-    "κ equal to L",
-    "L at the quotient",
-    "L above the quotient",
-    "L 32",
-];
+const KAPPA_AND_L: [&str; 6] =
+    ["κ below L", "κ above L", "κ equal to L", "L at the quotient", "L above the quotient", "L 32"];
 
 /// The comparisons of calls on whole slices.
 pub const PLANTED: &str = "model: refusals 1 to 12 with the fault planted";
@@ -163,10 +157,7 @@ impl Context {
     }
 
     pub fn leaves(&mut self) -> Leaves<'_> {
-        Leaves {
-            tally: &mut self.tally,
-            recorder: &mut self.recorder,
-        }
+        Leaves { tally: &mut self.tally, recorder: &mut self.recorder }
     }
 
     /// Counts a case, compares the library's answer with the expected one, and records it.
@@ -189,8 +180,7 @@ impl Context {
             output: case.output,
         };
         let answer = fit(case.call, handed).err().unwrap_or_default();
-        self.tally
-            .compare(PLANTED, &answer, &Answer::refused(aim.0, aim.1), || case.describe());
+        self.tally.compare(PLANTED, &answer, &Answer::refused(aim.0, aim.1), || case.describe());
         let expected = Expected { answer, worked: None };
         self.take(Case { expected, ..case });
     }
@@ -229,11 +219,7 @@ impl Context {
             let (first, past) = call.output_sections();
             let expected = Expected {
                 answer: if refused { answer } else { Answer::FINE },
-                worked: Some(if refused {
-                    vec![0; need]
-                } else {
-                    join(&sections[first..past])
-                }),
+                worked: Some(if refused { vec![0; need] } else { join(&sections[first..past]) }),
             };
             self.take(Case {
                 purpose,
@@ -261,10 +247,8 @@ impl Context {
             Source::Apart => FOUR_APART,
             Source::LargeZ => FOUR_LARGE,
         };
-        self.tally
-            .compare(kind, &without_cells(breach), &without_cells(verdict), described);
-        self.tally
-            .compare(FOUR_CELLS, &breach.cells_left, &verdict.cells_left, described);
+        self.tally.compare(kind, &without_cells(breach), &without_cells(verdict), described);
+        self.tally.compare(FOUR_CELLS, &breach.cells_left, &verdict.cells_left, described);
         let ours = prove_then_verify(&job, &randomness, &witness, p.scratch_need(), transcript.len());
         self.tally.compare(FOUR_OURS, &ours, &breach, described);
         self.tally.occurred(CONDITIONS, format!("{:>2}", breach.number));
@@ -277,22 +261,15 @@ impl Context {
         let p = &instance.parameters;
         let job = instance.job_words();
         let randomness = instance.randomness_words();
-        let modelled = checks::verdict(
-            &Job::read(&job),
-            &Randomness::read(p, &randomness),
-            &Transcript::read(p, transcript),
-        );
+        let modelled =
+            checks::verdict(&Job::read(&job), &Randomness::read(p, &randomness), &Transcript::read(p, transcript));
         let described = || format!("verify ({purpose}) {p:?}");
         let by_the_rust = || rust::verify(&rust::Job::new(&job), &randomness, transcript);
         let answer = match Source::of(Call::Verify, p, transcript, &modelled) {
             Source::Rust => {
                 let answer = by_the_rust();
-                self.tally
-                    .compare(VERIFIER, &without_cells(modelled), &answer, described);
-                Answer {
-                    cells_left: modelled.cells_left,
-                    ..answer
-                }
+                self.tally.compare(VERIFIER, &without_cells(modelled), &answer, described);
+                Answer { cells_left: modelled.cells_left, ..answer }
             }
             Source::OneKind | Source::Apart => modelled,
             Source::LargeZ => {
@@ -311,10 +288,7 @@ impl Context {
             third: transcript.to_vec(),
             scratch: p.scratch_need() + spare,
             output: 0,
-            expected: Expected {
-                answer,
-                worked: Some(vec![]),
-            },
+            expected: Expected { answer, worked: Some(vec![]) },
         });
         answer
     }
@@ -322,10 +296,7 @@ impl Context {
 
 /// A verdict as the Rust gives it: without the number of cells.
 fn without_cells(verdict: Answer) -> Answer {
-    Answer {
-        cells_left: 0,
-        ..verdict
-    }
+    Answer { cells_left: 0, ..verdict }
 }
 
 /// How many of the cells of an acceptance have something left.
@@ -390,10 +361,7 @@ fn by_the_rust(job: &[u32], randomness: &[u32], witness: &[u32]) -> (Answer, Vec
 impl Tally {
     /// Compares the library's answer with the expected one.
     pub fn library(&mut self, case: &Case) {
-        let mut expected = Seen {
-            answer: case.expected.answer,
-            ..Seen::default()
-        };
+        let mut expected = Seen { answer: case.expected.answer, ..Seen::default() };
         let answer = &case.expected.answer;
         let source = |_| Source::of(case.call, &case.parameters(), &case.third, answer);
         let kind = match case.expected.worked.as_ref().map(source) {
@@ -416,17 +384,8 @@ impl Tally {
         if case.call == Call::Prove {
             let slices = [&case.job[..], &case.randomness, &case.third];
             let ours = library::slices::judged(slices, case.scratch, case.output);
-            let refused = if kind == REFUSED {
-                case.expected.answer
-            } else {
-                Answer::FINE
-            };
-            self.compare(
-                JUDGED,
-                &(ours.number, ours.place),
-                &(refused.number, refused.place),
-                || case.describe(),
-            );
+            let refused = if kind == REFUSED { case.expected.answer } else { Answer::FINE };
+            self.compare(JUDGED, &(ours.number, ours.place), &(refused.number, refused.place), || case.describe());
         }
     }
 }
@@ -464,11 +423,7 @@ fn ours(case: &Case) -> Seen {
         output_after[GUARD..GUARD + words.len()].copy_from_slice(words);
     }
     let first = |x: &[u32], y: &[u32]| x.iter().zip(y).position(|(a, b)| a != b);
-    Seen {
-        answer,
-        scratch: first(&scratch, &scratch_after),
-        output: first(&output, &output_after),
-    }
+    Seen { answer, scratch: first(&scratch, &scratch_after), output: first(&output, &output_after) }
 }
 
 fn row(call: Call, number: u32) -> String {
@@ -481,25 +436,13 @@ fn prove_then_verify(job: &[u32], randomness: &[u32], witness: &[u32], scratch: 
     let mut made = vec![0; output];
     let proved = library::whole(
         Call::Prove,
-        library::Handed {
-            job,
-            randomness,
-            third: witness,
-            scratch: &mut scratch,
-            output: &mut made,
-        },
+        library::Handed { job, randomness, third: witness, scratch: &mut scratch, output: &mut made },
     );
     if proved.number > 0 {
         return proved;
     }
     library::whole(
         Call::Verify,
-        library::Handed {
-            job,
-            randomness,
-            third: &made,
-            scratch: &mut scratch,
-            output: &mut [],
-        },
+        library::Handed { job, randomness, third: &made, scratch: &mut scratch, output: &mut [] },
     )
 }

@@ -109,12 +109,7 @@ impl Instance {
         randomness.push((0..counts[5]).map(|_| random.word() & 1).collect());
         randomness.push((0..counts[6]).map(|_| random.word()).collect());
         let witness = (0..p.witness_counts()[0]).map(|_| coefficient(random, size)).collect();
-        let mut instance = Instance {
-            parameters,
-            job,
-            randomness,
-            witness,
-        };
+        let mut instance = Instance { parameters, job, randomness, witness };
         instance.meet();
         instance
     }
@@ -190,9 +185,7 @@ impl Instance {
 }
 
 /// Bases from the least to the greatest, and about the ends of the centred range.
-pub const BASES: [u32; 16] = [
-    2, 3, 4, 5, 7, 10, 16, 255, 256, 65535, 65536, 65537, HALF, HALF + 1, Q - 2, Q - 1,
-];
+pub const BASES: [u32; 16] = [2, 3, 4, 5, 7, 10, 16, 255, 256, 65535, 65536, 65537, HALF, HALF + 1, Q - 2, Q - 1];
 
 pub const PARTS: [usize; 10] = [1, 2, 3, 4, 5, 8, 16, 21, 31, 32];
 
@@ -243,9 +236,5 @@ pub fn apart(random: &mut Random, i: usize) -> Parameters {
         _ if aggregations > least => aggregations.min(16),
         _ => 16,
     };
-    Parameters {
-        kappa,
-        aggregations,
-        ..p
-    }
+    Parameters { kappa, aggregations, ..p }
 }

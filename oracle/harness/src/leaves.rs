@@ -260,8 +260,36 @@ fn row(leaf: Leaf, number: u32) -> String {
 
 /// Words about the ends of each range that document 01 names.
 const WORDS: [u32; 30] = [
-    0, 1, 2, 3, 4, 5, 6, 7, 10, 255, 256, 65535, 65536, 65537, 1073741823, 1073741824, 1073741825, 2147483646,
-    2147483647, 2147483648, 2147483649, 3221225471, 4294901760, Q - 10, Q - 7, Q - 5, Q - 3, Q - 2, Q - 1, Q,
+    0,
+    1,
+    2,
+    3,
+    4,
+    5,
+    6,
+    7,
+    10,
+    255,
+    256,
+    65535,
+    65536,
+    65537,
+    1073741823,
+    1073741824,
+    1073741825,
+    2147483646,
+    2147483647,
+    2147483648,
+    2147483649,
+    3221225471,
+    4294901760,
+    Q - 10,
+    Q - 7,
+    Q - 5,
+    Q - 3,
+    Q - 2,
+    Q - 1,
+    Q,
 ];
 
 /// Those, with the ends of the centred range and of all words where they are others: over 2^32 − 1 none is.
@@ -295,10 +323,7 @@ fn any_element(random: &mut Random) -> Vec<u32> {
 
 /// Zero, constants at the ends of the range, powers of X with either sign, and one random element.
 fn special_elements(random: &mut Random) -> Vec<Vec<u32>> {
-    let mut elements: Vec<Vec<u32>> = [0, 1, HALF, HALF + 1, Q - 1]
-        .iter()
-        .map(|&word| vec![word; DEGREE])
-        .collect();
+    let mut elements: Vec<Vec<u32>> = [0, 1, HALF, HALF + 1, Q - 1].iter().map(|&word| vec![word; DEGREE]).collect();
     for k in [0, 1, 31, 32, 63] {
         for word in [1, 65536, Q - 1] {
             let mut power = vec![0; DEGREE];

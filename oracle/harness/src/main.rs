@@ -91,9 +91,7 @@ fn compare(seed: u64, count: u64, largest: bool) -> bool {
     context.tally.stage("test loads");
     let base = whole::base(&mut random, whole::pair_parameters());
     families(&mut context, &mut random, &base, 10);
-    context
-        .tally
-        .stage("one instance, with every fault and every check broken");
+    context.tally.stage("one instance, with every fault and every check broken");
     whole::limits(&mut context, &mut random);
     context.tally.stage("sizes at their limits");
     whole::one_kind(&mut context, &mut random, 2);

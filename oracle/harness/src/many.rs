@@ -189,13 +189,7 @@ fn desk(random: &mut Random, mut parameters: Parameters, kind: Kind) -> Desk {
     first.parameters = parameters;
     let digits = made.iter().map(|(_, _, x)| x.digits).collect();
     let (randomness, sent) = made.into_iter().map(|(randomness, sent, _)| (randomness, sent)).unzip();
-    Desk {
-        parameters,
-        job: first.job_words(),
-        randomness,
-        sent,
-        digits,
-    }
+    Desk { parameters, job: first.job_words(), randomness, sent, digits }
 }
 
 /// What is done to one transcript, or to its randomness, to get an answer.

@@ -4,11 +4,11 @@ use crate::instances::{small, Instance, Size, LOOSE};
 use crate::random::Random;
 use crate::tally::Tally;
 use crate::whole::modelled;
+use model::checks;
 use model::leaves::{add, canonical, centre, mul, neg, Q};
 use model::mistyped::{mistyped, smallest, Mistyped};
 use model::refusals::Handed;
 use model::words::{join, Job, Parameters, Randomness, Transcript, PARAMETERS};
-use model::checks;
 
 pub const ANSWERS: &str = "answers of the call on mistyped constants";
 pub const COUNTS: &str = "entries of a list of mistyped constants";
@@ -156,9 +156,7 @@ fn put_in(tally: &mut Tally, given: &Given, told: &Mistyped) {
 /// An answer that is known beforehand.
 fn planted(tally: &mut Tally, purpose: &str, given: &Given, aim: (u32, usize)) {
     let told = compare(tally, purpose, given);
-    tally.compare(PLANTED, &(told.number, told.place), &(aim.0, aim.1 as u64), || {
-        format!("{purpose}: {aim:?}")
-    });
+    tally.compare(PLANTED, &(told.number, told.place), &(aim.0, aim.1 as u64), || format!("{purpose}: {aim:?}"));
 }
 
 /// How the weights of the rows are made.
@@ -206,7 +204,7 @@ fn weigh(random: &mut Random, instance: &mut Instance, weights: Weights) {
                 }
             }
             Weights::SomeZero => {
-                if (k + signs.len()) % 3 == 0 {
+                if (k + signs.len()).is_multiple_of(3) {
                     row.fill(0);
                 }
             }
@@ -371,7 +369,7 @@ const RECORDED: u32 = 20;
 fn recorded(k: u32) -> Given {
     let sizes = [1, 1, 4, 1, 1, 1, 5, 32, 256, 4, 4, 4];
     let lengths = model::load::needs(sizes).expect("parameters within their limits");
-    let made = model::load::load(sizes, k, lengths).ok().expect("the buffers are long enough");
+    let made = model::load::load(sizes, k, lengths).expect("the buffers are long enough");
     let p = Parameters::read(&made.job[1..1 + PARAMETERS]);
     let mut randomness = made.randomness;
     let psi = 2 + 16384 * p.n * p.r;

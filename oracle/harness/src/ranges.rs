@@ -28,14 +28,8 @@ enum Width {
     AnyOrder,
 }
 
-const WIDTHS: [Width; 6] = [
-    Width::AroundZero,
-    Width::Above,
-    Width::Below,
-    Width::Single,
-    Width::Whole,
-    Width::AnyOrder,
-];
+const WIDTHS: [Width; 6] =
+    [Width::AroundZero, Width::Above, Width::Below, Width::Single, Width::Whole, Width::AnyOrder];
 
 /// A number from 0 to the largest, small ones and the ends more often.
 fn size(random: &mut Random) -> i64 {
@@ -69,12 +63,7 @@ fn compare(tally: &mut Tally, purpose: &str, job: &[u32], lows: &[i64], highs: &
     let expected = ranges(job, lows, highs);
     let ours = library::ranges::ranges(job, lows, highs);
     tally.compare(RANGES, &ours, &expected, || {
-        format!(
-            "{purpose}: a job of {} words, {} lows, {} highs",
-            job.len(),
-            lows.len(),
-            highs.len()
-        )
+        format!("{purpose}: a job of {} words, {} lows, {} highs", job.len(), lows.len(), highs.len())
     });
     tally.occurred(ANSWERS, format!("{:>2}", expected.number));
     for vector in expected.vectors {
@@ -85,12 +74,8 @@ fn compare(tally: &mut Tally, purpose: &str, job: &[u32], lows: &[i64], highs: &
 
 /// The job with another bound of A.
 fn with_bound(instance: &Instance, bound: u128) -> Vec<u32> {
-    let mut changed = Instance {
-        parameters: instance.parameters,
-        job: instance.job.clone(),
-        randomness: vec![],
-        witness: vec![],
-    };
+    let mut changed =
+        Instance { parameters: instance.parameters, job: instance.job.clone(), randomness: vec![], witness: vec![] };
     changed.parameters.bounds[0] = bound.min(LOOSE);
     changed.job_words()
 }
@@ -110,9 +95,7 @@ fn bounds(tally: &mut Tally, instance: &Instance, lows: &[i64], highs: &[i64]) {
 /// A fault of the lists, planted in a fit input: its number and place are known.
 fn planted(tally: &mut Tally, job: &[u32], lows: &[i64], highs: &[i64], aim: (u32, usize)) {
     let told = compare(tally, "a fault planted", job, lows, highs);
-    tally.compare(PLANTED, &(told.number, told.place), &(aim.0, aim.1 as u64), || {
-        format!("{aim:?}")
-    });
+    tally.compare(PLANTED, &(told.number, told.place), &(aim.0, aim.1 as u64), || format!("{aim:?}"));
 }
 
 fn faults(tally: &mut Tally, random: &mut Random, job: &[u32], lows: &[i64], highs: &[i64]) {
@@ -255,7 +238,7 @@ fn one(tally: &mut Tally, random: &mut Random, parameters: Parameters, width: Wi
 fn recorded_job(k: u32) -> Vec<u32> {
     let sizes = [1 + k % 2, 1 + k % 3, 4, 1, 1, 1, 1, 32, 256, 4, 4, 4];
     let lengths = model::load::needs(sizes).expect("parameters within their limits");
-    model::load::load(sizes, k, lengths).ok().expect("the buffers are long enough").job
+    model::load::load(sizes, k, lengths).expect("the buffers are long enough").job
 }
 
 /// The lows and highs of recorded case k: ranges about zero, narrow and wide; the last four with a fault.
@@ -307,6 +290,9 @@ pub fn print_sums() {
             add(u64::from(v.meets));
             [v.least, v.greatest].into_iter().flat_map(halves).for_each(&mut add);
         }
-        println!("    {{{{{}u, {}u, {}u}}, {}, {}, {sum:#018x}u}},", words[0], words[1], words[2], told.number, told.place);
+        println!(
+            "    {{{{{}u, {}u, {}u}}, {}, {}, {sum:#018x}u}},",
+            words[0], words[1], words[2], told.number, told.place
+        );
     }
 }

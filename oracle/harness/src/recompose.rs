@@ -16,9 +16,7 @@ const DIGITS: &str = "library: recompose with the model's";
 const BACK: &str = "model: a value is back with nothing left";
 
 /// The values about the ends of the sizes.
-const EDGES: [u32; 10] = [
-    0, 1, 2, HALF - 1, HALF, HALF + 1, HALF + 2, Q - 3, Q - 2, Q - 1,
-];
+const EDGES: [u32; 10] = [0, 1, 2, HALF - 1, HALF, HALF + 1, HALF + 2, Q - 3, Q - 2, Q - 1];
 
 /// Every base of 2 to 300, the powers of two with their neighbours, the largest ones, and those that are refused.
 fn bases() -> Vec<u32> {
@@ -43,8 +41,7 @@ impl Cases<'_> {
 
     fn digits(&mut self, base: u32, digits: &[u32]) {
         let expected = Self::answer(operands(base, digits), || recompose(base, digits));
-        self.0
-            .occurred(ANSWERS, format!("recompose    {:>2}, place {}", expected[0], expected[1].min(2)));
+        self.0.occurred(ANSWERS, format!("recompose    {:>2}, place {}", expected[0], expected[1].min(2)));
         let ours = library::recompose::recompose(base, digits);
         self.0.compare(DIGITS, &ours, &expected, || {
             format!("base {base}, {} digits {:?}", digits.len(), &digits[..digits.len().min(33)])
@@ -57,9 +54,7 @@ impl Cases<'_> {
         let none_left = left(base, parts, a) == 0;
         self.0.occurred(ANSWERS, if none_left { "nothing left" } else { "something left" });
         let back = recompose(base, &of_a) == a;
-        self.0.compare(BACK, &back, &none_left, || {
-            format!("base {base}, {parts} parts of {a}")
-        });
+        self.0.compare(BACK, &back, &none_left, || format!("base {base}, {parts} parts of {a}"));
         self.digits(base, &of_a);
     }
 

@@ -69,10 +69,7 @@ impl Default for Recorder {
         Recorder {
             leaves: File::default(),
             calls: File::default(),
-            slices: CAPACITY.map(|capacity| Slice {
-                words: vec![0; capacity],
-                length: 0,
-            }),
+            slices: CAPACITY.map(|capacity| Slice { words: vec![0; capacity], length: 0 }),
         }
     }
 }
@@ -155,13 +152,7 @@ impl Recorder {
             Call::Verify => 6,
         };
         assert!(case.scratch <= SCRATCH_CAPACITY);
-        let mut body = vec![
-            call,
-            case.scratch as u32,
-            case.output as u32,
-            answer.number,
-            answer.index,
-        ];
+        let mut body = vec![call, case.scratch as u32, case.output as u32, answer.number, answer.index];
         body.extend([answer.place as u32, (answer.place >> 32) as u32]);
         for figure in [answer.first, answer.second] {
             body.extend((0..4).map(|k| (figure >> (32 * k)) as u32));

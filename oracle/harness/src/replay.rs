@@ -18,10 +18,8 @@ const MODELLED_CALL: &str = "model: calls on whole slices with the recorded ones
 /// Calls `take` with each record's kind and body; true where the file is whole.
 fn records(path: &Path, mut take: impl FnMut(u32, &[u32])) -> bool {
     let bytes = std::fs::read(path).expect("the file can be read");
-    let words: Vec<u32> = bytes
-        .chunks_exact(4)
-        .map(|c| u32::from_le_bytes(c.try_into().expect("four bytes")))
-        .collect();
+    let words: Vec<u32> =
+        bytes.chunks_exact(4).map(|c| u32::from_le_bytes(c.try_into().expect("four bytes"))).collect();
     let mut at = 0;
     let mut count = 0;
     while at + 2 <= words.len() {
@@ -76,11 +74,7 @@ fn leaf(tally: &mut Tally, kind: u32, body: &[u32]) {
     let (operands, rest) = body.split_at(leaf.operands());
     let mut result = rest[2..].to_vec();
     result.resize(leaf.results(), 0);
-    let recorded = LeafAnswer {
-        number: rest[0],
-        place: rest[1],
-        result,
-    };
+    let recorded = LeafAnswer { number: rest[0], place: rest[1], result };
     let described = || format!("{} {operands:?}", leaf.name());
     let modelled = leaf.answer(operands, calls::value);
     tally.compare(MODELLED_LEAF, &modelled, &recorded, described);

@@ -35,10 +35,7 @@ pub fn elements(words: &[u32]) -> Vec<Rq> {
 }
 
 pub fn vectors(words: &[u32], length: usize) -> Vec<RqVector> {
-    words
-        .chunks_exact(length * Rq::DEGREE)
-        .map(|chunk| RqVector::new(elements(chunk)))
-        .collect()
+    words.chunks_exact(length * Rq::DEGREE).map(|chunk| RqVector::new(elements(chunk))).collect()
 }
 
 pub fn triangle(words: &[u32], r: usize) -> RqMatrix {
@@ -51,10 +48,7 @@ pub fn triangle(words: &[u32], r: usize) -> RqMatrix {
 }
 
 pub fn triangles(words: &[u32], r: usize) -> Vec<RqMatrix> {
-    words
-        .chunks_exact(r * (r + 1) / 2 * Rq::DEGREE)
-        .map(|chunk| triangle(chunk, r))
-        .collect()
+    words.chunks_exact(r * (r + 1) / 2 * Rq::DEGREE).map(|chunk| triangle(chunk, r)).collect()
 }
 
 pub fn vector_words(vector: &RqVector) -> Vec<u32> {
@@ -102,10 +96,7 @@ impl Job {
         let s = split(job);
         let p = Parameters::read(&s[0]);
         let constraints = |words: &[u32]| -> Vec<Vec<RqVector>> {
-            words
-                .chunks_exact(p.r * p.n * Rq::DEGREE)
-                .map(|chunk| vectors(chunk, p.n))
-                .collect()
+            words.chunks_exact(p.r * p.n * Rq::DEGREE).map(|chunk| vectors(chunk, p.n)).collect()
         };
         let scheme = |k: usize, width: usize| {
             let matrix = RqMatrix::new(vectors(&s[7 + k], width), false);
@@ -200,9 +191,7 @@ pub fn silence_panics() {
 
 /// A witness as the Rust has it.
 pub fn witness(job: &Job, witness: &[u32]) -> Witness {
-    Witness {
-        s: vectors(&witness[1..], job.parameters.rank),
-    }
+    Witness { s: vectors(&witness[1..], job.parameters.rank) }
 }
 
 /// b0 and b of a job's constraints by `calculate_b_constraint`: the constant coefficient of each constant-term constraint's left side, and the words of each
@@ -211,15 +200,11 @@ pub fn right_sides(job: &Job, witness: &Witness) -> [Vec<u32>; 2] {
     let s = &job.statement;
     let sides = |a: &[RqMatrix], phi: &[Vec<RqVector>]| -> Vec<Rq> {
         let each = a.iter().zip(phi);
-        each.map(|(a, phi)| calculate_b_constraint(&witness.s, a, phi))
-            .collect()
+        each.map(|(a, phi)| calculate_b_constraint(&witness.s, a, phi)).collect()
     };
     let constants = sides(&s.a_ct, &s.phi_ct);
     let rings = sides(&s.a_constraint, &s.phi_constraint);
-    [
-        constants.iter().map(|side| side.coeffs()[0].get_value()).collect(),
-        rings.iter().flat_map(words).collect(),
-    ]
+    [constants.iter().map(|side| side.coeffs()[0].get_value()).collect(), rings.iter().flat_map(words).collect()]
 }
 
 /// `LabradorProver::prove`, over the randomness that is loaded.
@@ -251,10 +236,7 @@ pub fn prove(job: &Job, randomness: &[u32], witness_words: &[u32]) -> (Answer, V
         Ok(Err(ProverError::CommitError(_))) => {
             let scheme = &job.crs.commitment_scheme_a;
             let first = witness.s.iter().position(|s| scheme.commit(s).is_err());
-            (
-                Answer::refused(13, first.expect("a vector that does not commit")),
-                vec![],
-            )
+            (Answer::refused(13, first.expect("a vector that does not commit")), vec![])
         }
         Ok(Err(other)) => panic!("the Rust's prover answers otherwise: {other}"),
         Err(()) => {
@@ -283,11 +265,13 @@ pub fn proof(job: &Job, transcript: &[u32]) -> LabradorTranscript<Playback> {
 }
 
 /// `LabradorVerifier::verify`, over the randomness that is loaded.
+#[allow(clippy::result_large_err)] // the error is the published Rust's
 pub fn run_verifier(job: &Job, proof: &LabradorTranscript<Playback>) -> Result<bool, VerifierError> {
     LabradorVerifier::new(&job.parameters, &job.crs, &job.statement).verify(proof)
 }
 
 /// The verifier's answer.
+#[allow(clippy::result_large_err)] // the error is the published Rust's
 pub fn verify(job: &Job, randomness: &[u32], transcript: &[u32]) -> Answer {
     load(randomness);
     let proof = proof(job, transcript);
@@ -310,11 +294,7 @@ fn failed(job: &Job, error: VerifierError, proof: &LabradorTranscript<Playback>)
             "Step 14 in verification" => Answer::over(23, norm, allowed),
             other => panic!("the Rust's verifier answers otherwise: {other}"),
         },
-        VerifierError::B0Mismatch {
-            index,
-            expected,
-            computed,
-        } => Answer {
+        VerifierError::B0Mismatch { index, expected, computed } => Answer {
             number: 22,
             index: index as u32,
             // `expected` is the value that was sent

@@ -8,6 +8,7 @@ use model::leaves::{HALF, Q};
 use model::sheds::{add_projections, shed_projection, shed_rows, Made, Run};
 use model::words::{join, split, Parameters, PARAMETERS};
 use model::{Answer, Call};
+use std::slice::from_ref;
 
 pub const RUNS: &str = "answers of the calls on a run";
 pub const ADDED: &str = "answers of the call that adds two p";
@@ -219,7 +220,7 @@ fn one_split(tally: &mut Tally, random: &mut Random, instance: &Instance, turn: 
     let case = || format!("{ends:?} of {:?}", instance.parameters);
     tally.compare(SUMS, &sums[0], &whole.0, case);
     tally.compare(LAID, &rows, &whole.1, case);
-    tally.compare(WHOLE, &(sums.swap_remove(0), rows), &(join(&[sent.p.clone()]), join(&sent.sections()[5..6])), case);
+    tally.compare(WHOLE, &(sums.swap_remove(0), rows), &(join(from_ref(&sent.p)), join(&sent.sections()[5..6])), case);
 }
 
 /// A's bound at each vector's norm and one below: 13 names the run's first vector above it, counted over the whole job. The
@@ -247,11 +248,7 @@ struct Fault {
 }
 
 fn fault(name: &'static str, aim: (u32, usize), change: impl Fn(&mut Given) + 'static) -> Fault {
-    Fault {
-        name,
-        change: Box::new(change),
-        aim,
-    }
+    Fault { name, change: Box::new(change), aim }
 }
 
 fn set(words: &mut [u32], at: usize, word: u32) {
@@ -281,7 +278,9 @@ fn faults(given: &Given, p: &Parameters) -> Vec<Fault> {
         all.extend([
             fault("no projection words", (7, 0), |g| g.projection.clear()),
             fault("the projection's count", (7, 0), |g| g.projection[0] += 1),
-            fault("projection words that end early", (7, projection - 1), move |g| g.projection.truncate(projection - 1)),
+            fault("projection words that end early", (7, projection - 1), move |g| {
+                g.projection.truncate(projection - 1)
+            }),
             fault("a projection word too many", (7, projection), |g| g.projection.push(0)),
             fault("the first projection word", (8, 1), |g| set(&mut g.projection, 1, Q)),
             fault("the last projection word", (8, projection - 1), move |g| set(&mut g.projection, projection - 1, Q)),
@@ -477,11 +476,12 @@ pub fn print_sums() {
         let end = first + 1 + k / 3 % (r - first);
         let sizes = [n, r, kappa, 1, 1, 1, 1, 32, 256, 4, 4, 4];
         let lengths = model::load::needs(sizes).expect("parameters within their limits");
-        let mut load = model::load::load(sizes, k, lengths).ok().expect("the buffers are long enough");
+        let mut load = model::load::load(sizes, k, lengths).expect("the buffers are long enough");
         if k >= 8 {
             set_bound(&mut load.job, 42 * n);
         }
-        let part = |words: &[u32], each: u32| join(&[words[1 + (each * first) as usize..1 + (each * end) as usize].to_vec()]);
+        let part =
+            |words: &[u32], each: u32| join(&[words[1 + (each * first) as usize..1 + (each * end) as usize].to_vec()]);
         let (projection, vectors) = (part(&load.randomness, 16384 * n), part(&load.witness, 64 * n));
         let run = Run {
             job: &load.job,

@@ -47,17 +47,12 @@ pub fn lengths(call: SliceCall, sizes: &[usize]) -> ([usize; 2], usize) {
         (SliceCall::InnerProduct, &[n]) => ([D * n, D * n], D),
         (SliceCall::Combination, &[n]) => ([D * n, n], D),
         (SliceCall::Projection, &[n, r]) => ([r * 256 * D * n, r * D * n], 256),
-        (SliceCall::Phi, &[r, n, count, number]) => (
-            [D * r * n * count, r * 256 * D * n + number * count + number * 256],
-            D * number * r * n,
-        ),
-        (SliceCall::U1, &[rows, t_cells, t_parts, g_cells, g_parts]) => (
-            [
-                D * rows * (t_cells * t_parts + g_cells * g_parts),
-                D * (t_cells + g_cells),
-            ],
-            D * rows,
-        ),
+        (SliceCall::Phi, &[r, n, count, number]) => {
+            ([D * r * n * count, r * 256 * D * n + number * count + number * 256], D * number * r * n)
+        }
+        (SliceCall::U1, &[rows, t_cells, t_parts, g_cells, g_parts]) => {
+            ([D * rows * (t_cells * t_parts + g_cells * g_parts), D * (t_cells + g_cells)], D * rows)
+        }
         _ => panic!("the sizes of {}", call.name()),
     }
 }
@@ -137,6 +132,7 @@ fn triangle_rows(cells: usize) -> usize {
 }
 
 /// What the Rust's function makes.
+#[allow(clippy::large_enum_variant)] // the benchmark times it, and the Rust makes no box
 pub enum Made {
     Element(Rq),
     Numbers(Vec<Zq>),
@@ -158,9 +154,7 @@ impl Operands {
     pub fn new(call: SliceCall, [first, second]: [&[u32]; 2], sizes: &[usize], base: u32) -> Self {
         match (call, sizes) {
             (SliceCall::InnerProduct, _) => Operands::InnerProduct(elements(first), elements(second)),
-            (SliceCall::Combination, &[n]) => {
-                Operands::Combination(elements(first), number_rows(second, n).concat())
-            }
+            (SliceCall::Combination, &[n]) => Operands::Combination(elements(first), number_rows(second, n).concat()),
             (SliceCall::Projection, &[n, r]) => Operands::Projection(projection(first, n, r), vectors(second, n)),
             (SliceCall::Phi, &[r, n, count, number]) => {
                 let (matrices, rest) = second.split_at(r * 256 * D * n);
@@ -200,24 +194,12 @@ impl Operands {
             Operands::InnerProduct(x, y) => Made::Element(compute_linear_combination(x, y)),
             Operands::Combination(x, factors) => Made::Element(compute_linear_combination(x, factors)),
             Operands::Projection(projection, s) => Made::Numbers(projection.compute_batch_projection(s)),
-            Operands::Phi {
-                parameters,
-                phi,
-                conjugated,
-                psi,
-                omega,
-            } => {
+            Operands::Phi { parameters, phi, conjugated, psi, omega } => {
                 let mut made = ZeroConstantFunctionsAggregation::new(parameters);
                 made.calculate_agg_phi_double_prime(phi, conjugated, psi, omega);
                 Made::Vectors(made.get_phi_double_prime().concat())
             }
-            Operands::U1 {
-                crs,
-                t,
-                g,
-                base,
-                parts: [t_parts, g_parts],
-            } => {
+            Operands::U1 { crs, t, g, base, parts: [t_parts, g_parts] } => {
                 let parts = |parts: usize| DecompositionParameters::new(*base, parts).expect("within limits");
                 Made::Vectors(vec![compute_u1(crs, t, parts(*t_parts), g, parts(*g_parts))])
             }

@@ -111,10 +111,7 @@ impl Tally {
             "\n{} comparisons; of calls of the library {} with the Rust and {} with the model",
             all.made, rust.made, model.made
         );
-        println!(
-            "{} differ, {never} answers or comparisons that must occur did not",
-            all.differ
-        );
+        println!("{} differ, {never} answers or comparisons that must occur did not", all.differ);
         all.differ == 0 && never == 0
     }
 }

@@ -97,11 +97,7 @@ fn starts(counts: &[usize]) -> (Vec<usize>, usize) {
 /// before a section's last word; a word too many.
 fn layout_faults(slice: Slice, stage: usize, number: u32, counts: &[usize], from: usize) -> Vec<Fault> {
     let (starts, length) = starts(counts);
-    let fault = |place: usize, kind: Kind| Fault {
-        stage,
-        aim: (number, place),
-        kind,
-    };
+    let fault = |place: usize, kind: Kind| Fault { stage, aim: (number, place), kind };
     let mut faults = vec![fault(length, Kind::Surplus(slice))];
     for (&at, count) in starts.iter().zip(counts).skip(from) {
         faults.push(fault(at, Kind::Change(slice, at, 1)));
@@ -115,16 +111,8 @@ fn layout_faults(slice: Slice, stage: usize, number: u32, counts: &[usize], from
 
 /// The first and the last word of a section out of range.
 fn word_faults(slice: Slice, stage: usize, number: u32, start: usize, count: usize, words: &[u32]) -> Vec<Fault> {
-    let ends = if count > 0 {
-        vec![start + 1, start + count]
-    } else {
-        vec![]
-    };
-    let fault = |at: usize, word: u32| Fault {
-        stage,
-        aim: (number, at),
-        kind: Kind::Word(slice, at, word),
-    };
+    let ends = if count > 0 { vec![start + 1, start + count] } else { vec![] };
+    let fault = |at: usize, word: u32| Fault { stage, aim: (number, at), kind: Kind::Word(slice, at, word) };
     words.iter().flat_map(|&word| ends.iter().map(move |&at| fault(at, word))).collect()
 }
 
@@ -142,25 +130,13 @@ fn faults(p: &Parameters, call: Call) -> Vec<Fault> {
                 // 0 constraints of one kind: not refused where there are some of the other
                 continue;
             }
-            faults.push(Fault {
-                stage: 1,
-                aim: (4, 1 + k),
-                kind: Kind::Word(Slice::Job, 1 + k, word),
-            });
+            faults.push(Fault { stage: 1, aim: (4, 1 + k), kind: Kind::Word(Slice::Job, 1 + k, word) });
         }
     }
     // both kinds empty: no stage of its own, so that no other fault sets these words
-    faults.push(Fault {
-        stage: ALONE,
-        aim: (4, 7),
-        kind: Kind::NoConstraint,
-    });
+    faults.push(Fault { stage: ALONE, aim: (4, 7), kind: Kind::NoConstraint });
     for aggregations in [p.least_aggregations() - 1, 1] {
-        faults.push(Fault {
-            stage: 2,
-            aim: (5, 12),
-            kind: Kind::Word(Slice::Job, 12, aggregations as u32),
-        });
+        faults.push(Fault { stage: 2, aim: (5, 12), kind: Kind::Word(Slice::Job, 12, aggregations as u32) });
     }
     // 3: the other sections' layout; 4: their words
     let counts = p.job_counts();
@@ -192,20 +168,12 @@ fn faults(p: &Parameters, call: Call) -> Vec<Fault> {
     // 9: scratch; 10: output
     let need = p.scratch_need();
     for length in [need - 1, 0] {
-        faults.push(Fault {
-            stage: 9,
-            aim: (1, need),
-            kind: Kind::Scratch(length),
-        });
+        faults.push(Fault { stage: 9, aim: (1, need), kind: Kind::Scratch(length) });
     }
     if call != Call::Verify {
         let need = output_need(p, call);
         for length in [need - 1, 0] {
-            faults.push(Fault {
-                stage: 10,
-                aim: (2, need),
-                kind: Kind::Output(length),
-            });
+            faults.push(Fault { stage: 10, aim: (2, need), kind: Kind::Output(length) });
         }
     }
     faults
@@ -229,10 +197,7 @@ pub fn unfit(context: &mut Context, random: &mut Random, instance: &Instance, ca
         third: third.clone(),
         scratch: p.scratch_need(),
         output: output_need(p, call),
-        expected: Expected {
-            answer: Answer::FINE,
-            worked: None,
-        },
+        expected: Expected { answer: Answer::FINE, worked: None },
     };
     let faults = faults(p, call);
     for fault in &faults {
@@ -240,9 +205,7 @@ pub fn unfit(context: &mut Context, random: &mut Random, instance: &Instance, ca
         fault.make(&mut case);
         context.unfit(case, fault.aim);
     }
-    let stages: Vec<Vec<&Fault>> = (0..=10)
-        .map(|stage| faults.iter().filter(|f| f.stage == stage).collect())
-        .collect();
+    let stages: Vec<Vec<&Fault>> = (0..=10).map(|stage| faults.iter().filter(|f| f.stage == stage).collect()).collect();
     for (k, earlier) in stages.iter().enumerate() {
         for later in &stages[k..] {
             if earlier.is_empty() || later.is_empty() {

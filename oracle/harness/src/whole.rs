@@ -103,11 +103,7 @@ pub fn random_instance(context: &mut Context, random: &mut Random, parameters: P
         let figures = instance.figures(&modelled(&instance));
         tighten(&mut instance.parameters, &figures, tight);
     }
-    let purpose = if tight == Tight::Loose {
-        off.name()
-    } else {
-        tight.name()
-    };
+    let purpose = if tight == Tight::Loose { off.name() } else { tight.name() };
     let spare = random.below(4);
     if let Some(transcript) = context.prover(purpose, &instance, spare) {
         damage_at_random(context, random, &instance, &transcript);
@@ -149,89 +145,24 @@ pub fn limits(context: &mut Context, random: &mut Random) {
         beta_prime_sq: LOOSE,
         bounds: [LOOSE; 4],
     };
-    let eight = Parameters {
-        log_q: 16,
-        kappa: 8,
-        aggregations: 8,
-        ..base
-    };
+    let eight = Parameters { log_q: 16, kappa: 8, aggregations: 8, ..base };
     let all = [
         ("n at its limit", Parameters { n: 64, ..base }),
         ("r at its limit", Parameters { r: 16, ..base }),
-        (
-            "κ1 and κ2 at their limits",
-            Parameters {
-                kappa1: 16,
-                kappa2: 16,
-                ..base
-            },
-        ),
+        ("κ1 and κ2 at their limits", Parameters { kappa1: 16, kappa2: 16, ..base }),
         ("κ at its limit", Parameters { kappa: 16, ..base }),
-        (
-            "L at its limit",
-            Parameters {
-                aggregations: 32,
-                ..base
-            },
-        ),
-        (
-            "κ and L at their limits",
-            Parameters {
-                kappa: 16,
-                aggregations: 32,
-                ..base
-            },
-        ),
+        ("L at its limit", Parameters { aggregations: 32, ..base }),
+        ("κ and L at their limits", Parameters { kappa: 16, aggregations: 32, ..base }),
         ("K at its limit", Parameters { ring: 64, ..base }),
         ("l at its limit", Parameters { constant: 64, ..base }),
         ("log_q at its least", eight),
-        (
-            "log_q 31",
-            Parameters {
-                log_q: 31,
-                kappa: 5,
-                aggregations: 5,
-                ..base
-            },
-        ),
+        ("log_q 31", Parameters { log_q: 31, kappa: 5, aggregations: 5, ..base }),
         ("log_q 32", base),
-        (
-            "b at its least, t1 and t2 at their limits",
-            Parameters {
-                b: 2,
-                t1: 32,
-                t2: 32,
-                ..base
-            },
-        ),
+        ("b at its least, t1 and t2 at their limits", Parameters { b: 2, t1: 32, t2: 32, ..base }),
         ("b at its limit", Parameters { b: Q - 1, ..base }),
-        (
-            "t1 and t2 at their least",
-            Parameters {
-                t1: 1,
-                t2: 1,
-                r: 2,
-                ..base
-            },
-        ),
-        (
-            "t1 at its limit",
-            Parameters {
-                t1: 32,
-                r: 2,
-                b: 3,
-                ..eight
-            },
-        ),
-        (
-            "t2 at its limit",
-            Parameters {
-                t2: 32,
-                r: 2,
-                b: 3,
-                ..base
-            },
-        ),
+        ("t1 and t2 at their least", Parameters { t1: 1, t2: 1, r: 2, ..base }),
+        ("t1 at its limit", Parameters { t1: 32, r: 2, b: 3, ..eight }),
+        ("t2 at its limit", Parameters { t2: 32, r: 2, b: 3, ..base }),
     ];
     for (purpose, parameters) in all {
         for size in [Size::Bits(4), Size::Ends] {
@@ -316,13 +247,7 @@ pub fn few(context: &mut Context, random: &mut Random) {
         (with(1, 3, 32, 16, 2, 8), Size::Bits(0)),
     ];
     for (parameters, size) in all {
-        at_bounds(
-            context,
-            random,
-            "log_q, b, t1 and t2 within their limits",
-            parameters,
-            size,
-        );
+        at_bounds(context, random, "log_q, b, t1 and t2 within their limits", parameters, size);
     }
 }
 
@@ -377,11 +302,7 @@ pub fn apart(context: &mut Context, random: &mut Random, pairs: usize) {
 /// and, with pairs as often as asked, unfit slices of each call.
 pub fn one_kind(context: &mut Context, random: &mut Random, pairs: usize) {
     for (ring, constant) in [(0, 2), (2, 0)] {
-        let parameters = Parameters {
-            ring,
-            constant,
-            ..pair_parameters()
-        };
+        let parameters = Parameters { ring, constant, ..pair_parameters() };
         let instance = base(random, parameters);
         bounds(context, &instance);
         for off in Off::ALL {
@@ -428,13 +349,7 @@ pub fn large_z(context: &mut Context, random: &mut Random, instance: &Instance) 
 /// Parts too few for some cells and for all, exactly enough and one too few; and one cell with one coefficient alone
 /// that has something left (document 02, Item 5).
 pub fn lossy(context: &mut Context, random: &mut Random) {
-    let with = |b, t1, t2| Parameters {
-        r: if t1 > 4 { 1 } else { 2 },
-        b,
-        t1,
-        t2,
-        ..pair_parameters()
-    };
+    let with = |b, t1, t2| Parameters { r: if t1 > 4 { 1 } else { 2 }, b, t1, t2, ..pair_parameters() };
     let needed = |b| parts_needed(b) as usize;
     let all = [
         ("t1 and t2 too small for all cells", with(2, 1, 1), Size::Any),
@@ -620,12 +535,9 @@ pub fn broken_checks(context: &mut Context, instance: &Instance) {
     let run = |context: &mut Context, purpose: &'static str, broken: &[u32]| {
         let (instance, sent) = break_checks(&instance, &made, broken);
         let answer = context.verifier(purpose, &instance, &join(&sent.sections()), 0);
-        context.tally.compare(
-            BROKEN,
-            &Some(answer.number),
-            &broken.first().copied().or(Some(0)),
-            || format!("{broken:?}"),
-        );
+        context
+            .tally
+            .compare(BROKEN, &Some(answer.number), &broken.first().copied().or(Some(0)), || format!("{broken:?}"));
     };
     run(context, "no check broken", &[]);
     for (k, &first) in ORDER.iter().enumerate() {

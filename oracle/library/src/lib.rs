@@ -4,7 +4,6 @@ use model::calls::{Leaf, LeafAnswer};
 use model::{Answer, Call};
 
 /// The calls and their structs, as the Rust crate declares them.
-#[rustfmt::skip]
 #[path = "../../../bindings/rust/src/ffi.rs"]
 pub mod ffi;
 pub mod load;
@@ -19,9 +18,7 @@ pub mod slices;
 pub fn leaf(leaf: Leaf, w: &[u32]) -> LeafAnswer {
     use ffi::*;
     use model::calls::{centre_words, norm_words};
-    let at = |k: usize| Element {
-        coeffs: w[k..k + 64].try_into().expect("64 words"),
-    };
+    let at = |k: usize| Element { coeffs: w[k..k + 64].try_into().expect("64 words") };
     let number = |a: WordAnswer| (a.number, a.place, vec![a.value]);
     let element = |a: ElementAnswer| (a.number, a.place, a.coeffs.to_vec());
     let (number, place, result) = match leaf {
@@ -94,23 +91,13 @@ impl From<ffi::Verdict> for Answer {
 
 impl From<ffi::Answer> for Answer {
     fn from(a: ffi::Answer) -> Answer {
-        Answer {
-            number: a.number,
-            place: a.place,
-            ..Answer::FINE
-        }
+        Answer { number: a.number, place: a.place, ..Answer::FINE }
     }
 }
 
 /// A call on whole slices.
 pub fn whole(call: Call, handed: Handed) -> Answer {
-    let Handed {
-        job,
-        randomness,
-        third,
-        scratch,
-        output,
-    } = handed;
+    let Handed { job, randomness, third, scratch, output } = handed;
     let round = match call {
         Call::Verify => return ffi::verify(job, randomness, third, scratch).into(),
         Call::Prove => 0,

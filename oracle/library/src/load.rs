@@ -11,10 +11,6 @@ pub fn load(words: [u32; 12], seed: u32, buffers: [&mut [u32]; 3]) -> Answer {
 /// The answer, and the lengths of job, witness and randomness.
 pub fn needs(words: [u32; 12]) -> (Answer, [u64; 3]) {
     let a = ffi::load_needs(Parameters { words });
-    let answer = Answer {
-        number: a.number,
-        place: a.place,
-        ..Answer::FINE
-    };
+    let answer = Answer { number: a.number, place: a.place, ..Answer::FINE };
     (answer, [a.job, a.witness, a.randomness])
 }

@@ -16,13 +16,8 @@ pub enum SliceCall {
 }
 
 impl SliceCall {
-    pub const ALL: [SliceCall; 5] = [
-        SliceCall::InnerProduct,
-        SliceCall::Combination,
-        SliceCall::Projection,
-        SliceCall::Phi,
-        SliceCall::U1,
-    ];
+    pub const ALL: [SliceCall; 5] =
+        [SliceCall::InnerProduct, SliceCall::Combination, SliceCall::Projection, SliceCall::Phi, SliceCall::U1];
 
     pub fn name(self) -> &'static str {
         match self {
@@ -141,12 +136,10 @@ pub fn slice_call(call: SliceCall, [first, second]: [&[u32]; 2], sizes: &[usize]
             SliceCall::InnerProduct => slice_inner_product(a, a_length, b, b_length, sizes[0], to, length),
             SliceCall::Combination => slice_combination(a, a_length, b, b_length, sizes[0], to, length),
             SliceCall::Projection => slice_projection(a, a_length, b, b_length, sizes[0], sizes[1], to, length),
-            SliceCall::Phi => slice_phi(
-                a, a_length, b, b_length, sizes[0], sizes[1], sizes[2], sizes[3], to, length,
-            ),
-            SliceCall::U1 => slice_u1(
-                a, a_length, b, b_length, sizes[0], sizes[1], sizes[2], sizes[3], sizes[4], base, to, length,
-            ),
+            SliceCall::Phi => slice_phi(a, a_length, b, b_length, sizes[0], sizes[1], sizes[2], sizes[3], to, length),
+            SliceCall::U1 => {
+                slice_u1(a, a_length, b, b_length, sizes[0], sizes[1], sizes[2], sizes[3], sizes[4], base, to, length)
+            }
         }
     }
 }

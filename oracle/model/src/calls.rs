@@ -125,11 +125,7 @@ impl Leaf {
         let refusal = self.refusal(w);
         let mut result = if refusal.is_fine() { value(self, w) } else { vec![] };
         result.resize(self.results(), 0);
-        LeafAnswer {
-            number: refusal.number,
-            place: refusal.place as u32,
-            result,
-        }
+        LeafAnswer { number: refusal.number, place: refusal.place as u32, result }
     }
 }
 

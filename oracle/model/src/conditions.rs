@@ -16,33 +16,16 @@ pub fn first_breach(job: &Job, x: &Randomness, s: &[Vec<Element>]) -> Answer {
     }
 
     let g = garbage_g(s);
-    let constant_errors: Vec<u32> = job
-        .constant
-        .iter()
-        .zip(&job.b0)
-        .map(|(c, &b0)| sub(left_side(c, s, &g)[0], b0))
-        .collect();
+    let constant_errors: Vec<u32> =
+        job.constant.iter().zip(&job.b0).map(|(c, &b0)| sub(left_side(c, s, &g)[0], b0)).collect();
     let rows = aggregated_rows(job, x);
     for k in 0..x.psi.len() {
-        let row_sum = x.psi[k]
-            .iter()
-            .zip(&constant_errors)
-            .fold(0, |sum, (&psi, &error)| add(sum, mul(psi, error)));
+        let row_sum = x.psi[k].iter().zip(&constant_errors).fold(0, |sum, (&psi, &error)| add(sum, mul(psi, error)));
         if row_sum != 0 {
             let b2: Vec<Element> = rows.iter().map(|row| left_side(row, s, &g)).collect();
             let (first, second) = row_values(job, x, k, &b2, &of_projection);
-            assert_eq!(
-                sub(first, second),
-                row_sum,
-                "the first value less the second is that row's sum modulo Q"
-            );
-            return Answer {
-                number: 22,
-                index: k as u32,
-                first: first.into(),
-                second: second.into(),
-                ..Answer::FINE
-            };
+            assert_eq!(sub(first, second), row_sum, "the first value less the second is that row's sum modulo Q");
+            return Answer { number: 22, index: k as u32, first: first.into(), second: second.into(), ..Answer::FINE };
         }
     }
 
@@ -53,12 +36,7 @@ pub fn first_breach(job: &Job, x: &Randomness, s: &[Vec<Element>]) -> Answer {
         return Answer::over(23, sum, p.beta_prime_sq);
     }
 
-    let ring_errors: Vec<Element> = job
-        .ring
-        .iter()
-        .zip(&job.b)
-        .map(|(c, b)| rsub(&left_side(c, s, &g), b))
-        .collect();
+    let ring_errors: Vec<Element> = job.ring.iter().zip(&job.b).map(|(c, b)| rsub(&left_side(c, s, &g), b)).collect();
     if dot(&ring_errors, &x.alpha) != ZERO {
         return Answer::failed(27);
     }

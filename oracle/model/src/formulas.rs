@@ -54,10 +54,7 @@ pub fn triangle(r: usize, f: impl Fn(usize, usize) -> Element) -> Vec<Element> {
 
 /// Σ a_ij·g_ij + Σ⟨φ_i, s_i⟩, where g_ij = ⟨s_i, s_j⟩.
 pub fn left_side(c: &Constraint, s: &[Vec<Element>], g: &[Element]) -> Element {
-    c.phi
-        .iter()
-        .zip(s)
-        .fold(over_pairs(s.len(), &c.a, g), |sum, (phi, s)| radd(&sum, &dot(phi, s)))
+    c.phi.iter().zip(s).fold(over_pairs(s.len(), &c.a, g), |sum, (phi, s)| radd(&sum, &dot(phi, s)))
 }
 
 /// g_ij = ⟨s_i, s_j⟩.
@@ -84,13 +81,7 @@ pub fn projection(pi: &Projection, s: &[Vec<Element>]) -> Vec<u32> {
 pub fn aggregated_row(job: &Job, x: &Randomness, k: usize) -> Constraint {
     let p = &job.parameters;
     let weighted = |f: &dyn Fn(&Constraint) -> Vec<Element>, length: usize| {
-        vector_sum(
-            length,
-            job.constant
-                .iter()
-                .zip(&x.psi[k])
-                .map(|(c, &psi)| vector_scale(&f(c), psi)),
-        )
+        vector_sum(length, job.constant.iter().zip(&x.psi[k]).map(|(c, &psi)| vector_scale(&f(c), psi)))
     };
     Constraint {
         a: weighted(&|c| c.a.clone(), p.cells()),
@@ -116,9 +107,7 @@ pub fn aggregated_row(job: &Job, x: &Randomness, k: usize) -> Constraint {
 
 /// All rows under psi and omega.
 pub fn aggregated_rows(job: &Job, x: &Randomness) -> Vec<Constraint> {
-    (0..job.parameters.aggregations)
-        .map(|k| aggregated_row(job, x, k))
-        .collect()
+    (0..job.parameters.aggregations).map(|k| aggregated_row(job, x, k)).collect()
 }
 
 /// The ring constraints under alpha and the aggregated rows under beta: a and φ.

@@ -32,21 +32,10 @@ pub struct Answer {
 }
 
 impl Answer {
-    pub const FINE: Answer = Answer {
-        number: 0,
-        place: 0,
-        index: 0,
-        first: 0,
-        second: 0,
-        cells_left: 0,
-    };
+    pub const FINE: Answer = Answer { number: 0, place: 0, index: 0, first: 0, second: 0, cells_left: 0 };
 
     pub fn refused(number: u32, place: usize) -> Answer {
-        Answer {
-            number,
-            place: place as u64,
-            ..Answer::FINE
-        }
+        Answer { number, place: place as u64, ..Answer::FINE }
     }
 
     /// A failed check with no values.
@@ -55,20 +44,12 @@ impl Answer {
     }
 
     pub fn over(number: u32, first: u128, limit: u128) -> Answer {
-        Answer {
-            number,
-            first,
-            second: limit,
-            ..Answer::FINE
-        }
+        Answer { number, first, second: limit, ..Answer::FINE }
     }
 
     /// An accepted verdict.
     pub fn accepted(cells_left: usize) -> Answer {
-        Answer {
-            cells_left: cells_left as u64,
-            ..Answer::FINE
-        }
+        Answer { cells_left: cells_left as u64, ..Answer::FINE }
     }
 
     pub fn is_fine(&self) -> bool {
@@ -86,15 +67,8 @@ pub enum Call {
 }
 
 impl Call {
-    pub const ALL: [Call; 7] = [
-        Call::Prove,
-        Call::Round(1),
-        Call::Round(2),
-        Call::Round(3),
-        Call::Round(4),
-        Call::Round(5),
-        Call::Verify,
-    ];
+    pub const ALL: [Call; 7] =
+        [Call::Prove, Call::Round(1), Call::Round(2), Call::Round(3), Call::Round(4), Call::Round(5), Call::Verify];
 
     pub fn name(&self) -> &'static str {
         match self {

@@ -65,11 +65,7 @@ pub fn load(twelve: [u32; 12], seed: u32, lengths: [usize; 3]) -> Result<Load, A
     // "Counts and section one aren't drawn."; b0 and b are section 3 and 6
     let mut sections: Vec<Vec<u32>> = vec![p.words()];
     for (k, &count) in counts.iter().enumerate().skip(1) {
-        sections.push(if k == 3 || k == 6 {
-            vec![0; count]
-        } else {
-            state.words(count)
-        });
+        sections.push(if k == 3 || k == 6 { vec![0; count] } else { state.words(count) });
     }
     let witness = join(&[state.ternary(p.witness_counts()[0])]);
     let random: Vec<Vec<u32>> = p
@@ -83,9 +79,5 @@ pub fn load(twelve: [u32; 12], seed: u32, lengths: [usize; 3]) -> Result<Load, A
     let g = triangle(p.r, |i, j| dot(&s[i], &s[j]));
     sections[3] = job.constant.iter().map(|c| left_side(c, &s, &g)[0]).collect();
     sections[6] = flat(&job.ring.iter().map(|c| left_side(c, &s, &g)).collect::<Vec<_>>());
-    Ok(Load {
-        job: join(&sections),
-        witness,
-        randomness: join(&random),
-    })
+    Ok(Load { job: join(&sections), witness, randomness: join(&random) })
 }

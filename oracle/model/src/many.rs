@@ -17,11 +17,7 @@ pub struct Many {
 }
 
 fn refused(answer: Answer) -> Many {
-    Many {
-        number: answer.number,
-        place: answer.place,
-        ..Many::default()
-    }
+    Many { number: answer.number, place: answer.place, ..Many::default() }
 }
 
 /// Part m of a slice whose parts "lie end to end, each of the length that the job fixes": "a slice that ends early cuts short or

@@ -61,10 +61,7 @@ pub fn smallest(rows: &[(u32, u32)]) -> Option<u32> {
         x %= modulus;
     }
     let last = x + (q - modulus);
-    [x, last]
-        .map(|x| x as u32)
-        .into_iter()
-        .min_by_key(|&x| centre(x).unsigned_abs())
+    [x, last].map(|x| x as u32).into_iter().min_by_key(|&x| centre(x).unsigned_abs())
 }
 
 /// Each row's weight at an index, and what its constant coefficient is short of the one sent.
@@ -84,10 +81,7 @@ fn entries(job: &Job, x: &Randomness, sent: &Transcript) -> Vec<Entry> {
         let rows = rows(job, x, sent, index);
         if let Some(number) = smallest(&rows) {
             assert!(rows.iter().all(|&(weight, error)| mul(weight, number) == error));
-            found.push(Entry {
-                index: index as u32,
-                number,
-            });
+            found.push(Entry { index: index as u32, number });
         }
     }
     found.sort_by_key(Entry::rank);
@@ -95,12 +89,7 @@ fn entries(job: &Job, x: &Randomness, sent: &Transcript) -> Vec<Entry> {
 }
 
 fn refused(answer: Answer, list: Option<Vec<u32>>) -> Mistyped {
-    Mistyped {
-        number: answer.number,
-        place: answer.place,
-        entries: 0,
-        list,
-    }
+    Mistyped { number: answer.number, place: answer.place, entries: 0, list }
 }
 
 /// The call; `handed.output` is the length of the list.
@@ -128,10 +117,5 @@ pub fn mistyped(handed: Handed) -> Mistyped {
     }
     let mut list: Vec<u32> = found.iter().flat_map(|e| [e.index, e.number]).collect();
     list.resize(need, 0);
-    Mistyped {
-        number: 0,
-        place: 0,
-        entries: found.len() as u64,
-        list: Some(list),
-    }
+    Mistyped { number: 0, place: 0, entries: found.len() as u64, list: Some(list) }
 }

@@ -24,11 +24,7 @@ pub struct Ranges {
 }
 
 fn refused(answer: Answer) -> Ranges {
-    Ranges {
-        number: answer.number,
-        place: answer.place,
-        ..Ranges::default()
-    }
+    Ranges { number: answer.number, place: answer.place, ..Ranges::default() }
 }
 
 /// "a wrong length is an 11": its length where it is too short, the first surplus number where it is too long.
@@ -47,11 +43,7 @@ fn square(x: i64) -> u128 {
 /// The smallest and the largest square from a low to a high.
 pub fn squares(low: i64, high: i64) -> (u128, u128) {
     let ends = [square(low), square(high)];
-    let least = if (low..=high).contains(&0) {
-        0
-    } else {
-        ends[0].min(ends[1])
-    };
+    let least = if (low..=high).contains(&0) { 0 } else { ends[0].min(ends[1]) };
     (least, ends[0].max(ends[1]))
 }
 

@@ -34,20 +34,8 @@ pub(crate) fn fine(answer: Answer) -> Result<(), Answer> {
 }
 
 /// The limits of the parameters, in the order of their words.
-pub const LIMITS: [(u32, u32); 12] = [
-    (1, 64),
-    (1, 16),
-    (1, 16),
-    (1, 16),
-    (1, 16),
-    (0, 64),
-    (0, 64),
-    (16, 32),
-    (2, Q - 1),
-    (1, 32),
-    (1, 32),
-    (1, 32),
-];
+pub const LIMITS: [(u32, u32); 12] =
+    [(1, 64), (1, 16), (1, 16), (1, 16), (1, 16), (0, 64), (0, 64), (16, 32), (2, Q - 1), (1, 32), (1, 32), (1, 32)];
 
 /// The parameters of section one's words, by 4 and 5.
 pub fn parameters(words: &[u32]) -> Result<Parameters, Answer> {

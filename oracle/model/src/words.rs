@@ -60,16 +60,7 @@ impl Parameters {
     }
 
     pub fn words(&self) -> Vec<u32> {
-        let sizes = [
-            self.n,
-            self.r,
-            self.kappa,
-            self.kappa1,
-            self.kappa2,
-            self.ring,
-            self.constant,
-            self.log_q,
-        ];
+        let sizes = [self.n, self.r, self.kappa, self.kappa1, self.kappa2, self.ring, self.constant, self.log_q];
         let mut w: Vec<u32> = sizes.iter().map(|&x| x as u32).collect();
         w.extend([self.b, self.t1 as u32, self.t2 as u32, self.aggregations as u32]);
         let [a, b, c, d] = self.bounds;
@@ -179,10 +170,7 @@ pub fn split(words: &[u32]) -> Vec<Vec<u32>> {
 }
 
 pub fn elements(words: &[u32]) -> Vec<Element> {
-    words
-        .chunks_exact(DEGREE)
-        .map(|chunk| chunk.try_into().unwrap())
-        .collect()
+    words.chunks_exact(DEGREE).map(|chunk| chunk.try_into().unwrap()).collect()
 }
 
 pub fn flat(elements: &[Element]) -> Vec<u32> {
@@ -222,10 +210,7 @@ fn constraints(p: &Parameters, a: &[u32], phi: &[u32]) -> Vec<Constraint> {
     parts(&elements(a), p.cells())
         .into_iter()
         .zip(parts(&elements(phi), p.r * p.n))
-        .map(|(a, phi)| Constraint {
-            a,
-            phi: parts(&phi, p.n),
-        })
+        .map(|(a, phi)| Constraint { a, phi: parts(&phi, p.n) })
         .collect()
 }
 
@@ -252,10 +237,7 @@ pub type Projection = Vec<Vec<Vec<i64>>>;
 /// Reads projection words, "for each vector 256 rows of 64·n".
 pub fn read_projection(p: &Parameters, words: &[u32]) -> Projection {
     let entries: Vec<i64> = words.iter().map(|&w| crate::leaves::entry(w)).collect();
-    parts(&entries, ROWS * DEGREE * p.n)
-        .iter()
-        .map(|rows| parts(rows, DEGREE * p.n))
-        .collect()
+    parts(&entries, ROWS * DEGREE * p.n).iter().map(|rows| parts(rows, DEGREE * p.n)).collect()
 }
 
 /// What the randomness says.
@@ -274,9 +256,7 @@ impl Randomness {
         let s = split(words);
         Randomness {
             projection: read_projection(p, &s[0]),
-            psi: (0..p.aggregations)
-                .map(|k| s[1][k * p.constant..(k + 1) * p.constant].to_vec())
-                .collect(),
+            psi: (0..p.aggregations).map(|k| s[1][k * p.constant..(k + 1) * p.constant].to_vec()).collect(),
             omega: parts(&s[2], ROWS),
             alpha: elements(&s[3]),
             beta: elements(&s[4]),

@@ -12,10 +12,7 @@ pub mod ajtai_commitment {
     impl AjtaiScheme {
         /// A scheme with any norm bound: `new` refuses 0 and bounds from q² / rows³ on.
         pub fn with_any_bound(norm_bound_sq: u128, random_matrix: RqMatrix) -> Self {
-            Self {
-                norm_bound_sq,
-                random_matrix,
-            }
+            Self { norm_bound_sq, random_matrix }
         }
     }
 }

@@ -21,12 +21,7 @@ thread_local! {
 
 impl Tape {
     pub fn new(numbers: Vec<u32>, signs: Vec<u32>, shuffles: Vec<u32>) -> Self {
-        Tape {
-            numbers,
-            signs,
-            shuffles,
-            ..Tape::default()
-        }
+        Tape { numbers, signs, shuffles, ..Tape::default() }
     }
 
     /// Makes this the tape that the thread's sponges play back.
