@@ -5,6 +5,7 @@ use crate::loads;
 use crate::many;
 #[cfg(prime)]
 use crate::prime::{self, Against};
+use crate::steps;
 use harness::instances::{Instance, LOOSE};
 use harness::random::Random;
 use harness::rust;
@@ -249,7 +250,16 @@ fn failing(random: &mut Random, number: u32) -> Kernel {
 
 /// A whole call on a statement that is met. A round is timed against the Rust's whole prover.
 pub fn whole(random: &mut Random, call: Call, n: usize, r: usize) -> Kernel {
-    let p = parameters(n, r);
+    with(random, call, parameters(n, r))
+}
+
+/// The sizes at which our time is nearest to the Rust's: one element a vector, one row of B, C and D, as many parts as there may be.
+fn worst(b: u32) -> Parameters {
+    Parameters { b, t1: 32, t2: 32, kappa1: 1, kappa2: 1, ..parameters(1, 16) }
+}
+
+/// The same with parameters of any kind.
+fn with(random: &mut Random, call: Call, p: Parameters) -> Kernel {
     let instance = loads::instance(p, random.word());
     let (job, randomness) = (instance.job_words(), instance.randomness_words());
     let rust_job = rust::Job::new(&job);
@@ -325,6 +335,16 @@ pub const KERNELS: &[Entry] = &[
     ("verify, n 16, r 4", |random| whole(random, Call::Verify, 16, 4)),
     ("prove, n 64, r 16", |random| whole(random, Call::Prove, 64, 16)),
     ("verify, n 64, r 16", |random| whole(random, Call::Verify, 64, 16)),
+    ("prove, n 1, r 16, base 65538, 32 parts, κ1 and κ2 1", |random| with(random, Call::Prove, worst(65538))),
+    ("verify, n 1, r 16, base 65538, 32 parts, κ1 and κ2 1", |random| with(random, Call::Verify, worst(65538))),
+    ("prove, n 1, r 16, base 3, 32 parts, κ1 and κ2 1", |random| with(random, Call::Prove, worst(3))),
+    ("verify, n 1, r 16, base 3, 32 parts, κ1 and κ2 1", |random| with(random, Call::Verify, worst(3))),
+    ("prove, n 16, r 4, L 7, against our prove with L 8", |_| steps::aggregations(Call::Prove, 7, 8)),
+    ("verify, n 16, r 4, L 7, against our verify with L 8", |_| steps::aggregations(Call::Verify, 7, 8)),
+    ("prove, n 16, r 4, L 31, against our prove with L 32", |_| steps::aggregations(Call::Prove, 31, 32)),
+    ("verify, n 16, r 4, L 31, against our verify with L 32", |_| steps::aggregations(Call::Verify, 31, 32)),
+    ("prove, n 16, r 4, K + L 65, against our prove with K + L 64", |_| steps::constraints(Call::Prove, 61, 60)),
+    ("verify, n 16, r 4, K + L 65, against our verify with K + L 64", |_| steps::constraints(Call::Verify, 61, 60)),
     ("verify eight transcripts in one call, n 16, r 4, against our eight calls", |_| many::against_single(parameters(16, 4))),
     ("verify eight transcripts in one call, n 64, r 16, against our eight calls", |_| many::against_single(parameters(64, 16))),
     ("round 1 (u1), n 16, r 4, against the whole prover", |random| whole(random, Call::Round(1), 16, 4)),

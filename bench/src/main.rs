@@ -9,6 +9,7 @@ mod loads;
 mod many;
 #[cfg(prime)]
 mod prime;
+mod steps;
 mod table;
 
 fn main() {
