@@ -32,7 +32,10 @@ fn read_part(file: &File, begin: u64, part: &mut [u32], chunk: &mut [u8]) -> io:
 /// Fills the words with the file's first bytes, and gives how many of these there are: fewer where the file has become shorter.
 pub fn read_in_parts(file: &File, words: &mut [u32]) -> io::Result<u64> {
     let length = 4 * words.len() as u64;
-    let threads = available_parallelism().map_or(1, usize::from).min(words.len().div_ceil(PART));
+    let threads = match words.len().div_ceil(PART) {
+        0 | 1 => 1,
+        parts => available_parallelism().map_or(1, usize::from).min(parts),
+    };
     let parts = Mutex::new(words.chunks_mut(PART).enumerate());
     let worker = || {
         let mut chunk = vec![0; CHUNK];
