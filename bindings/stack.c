@@ -89,9 +89,8 @@ static void drop_load(load *l) {
 }
 
 /* The randomness of a round ends after so many sections. */
-#define PROVER(name, sections)                                                                                      \
-    labrador_##name(WORDS(JOB), l->words[RANDOMNESS], sections < 7 ? section(l, RANDOMNESS, sections) : l->lengths[RANDOMNESS], WORDS(WITNESS), \
-                    WORDS(SCRATCH), WORDS(OUTPUT)).number
+#define PROVER(name, sections) \
+    labrador_##name(WORDS(JOB), l->words[RANDOMNESS], section(l, RANDOMNESS, sections), WORDS(WITNESS), WORDS(SCRATCH), WORDS(OUTPUT)).number
 
 static labrador_element element;
 static labrador_challenge_words challenge;
@@ -103,57 +102,64 @@ static uint32_t mistyped(const load *l) {
     return number == (l->sizes.l > 0 ? 0 : LABRADOR_REFUSAL_NOT_CHECK_22) ? 0 : number + 1;
 }
 
+/* 0 where all transcripts are accepted. */
+static uint32_t many(const load *l) {
+    labrador_verdicts told = labrador_verify_many(WORDS(JOB), l->transcripts, WORDS(SEVERAL_RANDOMNESS), WORDS(SEVERAL), WORDS(SCRATCH));
+    uint32_t number = told.number;
+    for (uint32_t m = 0; m < l->transcripts; m++) number |= told.verdicts[m].number;
+    return number;
+}
+
 /* Every call of labrador.h: its name, what the header states of it, and its answer's number. Those on leaves take the same at all sizes. */
-#define LEAVES(CALL)                                                                                      \
-    CALL(zq_add, LABRADOR_STACK_OTHER, labrador_zq_add(Q - 1, Q - 1).number)                             \
-    CALL(zq_sub, LABRADOR_STACK_OTHER, labrador_zq_sub(0, Q - 1).number)                                 \
-    CALL(zq_mul, LABRADOR_STACK_OTHER, labrador_zq_mul(Q - 1, Q - 1).number)                             \
-    CALL(zq_neg, LABRADOR_STACK_OTHER, labrador_zq_neg(Q - 1).number)                                    \
-    CALL(zq_centre, LABRADOR_STACK_OTHER, labrador_zq_centre(Q - 1).number)                              \
-    CALL(zq_digits, LABRADOR_STACK_OTHER, labrador_zq_digits(2, 32, Q / 2).number)                       \
-    CALL(recompose, LABRADOR_STACK_OTHER, labrador_recompose(2, digits, 32).number)                      \
-    CALL(parts_needed, LABRADOR_STACK_OTHER, labrador_parts_needed(2).number)                            \
-    CALL(projection_entry, LABRADOR_STACK_OTHER, labrador_projection_entry(Q - 1).number)                \
-    CALL(rq_add, LABRADOR_STACK_OTHER, labrador_rq_add(element, element).number)                         \
-    CALL(rq_sub, LABRADOR_STACK_OTHER, labrador_rq_sub(element, element).number)                         \
-    CALL(rq_mul, LABRADOR_STACK_OTHER, labrador_rq_mul(element, element).number)                         \
-    CALL(rq_mul_fast, LABRADOR_STACK_OTHER, labrador_rq_mul_fast(element, element).number)               \
-    CALL(rq_scale, LABRADOR_STACK_OTHER, labrador_rq_scale(element, Q - 1).number)                       \
-    CALL(rq_conj, LABRADOR_STACK_OTHER, labrador_rq_conj(element).number)                                \
-    CALL(rq_norm, LABRADOR_STACK_OTHER, labrador_rq_norm(element).number)                                \
-    CALL(rq_digits, LABRADOR_STACK_OTHER, labrador_rq_digits(2, 32, element, rows, 2048).number)         \
-    CALL(rq_left, LABRADOR_STACK_OTHER, labrador_rq_left(2, 1, element).number)                          \
-    CALL(challenge, LABRADOR_STACK_OTHER, labrador_challenge(challenge).number)                          \
+#define LEAVES(CALL)                                                                             \
+    CALL(zq_add, LABRADOR_STACK_OTHER, labrador_zq_add(Q - 1, Q - 1).number)                     \
+    CALL(zq_sub, LABRADOR_STACK_OTHER, labrador_zq_sub(0, Q - 1).number)                         \
+    CALL(zq_mul, LABRADOR_STACK_OTHER, labrador_zq_mul(Q - 1, Q - 1).number)                     \
+    CALL(zq_neg, LABRADOR_STACK_OTHER, labrador_zq_neg(Q - 1).number)                            \
+    CALL(zq_centre, LABRADOR_STACK_OTHER, labrador_zq_centre(Q - 1).number)                      \
+    CALL(zq_digits, LABRADOR_STACK_OTHER, labrador_zq_digits(2, 32, Q / 2).number)               \
+    CALL(recompose, LABRADOR_STACK_OTHER, labrador_recompose(2, digits, 32).number)              \
+    CALL(parts_needed, LABRADOR_STACK_OTHER, labrador_parts_needed(2).number)                    \
+    CALL(projection_entry, LABRADOR_STACK_OTHER, labrador_projection_entry(Q - 1).number)        \
+    CALL(rq_add, LABRADOR_STACK_OTHER, labrador_rq_add(element, element).number)                 \
+    CALL(rq_sub, LABRADOR_STACK_OTHER, labrador_rq_sub(element, element).number)                 \
+    CALL(rq_mul, LABRADOR_STACK_OTHER, labrador_rq_mul(element, element).number)                 \
+    CALL(rq_mul_fast, LABRADOR_STACK_OTHER, labrador_rq_mul_fast(element, element).number)       \
+    CALL(rq_scale, LABRADOR_STACK_OTHER, labrador_rq_scale(element, Q - 1).number)               \
+    CALL(rq_conj, LABRADOR_STACK_OTHER, labrador_rq_conj(element).number)                        \
+    CALL(rq_norm, LABRADOR_STACK_OTHER, labrador_rq_norm(element).number)                        \
+    CALL(rq_digits, LABRADOR_STACK_OTHER, labrador_rq_digits(2, 32, element, rows, 2048).number) \
+    CALL(rq_left, LABRADOR_STACK_OTHER, labrador_rq_left(2, 1, element).number)                  \
+    CALL(challenge, LABRADOR_STACK_OTHER, labrador_challenge(challenge).number)                  \
     CALL(add_projections, LABRADOR_STACK_OTHER, labrador_add_projections(sum, 257, sum, 257, rows, 2048).number)
 
-#define WHOLE(CALL)                                                                                                            \
-    CALL(scratch_need, LABRADOR_STACK_OTHER, labrador_scratch_need(WORDS(JOB)).number)                                        \
-    CALL(output_need, LABRADOR_STACK_OTHER, labrador_output_need(WORDS(JOB)).number)                                          \
-    CALL(load_needs, LABRADOR_STACK_OTHER, labrador_load_needs(l->sizes).number)                                              \
-    CALL(load, LABRADOR_STACK_OTHER, labrador_load(l->sizes, 1, WORDS(JOB), WORDS(WITNESS), WORDS(RANDOMNESS)).number)          \
-    CALL(prove, LABRADOR_STACK_PROVE, PROVER(prove, 7))                                                                        \
-    CALL(round_1, LABRADOR_STACK_PROVE, PROVER(round_1, 0))                                                                    \
-    CALL(round_2, LABRADOR_STACK_PROVE, PROVER(round_2, 1))                                                                    \
-    CALL(round_3, LABRADOR_STACK_PROVE, PROVER(round_3, 3))                                                                    \
-    CALL(round_4, LABRADOR_STACK_PROVE, PROVER(round_4, 5))                                                                    \
-    CALL(round_5, LABRADOR_STACK_PROVE, PROVER(round_5, 7))                                                                    \
-    CALL(shed_projection, LABRADOR_STACK_OTHER,                                                                                \
-         labrador_shed_projection(WORDS(JOB), 0, l->sizes.r, l->words[RANDOMNESS], section(l, RANDOMNESS, 1), WORDS(WITNESS),  \
-                                  WORDS(SCRATCH), WORDS(OUTPUT))                                                               \
-             .number)                                                                                                          \
-    CALL(shed_rows, LABRADOR_STACK_OTHER,                                                                                      \
-         labrador_shed_rows(WORDS(JOB), 0, l->sizes.r, WORDS(WITNESS), WORDS(SCRATCH), WORDS(OUTPUT)).number)                  \
+#define WHOLE(CALL)                                                                                                               \
+    CALL(scratch_need, LABRADOR_STACK_OTHER, labrador_scratch_need(WORDS(JOB)).number)                                            \
+    CALL(output_need, LABRADOR_STACK_OTHER, labrador_output_need(WORDS(JOB)).number)                                              \
+    CALL(load_needs, LABRADOR_STACK_OTHER, labrador_load_needs(l->sizes).number)                                                  \
+    CALL(load, LABRADOR_STACK_OTHER, labrador_load(l->sizes, 1, WORDS(JOB), WORDS(WITNESS), WORDS(RANDOMNESS)).number)            \
+    CALL(prove, LABRADOR_STACK_PROVE, PROVER(prove, 7))                                                                           \
+    CALL(round_1, LABRADOR_STACK_PROVE, PROVER(round_1, 0))                                                                       \
+    CALL(round_2, LABRADOR_STACK_PROVE, PROVER(round_2, 1))                                                                       \
+    CALL(round_3, LABRADOR_STACK_PROVE, PROVER(round_3, 3))                                                                       \
+    CALL(round_4, LABRADOR_STACK_PROVE, PROVER(round_4, 5))                                                                       \
+    CALL(round_5, LABRADOR_STACK_PROVE, PROVER(round_5, 7))                                                                       \
+    CALL(shed_projection, LABRADOR_STACK_OTHER,                                                                                   \
+         labrador_shed_projection(WORDS(JOB), 0, l->sizes.r, l->words[RANDOMNESS], section(l, RANDOMNESS, 1), WORDS(WITNESS),     \
+                                  WORDS(SCRATCH), WORDS(OUTPUT))                                                                  \
+             .number)                                                                                                             \
+    CALL(shed_rows, LABRADOR_STACK_OTHER,                                                                                         \
+         labrador_shed_rows(WORDS(JOB), 0, l->sizes.r, WORDS(WITNESS), WORDS(SCRATCH), WORDS(OUTPUT)).number)                     \
     CALL(verify, LABRADOR_STACK_VERIFY, labrador_verify(WORDS(JOB), WORDS(RANDOMNESS), WORDS(TRANSCRIPT), WORDS(SCRATCH)).number) \
-    CALL(verify_many, LABRADOR_STACK_MANY,                                                                                     \
-         labrador_verify_many(WORDS(JOB), l->transcripts, WORDS(SEVERAL_RANDOMNESS), WORDS(SEVERAL), WORDS(SCRATCH)).verdicts[0].number) \
-    CALL(mistyped, LABRADOR_STACK_VERIFY, mistyped(l))                                                                         \
-    CALL(ranges, LABRADOR_STACK_OTHER,                                                                                        \
+    CALL(verify_many, LABRADOR_STACK_MANY, many(l))                                                                               \
+    CALL(mistyped, LABRADOR_STACK_VERIFY, mistyped(l))                                                                            \
+    CALL(ranges, LABRADOR_STACK_OTHER,                                                                                            \
          labrador_ranges(WORDS(JOB), l->numbers, l->lengths[WITNESS] - 1, l->numbers, l->lengths[WITNESS] - 1).number)
 
-#define FUNCTION(name, stated, number)                                              \
-    static __attribute__((noinline)) uint32_t call_##name(const load *l) {          \
-        (void)l;                                                                    \
-        return number;                                                              \
+#define FUNCTION(name, stated, number)                                     \
+    static __attribute__((noinline)) uint32_t call_##name(const load *l) { \
+        (void)l;                                                           \
+        return number;                                                     \
     }
 LEAVES(FUNCTION)
 WHOLE(FUNCTION)

@@ -99,7 +99,7 @@ impl Opened<'_> {
         let more = more.and_then(|_| read_words(&mut file.take(4 * self.most - before), words));
         let read = before + more.map_err(|error| self.failed(error))?;
         let length = self.whole.unwrap_or(0).max(read);
-        if length % 4 != 0 || read % 4 != 0 {
+        if !length.is_multiple_of(4) || !read.is_multiple_of(4) {
             let shown = self.path.display();
             return Err(unfit(format!("{shown} has {length} bytes, which is no whole number of words (4 bytes each)")));
         }
