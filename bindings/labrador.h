@@ -61,10 +61,11 @@
 
 /* The bytes of stack that a call takes at most, whatever its operands: what it took on x86-64, and some more (bindings/stack.c measures it). A thread's
    stack has PTHREAD_STACK_MIN beside it for the C library. */
-#define LABRADOR_STACK_PROVE (160 * 1024)  /* labrador_prove, and its rounds */
-#define LABRADOR_STACK_VERIFY (96 * 1024)  /* labrador_verify, labrador_mistyped */
-#define LABRADOR_STACK_MANY (176 * 1024)   /* labrador_verify_many */
-#define LABRADOR_STACK_OTHER (32 * 1024)   /* each other call */
+#define LABRADOR_STACK_PROVE (160 * 1024) /* labrador_prove, and its rounds */
+#define LABRADOR_STACK_VERIFY (96 * 1024) /* labrador_verify, labrador_mistyped */
+#define LABRADOR_STACK_MANY (176 * 1024)  /* labrador_verify_many */
+#define LABRADOR_STACK_LOAD (64 * 1024)   /* labrador_load */
+#define LABRADOR_STACK_OTHER (32 * 1024)  /* each other call */
 
 /* The numbers of answers. */
 enum labrador_number {

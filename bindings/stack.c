@@ -137,7 +137,7 @@ static uint32_t many(const load *l) {
     CALL(scratch_need, LABRADOR_STACK_OTHER, labrador_scratch_need(WORDS(JOB)).number)                                            \
     CALL(output_need, LABRADOR_STACK_OTHER, labrador_output_need(WORDS(JOB)).number)                                              \
     CALL(load_needs, LABRADOR_STACK_OTHER, labrador_load_needs(l->sizes).number)                                                  \
-    CALL(load, LABRADOR_STACK_OTHER, labrador_load(l->sizes, 1, WORDS(JOB), WORDS(WITNESS), WORDS(RANDOMNESS)).number)            \
+    CALL(load, LABRADOR_STACK_LOAD, labrador_load(l->sizes, 1, WORDS(JOB), WORDS(WITNESS), WORDS(RANDOMNESS)).number)             \
     CALL(prove, LABRADOR_STACK_PROVE, PROVER(prove, 7))                                                                           \
     CALL(round_1, LABRADOR_STACK_PROVE, PROVER(round_1, 0))                                                                       \
     CALL(round_2, LABRADOR_STACK_PROVE, PROVER(round_2, 1))                                                                       \
