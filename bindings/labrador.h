@@ -59,8 +59,8 @@
 #define LABRADOR_Q 4294967295u
 #endif
 
-/* The bytes of stack that a call takes at most, whatever its operands: what it took on x86-64, and some more (bindings/stack.c measures it). A thread's
-   stack has PTHREAD_STACK_MIN beside it for the C library. */
+/* The bytes of stack that are enough for a call on x86-64; a thread's stack needs PTHREAD_STACK_MIN more, for the C library. No proof bounds the stack:
+   bindings/stack.c measures what each call takes over many sizes, and the test makes each call where it takes most, in as much as is said here. */
 #define LABRADOR_STACK_PROVE (160 * 1024) /* labrador_prove, and its rounds */
 #define LABRADOR_STACK_VERIFY (96 * 1024) /* labrador_verify, labrador_mistyped */
 #define LABRADOR_STACK_MANY (176 * 1024)  /* labrador_verify_many */
