@@ -59,6 +59,14 @@
 #define LABRADOR_Q 4294967295u
 #endif
 
+/* The bytes of stack that are enough for a call on x86-64; a thread's stack needs PTHREAD_STACK_MIN more, for the C library. No proof bounds the stack:
+   bindings/stack.c measures what each call takes over many sizes, and the test makes each call where it takes most, in as much as is said here. */
+#define LABRADOR_STACK_PROVE (160 * 1024) /* labrador_prove, and its rounds */
+#define LABRADOR_STACK_VERIFY (96 * 1024) /* labrador_verify, labrador_mistyped */
+#define LABRADOR_STACK_MANY (176 * 1024)  /* labrador_verify_many */
+#define LABRADOR_STACK_LOAD (64 * 1024)   /* labrador_load */
+#define LABRADOR_STACK_OTHER (32 * 1024)  /* each other call */
+
 /* The numbers of answers. */
 enum labrador_number {
     LABRADOR_OK = 0, /* accepted, or made */

@@ -2,7 +2,6 @@
 
 use std::io::{self, Read};
 
-use crate::ffi::large_pages;
 use crate::number::Q;
 use crate::rounds::Round;
 use crate::section_one::Parameters;
@@ -75,7 +74,6 @@ pub fn draw(round: Round, p: &Parameters, source: &mut impl Read, randomness: &m
     let before = randomness.len();
     let sections = round.drawn(p);
     randomness.reserve_exact(sections.iter().map(|s| 1 + s.count() as usize).sum());
-    large_pages(randomness);
     let made = sections.iter().try_for_each(|s| section(s, source, randomness));
     if made.is_err() {
         randomness.truncate(before);

@@ -456,28 +456,6 @@ pub fn ranges(job: &[u32], lows: &[i64], highs: &[i64]) -> RangesAnswer {
     unsafe { labrador_ranges(job.as_ptr(), job.len(), lows.as_ptr(), lows.len(), highs.as_ptr(), highs.len()) }
 }
 
-#[cfg(target_os = "linux")]
-extern "C" {
-    fn madvise(address: *mut std::ffi::c_void, length: usize, advice: std::ffi::c_int) -> std::ffi::c_int;
-}
-
-/// Asks Linux to lay the room that a vector has reserved in large pages: of 64 MiB the first touch then takes a fraction of the time. A
-/// hint, which alters no word; elsewhere nothing is asked.
-pub fn large_pages(words: &mut Vec<u32>) {
-    #[cfg(target_os = "linux")]
-    {
-        const PAGE: usize = 1 << 21;
-        const MADV_HUGEPAGE: std::ffi::c_int = 14;
-        let begin = words.as_mut_ptr() as usize;
-        let end = (begin + 4 * words.capacity()) / PAGE * PAGE;
-        let begin = begin.next_multiple_of(PAGE);
-        if begin < end {
-            // SAFETY: the pages lie whole within the room of a vector that is lent alone, and the call alters no byte of them.
-            unsafe { madvise(begin as *mut std::ffi::c_void, end - begin, MADV_HUGEPAGE) };
-        }
-    }
-}
-
 /// What the command line asks of Linux and std does not give.
 #[cfg(feature = "system")]
 pub mod system {

@@ -64,7 +64,6 @@ pub use ffi::system;
 
 pub use draw::draw;
 pub use element::{ChallengeWords, DigitRows, Element};
-pub use ffi::large_pages;
 pub use hashes::{sha256_of_words, ARCHIVE_SHA256};
 pub use load::{load, load_into, load_needs, Load, LoadNeeds};
 pub use many::{verify_all, verify_each, verify_many, verify_many_with, Sent};

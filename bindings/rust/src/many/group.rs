@@ -1,6 +1,5 @@
 //! A group of transcripts that one call judges.
 
-use crate::ffi::large_pages;
 use crate::needs::{buffer, scratch_need};
 use crate::refusal::Refusal;
 use crate::section_one::SectionOne;
@@ -34,7 +33,6 @@ impl Group<'_> {
         // where there is no memory for all, it is asked for again as they are added
         let _ = group.randomness.try_reserve_exact(room * lengths[0]);
         let _ = group.transcripts.try_reserve_exact(room * lengths[1]);
-        large_pages(&mut group.randomness);
         Ok(group)
     }
 

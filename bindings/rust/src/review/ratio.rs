@@ -2,6 +2,7 @@
 //! multiples of each other there where they are equal once each is divided by its first coefficient; Q is the product of its primes, so what
 //! holds modulo each holds modulo Q.
 
+use std::cell::OnceCell;
 use std::hash::{DefaultHasher, Hasher};
 
 use crate::constraints::zero;
@@ -25,13 +26,18 @@ pub(super) struct Words<'a> {
     pub right: &'a [u32],
 }
 
+/// So many words tell most left sides apart.
+const HEAD: usize = 64;
+
 /// A constraint modulo a prime.
 struct Reduced {
     prime: u32,
     /// One over the first coefficient that is not 0; nothing where all are 0.
     inverse: Option<u32>,
-    /// Of the left side divided by that coefficient.
-    digest: u64,
+    /// Where that coefficient stands, and the left side from there on, divided by it.
+    head: (usize, Vec<u32>),
+    /// Of the left side divided by it, where it was asked for.
+    digest: OnceCell<u64>,
     /// The right side, divided by it.
     right: Vec<u32>,
 }
@@ -74,12 +80,12 @@ impl Words<'_> {
     }
 
     fn reduced(&self, prime: u32) -> Reduced {
-        let first = self.a.iter().chain(self.phi).find(|&&word| word % prime != 0);
-        let inverse = first.map(|&word| inverse(word, prime));
-        let factor = inverse.unwrap_or(1);
-        let mut digest = DefaultHasher::new();
-        inverse.iter().flat_map(|&factor| self.left(factor, prime)).for_each(|word| digest.write_u32(word));
-        Reduced { prime, inverse, digest: digest.finish(), right: times(self.right, factor, prime).collect() }
+        let mut coefficients = self.a.iter().chain(self.phi).enumerate();
+        let first = coefficients.find(|(_, &word)| word != 0 && word % prime != 0);
+        let inverse = first.map(|(_, &word)| inverse(word, prime));
+        let (factor, begin) = (inverse.unwrap_or(1), first.map_or(0, |(k, _)| k));
+        let head = (begin, self.left(factor, prime).skip(begin).take(HEAD).collect());
+        Reduced { prime, inverse, head, digest: OnceCell::new(), right: times(self.right, factor, prime).collect() }
     }
 }
 
@@ -89,9 +95,16 @@ impl Reduced {
         self.inverse.is_none() && zero(&self.right)
     }
 
-    /// Whether the left sides have the same digest.
-    fn is_alike(&self, other: &Reduced) -> bool {
-        self.inverse.is_some() && other.inverse.is_some() && self.digest == other.digest
+    /// The digest of the left side of these words divided by its first coefficient.
+    fn digest(&self, words: &Words) -> u64 {
+        *self.digest.get_or_init(|| {
+            let mut digest = DefaultHasher::new();
+            self.inverse
+                .iter()
+                .flat_map(|&factor| words.left(factor, self.prime))
+                .for_each(|word| digest.write_u32(word));
+            digest.finish()
+        })
     }
 
     /// Whether the right sides are equal, as far as the shorter one goes: the constant term of a ring constraint is its first word.
@@ -110,12 +123,19 @@ impl<'a> Sides<'a> {
         self.reduced.iter().zip(&other.reduced)
     }
 
+    /// Whether the left sides can be multiples of each other modulo a prime, and are not 0: they begin alike and have the same digest.
+    fn is_alike(&self, other: &Sides, (own, others): (&Reduced, &Reduced)) -> bool {
+        let begin_alike = own.inverse.is_some() && others.inverse.is_some() && own.head == others.head;
+        begin_alike && own.digest(&self.words) == others.digest(&other.words)
+    }
+
     /// Whether the left sides are multiples of each other modulo a prime, and not 0.
     fn is_same(&self, other: &Sides, (own, others): (&Reduced, &Reduced)) -> bool {
         let [Some(factor), Some(other_factor)] = [own.inverse, others.inverse] else {
             return false;
         };
-        own.is_alike(others) && self.words.left(factor, own.prime).eq(other.words.left(other_factor, own.prime))
+        let (left, other_left) = (self.words.left(factor, own.prime), other.words.left(other_factor, own.prime));
+        self.is_alike(other, (own, others)) && left.eq(other_left)
     }
 
     /// Modulo which prime it has no coefficient and a right side that is not 0, so that no witness meets it.
@@ -127,7 +147,7 @@ impl<'a> Sides<'a> {
     /// Whether the other is this one times a number, so that every witness that meets this one meets the other.
     pub fn implies(&self, other: &Sides) -> bool {
         let can = |(own, others): (&Reduced, &Reduced)| {
-            others.says_nothing() || own.is_alike(others) && own.has_right_of(others)
+            others.says_nothing() || own.has_right_of(others) && self.is_alike(other, (own, others))
         };
         let does = |pair: (&Reduced, &Reduced)| pair.1.says_nothing() || self.is_same(other, pair);
         let says_as_much = self.words.right.len() >= other.words.right.len();

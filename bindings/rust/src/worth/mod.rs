@@ -13,6 +13,8 @@
 //! # Ok::<(), labrador::Refusal>(())
 //! ```
 
+use std::iter::successors;
+
 use crate::reach;
 use crate::section_one::SectionOne;
 
@@ -116,7 +118,12 @@ impl Worth {
 
     /// The fewest transcripts drawn by the desk whose chance is at most 2^-bits.
     pub fn drawn_needed(&self, bits: u32) -> Option<u32> {
-        (1..=MOST).find(|&count| self.drawn(count).is_at_most_2_to_minus(bits))
+        let one = self.one();
+        if one.is_certain() {
+            return None;
+        }
+        let powers = successors(Some(one.clone()), |power| Some(power.mul(&one)));
+        (1..=MOST).zip(powers).find(|(_, chance)| chance.is_at_most_2_to_minus(bits)).map(|(count, _)| count)
     }
 
     /// The fewest transcripts under one joint hash whose tries are at least 2^bits.

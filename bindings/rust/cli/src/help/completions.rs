@@ -118,7 +118,9 @@ _{function}() {{
 {lines}        'help:Says what the commands are for, or how one is called'
     )
     if (( CURRENT == 2 )); then
-        _describe command commands
+        local -a options
+        options=('--help:print what the commands are for' '--version:print the version')
+        if [[ $PREFIX == -* ]]; then _describe -o option options; else _describe command commands; fi
         return
     fi
     local command=$words[2]
@@ -126,7 +128,11 @@ _{function}() {{
     (( CURRENT-- ))
     case $command in
 {cases}    help)
-        _describe command commands
+        _arguments \
+            '(- 1)--man[print the man page]' \
+            '(- 1)--bash[print the completions for bash]' \
+            '(- 1)--zsh[print these]' \
+            '(-)1:command:{{_describe command commands}}'
         ;;
     esac
 }}
