@@ -67,8 +67,8 @@
 #define LABRADOR_STACK_LOAD (64 * 1024)   /* labrador_load */
 #define LABRADOR_STACK_OTHER (32 * 1024)  /* each other call */
 
-/* The randomness is by far the longest slice, 64 MiB at n 64, r 16, and prove and verify read it once: where it lies in huge pages (on Linux madvise with
-   MADV_HUGEPAGE on its memory before it is filled) both took 7 to 10 % less time at that size. */
+/* The randomness is by far the longest slice, 64 MiB at n 64, r 16. Where it lies in huge pages (on Linux madvise with MADV_HUGEPAGE on its memory before it
+   is filled) labrador_prove and labrador_verify took 7 to 10 % less time at that size. */
 
 /* The numbers of answers. */
 enum labrador_number {
