@@ -8,19 +8,19 @@ use Rattle.protocol.specs.Verifier.{verify}
 use Rattle.protocol.proofs.Acceptance.{zero-accepts}
 use Rattle.call_answers.specs.declared.verdicts.LabradorVerdict.{LabradorVerdict}
 use Rattle.call_answers.specs.Calls.{labradorVerdict}
+use Rattle.call_answers.specs.Whole.{VerifyCall}
 use Rattle.binding.specs.Openings.{opening-1, opening-2, Equal-u1, Equal-u2, Given-away-1, Given-away-2, Accepted, Same-t-g, Same-h}
 use Rattle.binding.proofs.Binding.{binding-1, binding-2}
 use Rattle.binding.proofs.Bound.{bound-1, bound-2}
-use Rattle.exported_laws.specs.Calls.{VerifyCall}
 use Rattle.call_answers.proofs.Number.{same-number}
 
 -- a verdict with the number 0 is an acceptance, with the number of cells that it states
-module _ (J R X scratch : List ℕ) (v : LabradorVerdict) (judged : VerifyCall J R X scratch v) (zero : v .number ≡ 0) where
+module _ (J R X scratch : List ℕ) {left : List ℕ} (v : LabradorVerdict) (judged : VerifyCall J R X scratch left v) (zero : v .number ≡ 0) where
   accepts : verify J R X (length scratch) ≡ accepted (v .«cells_left»)
   accepts =
       let a = verify J R X (length scratch) in
-      let (cells, e) = zero-accepts J R X (length scratch) (sym (same-number a) ∙ sym (ap (λ (v : LabradorVerdict). v .number) judged) ∙ zero) in
-      e ∙ ap accepted (sym (ap (λ (v : LabradorVerdict). v .«cells_left») (judged ∙ ap labradorVerdict e)))
+      let (cells, e) = zero-accepts J R X (length scratch) (sym (same-number a) ∙ sym (ap (λ (v : LabradorVerdict). v .number) (judged .answer)) ∙ zero) in
+      e ∙ ap accepted (sym (ap (λ (v : LabradorVerdict). v .«cells_left») (judged .answer ∙ ap labradorVerdict e)))
 
   pub accepted-by-export : Accepted J X (v .«cells_left»)
   accepted-by-export = record { randomness = R; scratch = length scratch; verdict = accepts }
@@ -29,8 +29,8 @@ module _ (J R X scratch : List ℕ) (v : LabradorVerdict) (judged : VerifyCall J
   none-left-by-export none = record { randomness = R; scratch = length scratch; verdict = accepts ∙ ap accepted none }
 
 -- two calls with one job that answer 0
-module _ (J R R′ X Y scratch scratch′ : List ℕ) (v v′ : LabradorVerdict) (judged : VerifyCall J R X scratch v) (judged′ : VerifyCall J R′ Y scratch′ v′)
-    (zero : v .number ≡ 0) (zero′ : v′ .number ≡ 0) where
+module _ (J R R′ X Y scratch scratch′ : List ℕ) {left left′ : List ℕ} (v v′ : LabradorVerdict)
+    (judged : VerifyCall J R X scratch left v) (judged′ : VerifyCall J R′ Y scratch′ left′ v′) (zero : v .number ≡ 0) (zero′ : v′ .number ≡ 0) where
   pub binding-1-over-exports : Equal-u1 J X Y → (opening-1 J X ≡ opening-1 J Y → ⊥) → Given-away-1 J X Y
   binding-1-over-exports = binding-1 J X Y (v .«cells_left») (v′ .«cells_left») (accepted-by-export J R X scratch v judged zero) (accepted-by-export J R′ Y scratch′ v′ judged′ zero′)
 

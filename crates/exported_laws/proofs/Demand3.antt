@@ -18,15 +18,15 @@ use Rattle.protocol.proofs.Stated.{stated}
 use Rattle.call_answers.specs.declared.verdicts.LabradorAnswer.{LabradorAnswer}
 use Rattle.call_answers.specs.declared.verdicts.LabradorVerdict.{LabradorVerdict}
 use Rattle.call_answers.specs.Calls.{labradorVerdict}
+use Rattle.call_answers.specs.Whole.{ProveCall, VerifyCall}
 use Rattle.prove_then_verify.proofs.Demand3Calls.{sent}
-use Rattle.exported_laws.specs.Calls.{ProveCall, VerifyCall}
 use Rattle.exported_laws.specs.Told.{Demand-3-told}
 use Rattle.protocol.proofs.Refuses.{zero-well, of-prove}
 
 -- a prover that answers 0 is refused nothing
-pub proved-zero : (J R W scratch output output′ : List ℕ) (p : LabradorAnswer) → ProveCall whole J R W scratch output output′ p → p .number ≡ 0
+pub proved-zero : (J R W scratch output scratch′ output′ : List ℕ) (p : LabradorAnswer) → ProveCall whole J R W scratch output scratch′ output′ p → p .number ≡ 0
     → prove whole J R W (length scratch) (length output) ≡ fine
-proved-zero J R W scratch output output′ p c zero =
+proved-zero J R W scratch output scratch′ output′ p c zero =
     zero-well (of-prove whole J R W (length scratch) (length output)) (sym (ap (λ (a : LabradorAnswer). a .number) (c .answer)) ∙ zero)
 
 module _ {X : Public} {s : ℕ → ℕ → Element} where
@@ -74,17 +74,18 @@ module _ {X : Public} {s : ℕ → ℕ → Element} where
       norm-only e (inr (inr f)) = inr (inr (e ∙ f))
 
 -- `labrador_prove` answers 0; `labrador_verify` is handed its transcript, the same job and randomness, and scratch enough
-module _ (J R W scratch output output′ lent : List ℕ) (p : LabradorAnswer) (v : LabradorVerdict) (made : ProveCall whole J R W scratch output output′ p) (zero : p .number ≡ 0)
-    (enough : scratch-need (parameters J) ≤ length lent) (judged : VerifyCall J R (sent J output′) lent v) where
+module _ (J R W scratch output scratch′ output′ lent lent′ : List ℕ) (p : LabradorAnswer) (v : LabradorVerdict)
+    (made : ProveCall whole J R W scratch output scratch′ output′ p) (zero : p .number ≡ 0)
+    (enough : scratch-need (parameters J) ≤ length lent) (judged : VerifyCall J R (sent J output′) lent lent′ v) where
   verdict-is : verify J R (sent J output′) (length lent) ≡ conditions (public J R) (witness (parameters J) W)
   verdict-is =
-      ap (λ o. verify J R (sent J o) (length lent)) (made .left)
-      ∙ demand-3 J R W scratch output (length lent) (proved-zero J R W scratch output output′ p made zero) enough
+      ap (λ o. verify J R (sent J o) (length lent)) (made .output-left)
+      ∙ demand-3 J R W scratch output (length lent) (proved-zero J R W scratch output scratch′ output′ p made zero) enough
 
   -- the verdict is that of the four conditions
   pub demand-3-over-exports : v ≡ labradorVerdict (conditions (public J R) (witness (parameters J) W))
-  demand-3-over-exports = judged ∙ ap labradorVerdict verdict-is
+  demand-3-over-exports = judged .answer ∙ ap labradorVerdict verdict-is
 
   -- and is as demand 3 says
   pub told-over-exports : Demand-3-told (public J R) (witness (parameters J) W) v
-  told-over-exports = subst (Demand-3-told (public J R) (witness (parameters J) W)) (sym judged) (told (stated verdict-is))
+  told-over-exports = subst (Demand-3-told (public J R) (witness (parameters J) W)) (sym (judged .answer)) (told (stated verdict-is))

@@ -10,8 +10,9 @@ use Rattle.protocol.specs.Load.{Given, load-parameters, load-refusal, job-need,
 use Rattle.call_answers.specs.declared.verdicts.LabradorAnswer.{LabradorAnswer}
 use Rattle.call_answers.specs.declared.verdicts.LabradorVerdict.{LabradorVerdict}
 use Rattle.call_answers.specs.Calls.{labradorAnswer, labradorVerdict}
+use Rattle.call_answers.specs.Whole.{ProveCall, VerifyCall}
+use Rattle.load.specs.Call.{LoadCall}
 use Rattle.prove_then_verify.proofs.LoadCalls.{load-cells-left, load-made, load-judged}
-use Rattle.exported_laws.specs.Calls.{ProveCall, VerifyCall, LoadCall}
 use Rattle.protocol.proofs.Refuses.{zero-well, of-load}
 
 -- a load that answers 0; each buffer's needed part is handed on
@@ -30,19 +31,19 @@ module _ (G : Given) (seed : ℕ) (fits : seed < 2 ^ 32) (job witness randomness
   made = zero-well (of-load G (length job) (length witness) (length randomness)) (sym (ap (λ (a : LabradorAnswer). a .number) (loaded .answer)) ∙ zero)
 
   -- the prover, lent enough
-  module _ (scratch output output′ : List ℕ) (enough : scratch-need (load-parameters G) ≤ length scratch)
-      (room : span (transcript-sections (load-parameters G)) ≤ length output) (p : LabradorAnswer) (proved : ProveCall whole J R W scratch output output′ p) where
+  module _ (scratch output scratch′ output′ : List ℕ) (enough : scratch-need (load-parameters G) ≤ length scratch)
+      (room : span (transcript-sections (load-parameters G)) ≤ length output) (p : LabradorAnswer) (proved : ProveCall whole J R W scratch output scratch′ output′ p) where
     pub load-proved-over-exports : p ≡ labradorAnswer fine
     load-proved-over-exports =
         proved .answer
         ∙ ap labradorAnswer (load-made G seed fits job witness randomness made job′ witness′ randomness′ (loaded .job-left) (loaded .witness-left) (loaded .randomness-left) scratch output enough room)
 
     -- the verifier on its output's needed part, lent enough: accepted, with the number of cells that have something left
-    pub load-accepted-over-exports : (lent : List ℕ) (v : LabradorVerdict) → scratch-need (load-parameters G) ≤ length lent
-        → VerifyCall J R (take (span (transcript-sections (load-parameters G))) output′) lent v
+    pub load-accepted-over-exports : (lent lent′ : List ℕ) (v : LabradorVerdict) → scratch-need (load-parameters G) ≤ length lent
+        → VerifyCall J R (take (span (transcript-sections (load-parameters G))) output′) lent lent′ v
         → v ≡ labradorVerdict (accepted (load-cells-left G seed))
-    load-accepted-over-exports lent v lent-enough judged =
-        judged
+    load-accepted-over-exports lent lent′ v lent-enough judged =
+        judged .answer
         ∙ ap labradorVerdict
         (load-judged G seed fits job witness randomness made job′ witness′ randomness′ (loaded .job-left) (loaded .witness-left) (loaded .randomness-left)
-        scratch output enough room output′ (length lent) lent-enough (proved .left))
+        scratch output enough room output′ (length lent) lent-enough (proved .output-left))

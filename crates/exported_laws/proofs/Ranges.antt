@@ -29,12 +29,12 @@ use Rattle.protocol.proofs.Fine.{then-fine-left}
 use Rattle.sizes.specs.Sizes.{Sized}
 use Rattle.admission.proofs.Ready.{job-sized}
 use Rattle.call_answers.specs.declared.verdicts.LabradorAnswer.{LabradorAnswer}
+use Rattle.call_answers.specs.Whole.{ProveCall}
 use Rattle.range_vectors.specs.declared.RangeNorms.{RangeNorms}
 use Rattle.range_vectors.specs.Vectors.{rangeNorms}
 use Rattle.ranges.specs.declared.answers.RangesAnswer.{RangesAnswer}
 use Rattle.ranges.specs.Answers.{RangesCall}
 use Rattle.ranges.proofs.Exact.{exact-meets, exact-13}
-use Rattle.exported_laws.specs.Calls.{ProveCall}
 use Rattle.exported_laws.specs.Told.{meets-at, Lowest-above}
 use Rattle.protocol.proofs.Refuses.{Refuses, well, by, zero-well, _and_, test, either, each, Before-work, of-job, of-prover, of-digit-norms}
 
@@ -127,7 +127,7 @@ module _ (J : List ℕ) (xs : List ℤ) (r : RangesAnswer) (told : RangesCall J 
   told-13 = first (P .r) (λ i. cond (eqb (meets-at r i) 3) (refused 13 i) fine)
 
   -- a call of the prover on the witness whose coefficients are the numbers
-  module _ (call : Call) (R scratch output output′ : List ℕ) (p : LabradorAnswer) (proved : ProveCall call J R (exact-witness xs) scratch output output′ p) where
+  module _ (call : Call) (R scratch output scratch′ output′ : List ℕ) (p : LabradorAnswer) (proved : ProveCall call J R (exact-witness xs) scratch output scratch′ output′ p) where
     abbrev before : Answer
     before = prove-refusal call J R (exact-witness xs) (length scratch) (length output)
 

@@ -1,6 +1,9 @@
 // The lengths that a caller must lend.
+use admission::answers::Admitted;
+use admission::job;
+use call_answers::verdicts;
 use call_answers::verdicts::LabradorNeed;
-use whole_calls::needs;
+use sizes::buffers;
 ghost use mathlib.Core.Path.{_≡_};
 ghost use Rattle.protocol.specs.Parameters.{parameters};
 ghost use Rattle.protocol.specs.Layout.{span, transcript-sections, job-refusal, scratch-need};
@@ -11,7 +14,21 @@ ghost use Rattle.call_answers.specs.Calls.{labradorNeed};
 pub extern "C" fn labrador_scratch_need(job: &[u32]) -> LabradorNeed
     ensures { λ r. ⌜ r ≡ labradorNeed (job-refusal (now (job .entry))) (scratch-need (parameters (now (job .entry)))) ⌝ }
 {
-    needs::scratch_need(job)
+    match job::check(job) {
+        Admitted::Refused(refusal) => {
+            let answer = verdicts::refusal_of(refusal);
+            LabradorNeed {
+                number: answer.number,
+                place: answer.place,
+                words: 0,
+            }
+        }
+        Admitted::Fit(p) => LabradorNeed {
+            number: 0,
+            place: 0,
+            words: buffers::scratch_length(p) as u64,
+        },
+    }
 }
 
 // The words of output that the prover's whole call with this job needs, which are the transcript's.
@@ -19,5 +36,19 @@ pub extern "C" fn labrador_scratch_need(job: &[u32]) -> LabradorNeed
 pub extern "C" fn labrador_output_need(job: &[u32]) -> LabradorNeed
     ensures { λ r. ⌜ r ≡ labradorNeed (job-refusal (now (job .entry))) (span (transcript-sections (parameters (now (job .entry))))) ⌝ }
 {
-    needs::output_need(job)
+    match job::check(job) {
+        Admitted::Refused(refusal) => {
+            let answer = verdicts::refusal_of(refusal);
+            LabradorNeed {
+                number: answer.number,
+                place: answer.place,
+                words: 0,
+            }
+        }
+        Admitted::Fit(p) => LabradorNeed {
+            number: 0,
+            place: 0,
+            words: buffers::output_length(p, 0, 8) as u64,
+        },
+    }
 }

@@ -1,5 +1,6 @@
 // The digits of an element: 32 rows of 64, rows past the parts zero, and all zero where the operands are refused.
 use crate::answers;
+use crate::answers::Status;
 use definitions::answers::Operands;
 use operands::leaf;
 use rq::rq::Rq;
@@ -10,7 +11,8 @@ ghost use lib.ListN.{length};
 ghost use Rattle.lists.specs.Part.{splice};
 ghost use Rattle.definitions.specs.Answer.{ofOperands};
 ghost use Rattle.definitions.specs.Leaf.{digitOperands};
-ghost use Rattle.leaf_answers.specs.Rows.{rowsOrZero, rowWords};
+ghost use Rattle.leaf_answers.specs.Answers.{statusOf};
+ghost use Rattle.leaf_answers.specs.Rows.{rowsOrZero, rowWords, wordsFound, wordsWritten};
 
 // What is found of a base, a number of parts and an element.
 pub fn rq_digit_operands(base: u32, parts: u32, a: Rq) -> Operands
@@ -41,4 +43,23 @@ pub fn store_rows(rows: [[u32; 64]; 32], out: &mut [u32])
         let row = rows[k];
         words::store(out, 64 * k, Rq { coeffs: row });
     }
+}
+
+// The digits of an element, written into the first 2048 words of a lent slice.
+pub fn rq_digits(base: u32, parts: u32, a: Rq, out: &mut [u32]) -> Status
+    ensures { λ r. ⌜ r ≡ statusOf (wordsFound base parts (a .coeffs) (length (now (out .entry)))) ⌝ }
+    ensures { λ _. ⌜ now (out .exit) ≡ wordsWritten base parts (a .coeffs) (now (out .entry)) ⌝ }
+{
+    let s = answers::status_of(rq_digit_operands(base, parts, a));
+    if out.len() < 2048 {
+        if s.number == 0 {
+            return Status {
+                number: 2,
+                place: 2048,
+            };
+        }
+        return s;
+    }
+    store_rows(rq_digit_rows(base, parts, a), out);
+    s
 }

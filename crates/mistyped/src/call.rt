@@ -13,10 +13,10 @@ ghost use Rattle.definitions.specs.Answer.{ofVerdict, ofFailed};
 ghost use Rattle.protocol.specs.Parameters.{parameters};
 ghost use Rattle.protocol.specs.Layout.{scratch-need};
 ghost use Rattle.protocol.specs.Prover.{zeroed};
-ghost use Rattle.protocol.specs.Mistyped.{verdict-of, list-need, mistyped-scratch};
+ghost use Rattle.protocol.specs.Mistyped.{verdict-of, list-need};
 ghost use Rattle.admission.specs.Admission.{Verifiable};
 ghost use Rattle.verifier_common.specs.Work.{Sent};
-ghost use Rattle.mistyped.specs.Told.{Judged, Worked, Mistyped};
+ghost use Rattle.mistyped.specs.Told.{Judged, Worked, MistypedCall};
 
 // The list where check 22 is the failed one, and 32 where it is another.
 fn judge_failed(
@@ -84,8 +84,7 @@ pub fn mistyped(
     scratch: &mut [u32],
     list: &mut [u32],
 ) -> MistypedAnswer
-    ensures { λ r. ⌜ Mistyped (now (job .entry)) (now (randomness .entry)) (now (transcript .entry)) (length (now (scratch .entry))) (now (list .entry)) (now (list .exit)) r ⌝ }
-    ensures { λ r. ⌜ now (scratch .exit) ≡ mistyped-scratch (now (job .entry)) (now (randomness .entry)) (now (transcript .entry)) (now (scratch .entry)) (length (now (list .entry))) ⌝ }
+    ensures { λ r. ⌜ MistypedCall (now (job .entry)) (now (randomness .entry)) (now (transcript .entry)) (now (scratch .entry)) (now (list .entry)) (now (scratch .exit)) (now (list .exit)) r ⌝ }
 {
     match admission_order::verifier::admit(job, randomness, transcript, scratch.len()) {
         Admitted::Refused(refusal) => answers::refusal_of(refusal),

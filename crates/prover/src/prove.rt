@@ -11,10 +11,11 @@ ghost use lib.ListN.{length};
 ghost use Rattle.definitions.specs.Answer.{ofProved};
 ghost use Rattle.protocol.specs.Parameters.{parameters};
 ghost use Rattle.protocol.specs.Layout.{scratch-need};
-ghost use Rattle.protocol.specs.Prover.{prove as proved, zeroed, prove-output, prove-scratch};
+ghost use Rattle.protocol.specs.Prover.{zeroed};
 ghost use Rattle.admission.specs.Admission.{callOf, Provable};
 ghost use Rattle.prover_commit.specs.Refusals.{work};
 ghost use Rattle.prover.specs.Worked.{worked};
+ghost use Rattle.prover.specs.Proves.{Proves};
 
 // The work of a call that is refused nothing before it: "After any later answer scratch is zero to the length needed; after 13 to 16 the output's
 // needed part is zero too."
@@ -60,9 +61,7 @@ pub fn prove(
     scratch: &mut [u32],
     output: &mut [u32],
 ) -> Proved
-    ensures { λ r. ⌜ ofProved r ≡ proved (callOf call) (now (job .entry)) (now (randomness .entry)) (now (witness .entry)) (length (now (scratch .entry))) (length (now (output .entry))) ⌝ }
-    ensures { λ r. ⌜ now (output .exit) ≡ prove-output (callOf call) (now (job .entry)) (now (randomness .entry)) (now (witness .entry)) (now (scratch .entry)) (now (output .entry)) ⌝ }
-    ensures { λ r. ⌜ now (scratch .exit) ≡ prove-scratch (callOf call) (now (job .entry)) (now (randomness .entry)) (now (witness .entry)) (now (scratch .entry)) (now (output .entry)) ⌝ }
+    ensures { λ r. ⌜ Proves call (now (job .entry)) (now (randomness .entry)) (now (witness .entry)) (now (scratch .entry)) (now (output .entry)) (now (scratch .exit)) (now (output .exit)) r ⌝ }
 {
     match prover::admit(call, job, randomness, witness, scratch.len(), output.len()) {
         Admitted::Refused(refusal) => Proved::Refused(refusal),

@@ -13,8 +13,8 @@ ghost use Rattle.protocol.specs.Prover.{zeroed};
 ghost use Rattle.jl.specs.Run.{run as projected, Within};
 ghost use Rattle.relation.specs.Parameters.{parametersOf};
 ghost use Rattle.sizes.specs.Sizes.{Sized};
-ghost use Rattle.call_answers.specs.Calls.{labradorAnswer};
-ghost use Rattle.runs.specs.Runs.{run, p-section, stored, project-answer, project-output, project-scratch};
+ghost use Rattle.runs.specs.Runs.{p-section, stored};
+ghost use Rattle.run_projection.specs.Call.{PCall};
 
 // The section of p of so many vectors of n elements: the whole call's projection, of slices that start at the run's first vector.
 fn put_p(projection: &[u32], vectors: &[u32], n: usize, count: usize, output: &mut [u32])
@@ -59,9 +59,7 @@ pub fn project(
     scratch: &mut [u32],
     output: &mut [u32],
 ) -> LabradorAnswer
-    ensures { λ r. ⌜ r ≡ labradorAnswer (project-answer (now (job .entry)) (run first end) (now (projection .entry)) (now (vectors .entry)) (now (scratch .entry)) (now (output .entry))) ⌝ }
-    ensures { λ r. ⌜ now (output .exit) ≡ project-output (now (job .entry)) (run first end) (now (projection .entry)) (now (vectors .entry)) (now (scratch .entry)) (now (output .entry)) ⌝ }
-    ensures { λ r. ⌜ now (scratch .exit) ≡ project-scratch (now (job .entry)) (run first end) (now (projection .entry)) (now (vectors .entry)) (now (scratch .entry)) (now (output .entry)) ⌝ }
+    ensures { λ r. ⌜ PCall (now (job .entry)) first end (now (projection .entry)) (now (vectors .entry)) (now (scratch .entry)) (now (output .entry)) (now (scratch .exit)) (now (output .exit)) r ⌝ }
 {
     match admit_projection(
         job,

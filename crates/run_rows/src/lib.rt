@@ -15,8 +15,9 @@ ghost use Prim.Native.Nat.{_+_, _*_};
 ghost use lib.ListN.{length};
 ghost use Rattle.protocol.specs.Parameters.{parameters};
 ghost use Rattle.call_answers.specs.Calls.{labradorAnswer};
-ghost use Rattle.runs.specs.Runs.{run, rows-section, stored-rows, run-norm, rows-made, commit-rows, rows-output, rows-scratch};
+ghost use Rattle.runs.specs.Runs.{run, rows-section, stored-rows, run-norm, rows-made};
 ghost use Rattle.run_admission.specs.Admitted.{Run-given};
+ghost use Rattle.run_rows.specs.Call.{RowsCall};
 
 // The section of the rows of a run: the whole call's commitments, of a slice that starts at the run's first vector.
 fn put_rows(
@@ -79,9 +80,7 @@ pub fn rows(
     scratch: &mut [u32],
     output: &mut [u32],
 ) -> LabradorAnswer
-    ensures { λ r. ⌜ r ≡ labradorAnswer (commit-rows (now (job .entry)) (run first end) (now (vectors .entry)) (length (now (scratch .entry))) (length (now (output .entry)))) ⌝ }
-    ensures { λ r. ⌜ now (output .exit) ≡ rows-output (now (job .entry)) (run first end) (now (vectors .entry)) (now (scratch .entry)) (now (output .entry)) ⌝ }
-    ensures { λ r. ⌜ now (scratch .exit) ≡ rows-scratch (now (job .entry)) (run first end) (now (vectors .entry)) (now (scratch .entry)) (now (output .entry)) ⌝ }
+    ensures { λ r. ⌜ RowsCall (now (job .entry)) first end (now (vectors .entry)) (now (scratch .entry)) (now (output .entry)) (now (scratch .exit)) (now (output .exit)) r ⌝ }
 {
     match admit_rows(job, first, end, vectors, scratch.len(), output.len()) {
         RunAdmitted::Refused(refusal) => verdicts::refusal_of(refusal),

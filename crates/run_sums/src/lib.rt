@@ -9,8 +9,8 @@ ghost use mathlib.Core.Path.{_≡_};
 ghost use Prim.Native.Nat.{_≤_};
 ghost use lib.ListN.{length};
 ghost use Rattle.admission.specs.Admission.{ofSliceChecked};
-ghost use Rattle.call_answers.specs.Calls.{labradorAnswer};
-ghost use Rattle.runs.specs.Runs.{p-section, stored, p-sum, add-refusal, add-output};
+ghost use Rattle.runs.specs.Runs.{p-section, stored, p-sum, add-refusal};
+ghost use Rattle.run_sums.specs.Call.{AddCall};
 
 // "The adding call refuses by 9 and 10, the first p before the second, then by 2."
 fn check(p: &[u32], other: &[u32], output: usize) -> SliceChecked
@@ -40,8 +40,7 @@ fn put_sum(p: &[u32], other: &[u32], output: &mut [u32])
 
 // "another adds two such p"
 pub fn add(p: &[u32], other: &[u32], output: &mut [u32]) -> LabradorAnswer
-    ensures { λ r. ⌜ r ≡ labradorAnswer (add-refusal (now (p .entry)) (now (other .entry)) (length (now (output .entry)))) ⌝ }
-    ensures { λ r. ⌜ now (output .exit) ≡ add-output (now (p .entry)) (now (other .entry)) (now (output .entry)) ⌝ }
+    ensures { λ r. ⌜ AddCall (now (p .entry)) (now (other .entry)) (now (output .entry)) (now (output .exit)) r ⌝ }
 {
     match check(p, other, output.len()) {
         SliceChecked::Refused(refusal) => verdicts::refusal_of(refusal),

@@ -13,10 +13,10 @@ ghost use mathlib.Core.Path.{_≡_};
 ghost use lib.ListN.{length};
 ghost use Rattle.protocol.specs.Parameters.{parameters};
 ghost use Rattle.protocol.specs.Prover.{zeroed};
-ghost use Rattle.protocol.specs.Many.{many-need, many-scratch};
+ghost use Rattle.protocol.specs.Many.{many-need};
 ghost use Rattle.many_admission.specs.Admitted.{Many-given};
 ghost use Rattle.many_verdicts.specs.Windows.{verdicts-of};
-ghost use Rattle.verify_many.specs.Answers.{manyVerdicts};
+ghost use Rattle.verify_many.specs.Answers.{ManyCall};
 
 // The work of a call that is not refused as a whole: 9 and 10 of each transcript, the rows of A, B, C and D, each once for all that pass these, alpha's part of
 // φ for all of these together, and the verdicts, each after 7 and 8. A transcript that passes 7 to 10 takes part in all of it; one that is refused by 7 or 8
@@ -60,8 +60,7 @@ pub fn verify_many(
     transcripts: &[u32],
     scratch: &mut [u32],
 ) -> LabradorVerdicts
-    ensures { λ r. ⌜ r ≡ manyVerdicts (now (job .entry)) count (now (randomness .entry)) (now (transcripts .entry)) (length (now (scratch .entry))) ⌝ }
-    ensures { λ r. ⌜ now (scratch .exit) ≡ many-scratch (now (job .entry)) count (now (scratch .entry)) ⌝ }
+    ensures { λ r. ⌜ ManyCall (now (job .entry)) count (now (randomness .entry)) (now (transcripts .entry)) (now (scratch .entry)) (now (scratch .exit)) r ⌝ }
 {
     match whole::admit(job, count, scratch.len()) {
         ManyAdmitted::Count => answers::refused(35, 0),

@@ -6,22 +6,26 @@ use Rattle.prove_then_verify.proofs.prove_then_verify.Tie as tie
 
 verify-first-requires : tie.Need-verify-first-requires
 verify-first-requires c κs =
-    let s = c .before .before .before .before .before .before .before .before .before .before .before .before .before .before .before .before .before in
+    let a = c .before .before .before .before .before .before .before .before .before .before .before .before .before .before .before .before .before .args in
     let e = c .before .before .before .before .before .before .before .before .before .prove .ensures in
-    sent-within (s .args .job .now) (s .args .randomness .now) (s .args .witness .now) (s .args .scratch .now) (s .args .output .now) _ _ (e .0) (e .1 .0) (c .before .before .before .enum-told .given .1) _ (c .before .before .transcript-length .ensures)
+    let made = c .before .before .before .enum-told .given .1 in
+    sent-within (a .job .now) (a .randomness .now) (a .witness .now) (a .scratch .now) (a .output .now) _ _ (e .answer) (e .output-left) made _ (c .before .before .transcript-length .ensures)
 
 returns : tie.Need-returns
 returns c =
-    let s = c .before .before .before .before .before .before .before .before .before .before .before .before .before .before .before in
+    let a = c .before .before .before .before .before .before .before .before .before .before .before .before .before .before .before .args in
     let e = c .before .before .before .before .before .before .before .prove .ensures in
-    (prover-refuses (s .args .job .now) (s .args .randomness .now) (s .args .witness .now) (s .args .scratch .now) (s .args .output .now) _ _ (e .0) (e .1 .0) (c .before .refusal .given .0 .0) (c .before .refusal .given .1), (e .1 .0, e .1 .1))
+    let r = c .before .refusal .given in
+    (prover-refuses (a .job .now) (a .randomness .now) (a .witness .now) (a .scratch .now) (a .output .now) _ _ (e .answer) (e .output-left) (r .0 .0) (r .1), (e .output-left, e .scratch-left))
 
 returns-2 : tie.Need-returns-2
 returns-2 c =
-    let s = c .before .before .before .before .before .before .before .before .before .before .before .before .before .before .before .before .before .before .before .before in
+    let a = c .before .before .before .before .before .before .before .before .before .before .before .before .before .before .before .before .before .before .before .before .args in
     let e = c .before .before .before .before .before .before .before .before .before .before .before .before .prove .ensures in
-    let v = c .before .before .verify-first .ensures in
-    both-calls (s .args .job .now) (s .args .randomness .now) (s .args .witness .now) (s .args .scratch .now) (s .args .output .now) _ _ (e .0) (e .1 .0) (c .before .before .before .before .before .before .enum-told .given .1) (c .before .before .verify-first .result) _ _ _ (e .1 .1) (c .before .before .before .before .before .transcript-length .ensures) (v .0) (v .1)
+    let made = c .before .before .before .before .before .before .enum-told .given .1 in
+    let size = c .before .before .before .before .before .transcript-length .ensures in
+    let v = c .before .before .verify-first in
+    both-calls (a .job .now) (a .randomness .now) (a .witness .now) (a .scratch .now) (a .output .now) _ _ (e .answer) (e .output-left) made (v .result) _ _ _ (e .scratch-left) size (v .ensures .0) (v .ensures .1)
 
 pub prove-then-verify-spec : {M : Type 1} → statement M
 prove-then-verify-spec =

@@ -31,19 +31,23 @@ returns : tie.Need-returns
 returns c =
     let s = c .before .before .before .before .before .before .before .before .before .before .args in
     let r = c .before .before .refusal .given .0 .0 in
-    let e = found (c .before .before .before .before .admit-projection .ensures .0) (c .before .before .refusal .given .1) in (
-      c .refusal-of .ensures ∙ ap labradorAnswer e,
-      (refused-output (s .job .now) (run (s .first) (s .end)) (s .projection .now) (s .vectors .now) (s .scratch .now) (s .output .now) r e, refused-scratch (s .job .now) (run (s .first) (s .end)) (s .projection .now) (s .vectors .now) (s .scratch .now) (s .output .now) r e),
-    )
+    let e = found (c .before .before .before .before .admit-projection .ensures .0) (c .before .before .refusal .given .1) in
+    record {
+      answer = c .refusal-of .ensures ∙ ap labradorAnswer e;
+      output-left = refused-output (s .job .now) (run (s .first) (s .end)) (s .projection .now) (s .vectors .now) (s .scratch .now) (s .output .now) r e;
+      scratch-left = refused-scratch (s .job .now) (run (s .first) (s .end)) (s .projection .now) (s .vectors .now) (s .scratch .now) (s .output .now) r e;
+    }
 
 returns-2 : tie.Need-returns-2
 returns-2 c =
     let s = c .before .before .before .before .before .before .before .before .before .args in
     let n = c .before .place .given .0 .0 in
-    let e = found (c .before .before .before .admit-projection .ensures .0) (c .before .place .given .1) in (
-      ap labradorAnswer e,
-      (outside-output (s .job .now) (run (s .first) (s .end)) (s .projection .now) (s .vectors .now) (s .scratch .now) (s .output .now) n e, outside-scratch (s .job .now) (run (s .first) (s .end)) (s .projection .now) (s .vectors .now) (s .scratch .now) (s .output .now) n e),
-    )
+    let e = found (c .before .before .before .admit-projection .ensures .0) (c .before .place .given .1) in
+    record {
+      answer = ap labradorAnswer e;
+      output-left = outside-output (s .job .now) (run (s .first) (s .end)) (s .projection .now) (s .vectors .now) (s .scratch .now) (s .output .now) n e;
+      scratch-left = outside-scratch (s .job .now) (run (s .first) (s .end)) (s .projection .now) (s .vectors .now) (s .scratch .now) (s .output .now) n e;
+    }
 
 returns-3 : tie.Need-returns-3
 returns-3 c =
@@ -51,13 +55,13 @@ returns-3 c =
     let s = k .before .before .before .before .before .before .before .before .before .args in
     let h = fit k in
     let w = c .before .before .before .before .work .ensures in
-    let e : fine ≡ project-refusal (s .job .now) (run (s .first) (s .end)) (s .projection .now) (s .vectors .now) (length (s .scratch .now)) (length (s .output .now)) = found (k .before .before .before .admit-projection .ensures .0) (k .before .p .given .1) in (
-      made-answer _ (w .0 .0) (w .0 .1) ∙ ap labradorAnswer e,
-      (
-        worked-output (s .job .now) (run (s .first) (s .end)) (s .projection .now) (s .vectors .now) (s .scratch .now) (s .output .now) _ h e _ (w .1 .0),
-        worked-scratch (s .job .now) (run (s .first) (s .end)) (s .projection .now) (s .vectors .now) (s .scratch .now) (s .output .now) _ h e _ (w .1 .1),
-      ),
-    )
+    let e : fine ≡ project-refusal (s .job .now) (run (s .first) (s .end)) (s .projection .now) (s .vectors .now) (length (s .scratch .now)) (length (s .output .now)) =
+    found (k .before .before .before .admit-projection .ensures .0) (k .before .p .given .1) in
+    record {
+      answer = made-answer _ (w .0 .0) (w .0 .1) ∙ ap labradorAnswer e;
+      output-left = worked-output (s .job .now) (run (s .first) (s .end)) (s .projection .now) (s .vectors .now) (s .scratch .now) (s .output .now) _ h e _ (w .1 .0);
+      scratch-left = worked-scratch (s .job .now) (run (s .first) (s .end)) (s .projection .now) (s .vectors .now) (s .scratch .now) (s .output .now) _ h e _ (w .1 .1);
+    }
 
 pub project-spec : {M : Type 1} → statement M
 project-spec =

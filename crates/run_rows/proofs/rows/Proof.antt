@@ -37,19 +37,23 @@ returns : tie.Need-returns
 returns c =
     let s = c .before .before .before .before .before .before .before .before .before .args in
     let r = c .before .before .refusal .given .0 .0 in
-    let e = found (c .before .before .before .before .admit-rows .ensures .0) (c .before .before .refusal .given .1) in (
-      c .refusal-of .ensures ∙ ap labradorAnswer (refused-answer (s .job .now) (run (s .first) (s .end)) (s .vectors .now) (s .scratch .now) (s .output .now) r e),
-      (refused-output (s .job .now) (run (s .first) (s .end)) (s .vectors .now) (s .scratch .now) (s .output .now) r e, refused-scratch (s .job .now) (run (s .first) (s .end)) (s .vectors .now) (s .scratch .now) (s .output .now) r e),
-    )
+    let e = found (c .before .before .before .before .admit-rows .ensures .0) (c .before .before .refusal .given .1) in
+    record {
+      answer = c .refusal-of .ensures ∙ ap labradorAnswer (refused-answer (s .job .now) (run (s .first) (s .end)) (s .vectors .now) (s .scratch .now) (s .output .now) r e);
+      output-left = refused-output (s .job .now) (run (s .first) (s .end)) (s .vectors .now) (s .scratch .now) (s .output .now) r e;
+      scratch-left = refused-scratch (s .job .now) (run (s .first) (s .end)) (s .vectors .now) (s .scratch .now) (s .output .now) r e;
+    }
 
 returns-2 : tie.Need-returns-2
 returns-2 c =
     let s = c .before .before .before .before .before .before .before .before .args in
     let n = c .before .place .given .0 .0 in
-    let e = found (c .before .before .before .admit-rows .ensures .0) (c .before .place .given .1) in (
-      ap labradorAnswer (outside-answer (s .job .now) (run (s .first) (s .end)) (s .vectors .now) (s .scratch .now) (s .output .now) n e),
-      (outside-output (s .job .now) (run (s .first) (s .end)) (s .vectors .now) (s .scratch .now) (s .output .now) n e, outside-scratch (s .job .now) (run (s .first) (s .end)) (s .vectors .now) (s .scratch .now) (s .output .now) n e),
-    )
+    let e = found (c .before .before .before .admit-rows .ensures .0) (c .before .place .given .1) in
+    record {
+      answer = ap labradorAnswer (outside-answer (s .job .now) (run (s .first) (s .end)) (s .vectors .now) (s .scratch .now) (s .output .now) n e);
+      output-left = outside-output (s .job .now) (run (s .first) (s .end)) (s .vectors .now) (s .scratch .now) (s .output .now) n e;
+      scratch-left = outside-scratch (s .job .now) (run (s .first) (s .end)) (s .vectors .now) (s .scratch .now) (s .output .now) n e;
+    }
 
 returns-3 : tie.Need-returns-3
 returns-3 c =
@@ -57,15 +61,15 @@ returns-3 c =
     let s = k .before .before .before .before .before .before .before .before .args in
     let p = k .before .p .given .0 .0 in
     let e = unrefused k in
-    let w = c .before .before .before .before .before .before .before .commit .ensures in (
-      w .0 ∙ ap labradorAnswer (worked-answer (s .job .now) (run (s .first) (s .end)) (s .vectors .now) (s .scratch .now) (s .output .now) e),
-      (
-        w .1 ∙ worked-output (s .job .now) (run (s .first) (s .end)) (s .vectors .now) (s .scratch .now) (s .output .now) e,
-        worked-scratch (s .job .now) (run (s .first) (s .end)) (s .vectors .now) (s .scratch .now) (s .output .now) e p (fit k) _
-            (zeros-put (scratch-need (parametersOf p)) (s .scratch .now) _ (scratch-fits (s .job .now) (run (s .first) (s .end)) (s .vectors .now) (s .scratch .now) (s .output .now) e p (fit k))
-            (c .before .before .clear .ensures ∙ ap (λ n. splice (s .scratch .now) 0 (replicate n 0)) (c .before .before .before .before .scratch-length .ensures))),
-      ),
-    )
+    let w = c .before .before .before .before .before .before .before .commit .ensures in
+    record {
+      answer = w .0 ∙ ap labradorAnswer (worked-answer (s .job .now) (run (s .first) (s .end)) (s .vectors .now) (s .scratch .now) (s .output .now) e);
+      output-left = w .1 ∙ worked-output (s .job .now) (run (s .first) (s .end)) (s .vectors .now) (s .scratch .now) (s .output .now) e;
+      scratch-left =
+          worked-scratch (s .job .now) (run (s .first) (s .end)) (s .vectors .now) (s .scratch .now) (s .output .now) e p (fit k) _
+          (zeros-put (scratch-need (parametersOf p)) (s .scratch .now) _ (scratch-fits (s .job .now) (run (s .first) (s .end)) (s .vectors .now) (s .scratch .now) (s .output .now) e p (fit k))
+          (c .before .before .clear .ensures ∙ ap (λ n. splice (s .scratch .now) 0 (replicate n 0)) (c .before .before .before .before .scratch-length .ensures)));
+    }
 
 pub rows-spec : {M : Type 1} → statement M
 rows-spec =

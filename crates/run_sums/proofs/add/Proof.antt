@@ -14,13 +14,13 @@ returns : tie.Need-returns
 returns c =
     let s = c .before .before .before .before .before .before .before .before .args in
     let e = told (c .before .before .before .before .check .ensures) (c .before .before .refusal .given .1) in
-    (c .refusal-of .ensures ∙ ap labradorAnswer e, refused-output (s .p .now) (s .other .now) (s .output .now) (c .before .before .refusal .given .0 .0) e)
+    record { answer = c .refusal-of .ensures ∙ ap labradorAnswer e; output-left = refused-output (s .p .now) (s .other .now) (s .output .now) (c .before .before .refusal .given .0 .0) e }
 
 returns-2 : tie.Need-returns-2
 returns-2 c =
     let s = c .before .before .before .before .before .before .before .before .before .before .args in
     let e = told (c .before .before .before .before .before .before .check .ensures) (c .before .before .before .before .enum-told .given .1) in
-    (ap labradorAnswer e, c .before .before .put-sum .ensures ∙ made-output (s .p .now) (s .other .now) (s .output .now) e)
+    record { answer = ap labradorAnswer e; output-left = c .before .before .put-sum .ensures ∙ made-output (s .p .now) (s .other .now) (s .output .now) e }
 
 pub add-spec : {M : Type 1} → statement M
 add-spec = tie.close (tie.spec (λ c κs. search needs) (λ c. search needs) (λ c κs. search needs) (λ c. search needs) put-sum-requires returns (λ c. search needs) returns-2)

@@ -35,10 +35,11 @@ returns : tie.Need-returns
 returns c =
     let k = c .before .before in
     let s = k .before .before .before .before .before .before .before .before .before .before .args in
-    let e = short-list (s .job .now) (s .randomness .now) (s .transcript .now) (s .scratch .now) (s .list .now) (unrefused k) (omega (arith, c .before .if1 .taken, need-is k)) in (
-      refused-call (s .job .now) (s .randomness .now) (s .transcript .now) (s .scratch .now) (s .list .now) e (c .refused .result) (c .refused .ensures ∙ ap (λ n. mistypedAnswer (refused 2 n) 0) (need-is k)),
-      refused-scratch (s .job .now) (s .randomness .now) (s .transcript .now) (s .scratch .now) (s .list .now) e,
-    )
+    let e = short-list (s .job .now) (s .randomness .now) (s .transcript .now) (s .scratch .now) (s .list .now) (unrefused k) (omega (arith, c .before .if1 .taken, need-is k)) in
+    record {
+      told = refused-call (s .job .now) (s .randomness .now) (s .transcript .now) (s .scratch .now) (s .list .now) e _ (c .refused .ensures ∙ ap (λ n. mistypedAnswer (refused 2 n) 0) (need-is k));
+      scratch-left = refused-scratch (s .job .now) (s .randomness .now) (s .transcript .now) (s .scratch .now) (s .list .now) e;
+    }
 
 work-requires : tie.Need-work-requires
 work-requires c κs = let k = c .before .before .before in (fit k, c .before .before .if1 .left)
@@ -48,20 +49,24 @@ returns-2 c =
     let s = c .before .before .before .before .before .before .before .before .before .before .args in
     let r = c .before .before .refusal .given in
     let n = numbered (r .0 .0) in
-    let f = first-refusal (s .job .now) (s .randomness .now) (s .transcript .now) (s .scratch .now) (s .list .now) (r .0 .0) (sym (ap ofAdmitted (r .1)) ∙ c .before .before .before .before .admit .ensures .0) in (
-      refused-call (s .job .now) (s .randomness .now) (s .transcript .now) (s .scratch .now) (s .list .now) (f ∙ n .is) (c .refusal-of .result) (c .refusal-of .ensures ∙ ap (λ a. mistypedAnswer a 0) (n .is)),
-      refused-scratch (s .job .now) (s .randomness .now) (s .transcript .now) (s .scratch .now) (s .list .now) (f ∙ n .is),
-    )
+    let g = sym (ap ofAdmitted (r .1)) ∙ c .before .before .before .before .admit .ensures .0 in
+    let f = first-refusal (s .job .now) (s .randomness .now) (s .transcript .now) (s .scratch .now) (s .list .now) (r .0 .0) g in
+    record {
+      told = refused-call (s .job .now) (s .randomness .now) (s .transcript .now) (s .scratch .now) (s .list .now) (f ∙ n .is) _ (c .refusal-of .ensures ∙ ap (λ a. mistypedAnswer a 0) (n .is));
+      scratch-left = refused-scratch (s .job .now) (s .randomness .now) (s .transcript .now) (s .scratch .now) (s .list .now) (f ∙ n .is);
+    }
 
 returns-3 : tie.Need-returns-3
 returns-3 c =
     let k = c .before .before .before .before .before .before .before .before in
     let s = k .before .before .before .before .before .before .before .before .before .before .args in
     let w = c .before .before .before .before .work .ensures in
-    let e = long-list (s .job .now) (s .randomness .now) (s .transcript .now) (s .scratch .now) (s .list .now) (unrefused k) (omega (arith, c .before .before .before .before .before .before .before .if1 .left, need-is k)) in (
-      worked-call (s .job .now) (s .randomness .now) (s .transcript .now) (s .scratch .now) (s .list .now) e (w .0),
-      worked-scratch (s .job .now) (s .randomness .now) (s .transcript .now) (s .scratch .now) (s .list .now) e (w .1),
-    )
+    let long = c .before .before .before .before .before .before .before .if1 .left in
+    let e = long-list (s .job .now) (s .randomness .now) (s .transcript .now) (s .scratch .now) (s .list .now) (unrefused k) (omega (arith, long, need-is k)) in
+    record {
+      told = worked-call (s .job .now) (s .randomness .now) (s .transcript .now) (s .scratch .now) (s .list .now) e (w .0);
+      scratch-left = worked-scratch (s .job .now) (s .randomness .now) (s .transcript .now) (s .scratch .now) (s .list .now) e (w .1);
+    }
 
 pub mistyped-spec : {M : Type 1} → statement M
 mistyped-spec =

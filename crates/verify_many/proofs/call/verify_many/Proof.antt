@@ -21,7 +21,10 @@ returns c =
     let a = k .before .before .before .before .before .args in
     let e = sym (ap ofManyAdmitted (c .before .enum-told .given .1)) ∙ k .admit .ensures .0 in
     let v = verdicts-of (a .job .now) (a .count) (a .randomness .now) (a .transcripts .now) in
-    (count-answer (a .job .now) (a .count) (a .scratch .now) v e (c .refused .result) (c .refused .ensures), count-scratch (a .job .now) (a .count) (a .scratch .now) v e)
+    record {
+      answer = count-answer (a .job .now) (a .count) (a .scratch .now) v e (c .refused .result) (c .refused .ensures);
+      scratch-left = count-scratch (a .job .now) (a .count) (a .scratch .now) v e;
+    }
 
 returns-2 : tie.Need-returns-2
 returns-2 c =
@@ -30,7 +33,10 @@ returns-2 c =
     let r = c .before .before .refusal .given in
     let e = sym (ap ofManyAdmitted (r .1)) ∙ k .admit .ensures .0 in
     let v = verdicts-of (a .job .now) (a .count) (a .randomness .now) (a .transcripts .now) in
-    (refused-answer (a .job .now) (a .count) (a .scratch .now) v (r .0 .0) e (c .refusal-of .result) (c .refusal-of .ensures), refused-scratch (a .job .now) (a .count) (a .scratch .now) v (r .0 .0) e)
+    record {
+      answer = refused-answer (a .job .now) (a .count) (a .scratch .now) v (r .0 .0) e (c .refusal-of .result) (c .refusal-of .ensures);
+      scratch-left = refused-scratch (a .job .now) (a .count) (a .scratch .now) v (r .0 .0) e;
+    }
 
 returns-3 : tie.Need-returns-3
 returns-3 c =
@@ -39,7 +45,10 @@ returns-3 c =
     let e = sym (ap ofManyAdmitted (c .before .before .before .before .before .p .given .1)) ∙ k .admit .ensures .0 in
     let w = c .before .before .work .ensures in
     let v = verdicts-of (a .job .now) (a .count) (a .randomness .now) (a .transcripts .now) in
-    (given-answer (a .job .now) (a .count) (a .scratch .now) v e (c .before .before .work .result) (w .0), given-scratch (a .job .now) (a .count) (a .scratch .now) v e (w .1))
+    record {
+      answer = given-answer (a .job .now) (a .count) (a .scratch .now) v e (c .before .before .work .result) (w .0);
+      scratch-left = given-scratch (a .job .now) (a .count) (a .scratch .now) v e (w .1);
+    }
 
 -- the scratch keeps its length
 size : tie.Need-same-length
