@@ -65,12 +65,13 @@ module _ (J R W : List ℕ) where
       (line-is S φ (P .r) (P .n) (φ″ X k) W (start (witness-sections P) 0) v)
 
   -- the region that `b_double_prime` fills, of regions whose triangles and vectors k are a''_k and φ''_k
-  pub b″-stored : (S : List ℕ) (a g φ number to : ℕ) → to + 64 * number ≤ length S
-      → ((k : ℕ) → k < number → Triangle S (a + 64 * (k * T P)) (P .r) (a″ X k)) → Triangle S g (P .r) (F.g X (witness P W))
-      → ((k : ℕ) → k < number → Vectors S (φ + 64 * (k * (P .r * P .n))) (P .r) (P .n) (φ″ X k))
-      → Elements (splice S to (flat (table number (λ k. formed S (a + 64 * (k * T P)) g (φ + 64 * (k * (P .r * P .n))) (P .r) (P .n) W (start (witness-sections P) 0))))) to number (b″ X (witness P W))
-  b″-stored S a g φ number to h ta tg v =
-      elements-ext (splice S to (flat (table number B))) to number B (b″ X (witness P W)) (λ k l. b″-is S (a + 64 * (k * T P)) g (φ + 64 * (k * (P .r * P .n))) k (ta k l) tg (v k l)) (elements-stored S to number B h)
+  pub b″-stored : (S : List ℕ) (a g φ count to : ℕ) → to + 64 * count ≤ length S
+      → ((k : ℕ) → k < count → Triangle S (a + 64 * (k * T P)) (P .r) (a″ X k)) → Triangle S g (P .r) (F.g X (witness P W))
+      → ((k : ℕ) → k < count → Vectors S (φ + 64 * (k * (P .r * P .n))) (P .r) (P .n) (φ″ X k))
+      → Elements (splice S to (flat (table count (λ k. formed S (a + 64 * (k * T P)) g (φ + 64 * (k * (P .r * P .n))) (P .r) (P .n) W (start (witness-sections P) 0))))) to count (b″ X (witness P W))
+  b″-stored S a g φ count to h ta tg v =
+      elements-ext (splice S to (flat (table count B))) to count B (b″ X (witness P W)) (λ k l. b″-is S (a + 64 * (k * T P)) g (φ + 64 * (k * (P .r * P .n))) k (ta k l) tg (v k l))
+      (elements-stored S to count B h)
     where
       B : ℕ → Element
       B k = formed S (a + 64 * (k * T P)) g (φ + 64 * (k * (P .r * P .n))) (P .r) (P .n) W (start (witness-sections P) 0)

@@ -13,7 +13,8 @@ use Rattle.algebra.proofs.Dot.{dot-ext}
 use Rattle.definitions.specs.Rq.{Element}
 use Rattle.definitions.specs.Ring.{RqOps, element, scale}
 use Rattle.definitions.proofs.RqRing.{rq-ring}
-use Rattle.inner_product.specs.Run.{run}
+use Rattle.inner_product.specs.declared.Strided.{Strided}
+use Rattle.inner_product.specs.Run.{run, strided, further}
 use Rattle.jl_omega.specs.Omega.{omega-element}
 use Rattle.jl_omega.proofs.Formula.{φ″-parts}
 use Rattle.protocol.specs.Parameters.{Parameters, parameters, T}
@@ -23,7 +24,7 @@ use Rattle.protocol.specs.Formulas.{flat, rows, sum, _⊕_, _⊗_, a″, φ″,
 use Rattle.protocol.proofs.Flat.{length-rows, row-cell}
 use Rattle.protocol.proofs.Region.{elements-list, Triangle, Vectors, elements-stored, elements-row, triangle-of, vectors-of}
 use Rattle.aggregate_psi.specs.Grid.{weighed}
-use Rattle.aggregate.specs.Weighed.{both, mixed}
+use Rattle.aggregate.specs.Weighed.{both, mixed, mixed-words, rows-at}
 
 -- the place of element c of constraint x, constraints having so many elements
 constraint-place : (at c width x : ℕ) → at + 64 * c + 64 * width * x ≡ at + 64 * (x * width + c)
@@ -42,14 +43,14 @@ number-place : (at count k x : ℕ) → at + k * count + x ≡ at + (k * count +
 number-place at count k x = omega arith
 
 -- elements a weighed by alpha and elements b weighed by beta
-mixed-is : (C : List ℕ) (at step count : ℕ) (weights : List ℕ) (alpha beta : ℕ) (S : List ℕ) (from pace number : ℕ) (a b : ℕ → Element)
-    → ((k : ℕ) → k < count → run C at step k ≡ a k) → ((k : ℕ) → k < number → run S from pace k ≡ b k)
-    → mixed C at step count weights alpha beta S from pace number ≡ sum count (λ k. element-at weights alpha k ⊗ a k) ⊕ sum number (λ k. element-at weights beta k ⊗ b k)
+mixed-is : (C : List ℕ) (x : Strided) (weights : List ℕ) (alpha beta : ℕ) (S : List ℕ) (y : Strided) (a b : ℕ → Element)
+    → ((k : ℕ) → k < x .count → strided C x k ≡ a k) → ((k : ℕ) → k < y .count → strided S y k ≡ b k)
+    → mixed C x weights alpha beta S y ≡ sum (x .count) (λ k. element-at weights alpha k ⊗ a k) ⊕ sum (y .count) (λ k. element-at weights beta k ⊗ b k)
 unfolding mixed Ops.dot
-mixed-is C at step count weights alpha beta S from pace number a b p q =
+mixed-is C x weights alpha beta S y a b p q =
     ap₂ _⊕_
-    (dot-ext RqOps count (run weights alpha 64) (run weights alpha 64) (run C at step) a (λ k l. refl) p)
-    (dot-ext RqOps number (run weights beta 64) (run weights beta 64) (run S from pace) b (λ k l. refl) q)
+    (dot-ext RqOps (x .count) (run weights alpha 64) (run weights alpha 64) (strided C x) a (λ k l. refl) p)
+    (dot-ext RqOps (y .count) (run weights beta 64) (run weights beta 64) (strided S y) b (λ k l. refl) q)
 
 -- where the words of the job's section m after the parameters start
 abbrev pub job-at : List ℕ → ℕ → ℕ
@@ -110,39 +111,43 @@ module _ (J R : List ℕ) where
 
   -- cell (i, j) of a'' and the ring constraints' triangles mixed, of a region whose triangle k is a''_k
   pub a-sum-is : (S : List ℕ) (at : ℕ) → ((k : ℕ) → k < P .L → Triangle S (at + 64 * (k * T P)) (P .r) (a″ X k)) → (i j : ℕ) → i < P .r → j < P .r
-      → mixed J (job-at J 3 + 64 * cell i j) (64 * T P) (P .K) R (randomness-at J 3) (randomness-at J 4) S (at + 64 * cell i j) (64 * T P) (P .L) ≡ a-sum X i j
+      → mixed J (further (rows-at (job-at J 3) (T P) (P .K)) (cell i j)) R (randomness-at J 3) (randomness-at J 4) S (further (rows-at at (T P) (P .L)) (cell i j)) ≡ a-sum X i j
   unfolding a-sum
   a-sum-is S at h i j p q =
-      mixed-is J (job-at J 3 + 64 * cell i j) (64 * T P) (P .K) R (randomness-at J 3) (randomness-at J 4) S (at + 64 * cell i j) (64 * T P) (P .L) (λ k. X .a k i j) (λ k. a″ X k i j)
+      mixed-is J (further (rows-at (job-at J 3) (T P) (P .K)) (cell i j)) R (randomness-at J 3) (randomness-at J 4) S (further (rows-at at (T P) (P .L)) (cell i j))
+      (λ k. X .a k i j) (λ k. a″ X k i j)
       (λ k l. ap (λ place. element (part J place 64)) (constraint-place (job-at J 3) (cell i j) (T P) k))
       (λ k l. ap (λ place. element (part S place 64)) (row-place at (cell i j) (T P) k) ∙ h k l i j p q)
 
   -- the triangle that `aggregate` fills from such a region is a
   pub a-stored : (S : List ℕ) (at to : ℕ) → to + 64 * T P ≤ length S → ((k : ℕ) → k < P .L → Triangle S (at + 64 * (k * T P)) (P .r) (a″ X k))
-      → Triangle (splice S to (flat (table (T P) (λ c. mixed J (job-at J 3 + 64 * c) (64 * T P) (P .K) R (randomness-at J 3) (randomness-at J 4) S (at + 64 * c) (64 * T P) (P .L))))) to (P .r) (a-sum X)
+      → Triangle (splice S to (mixed-words J (rows-at (job-at J 3) (T P) (P .K)) R (randomness-at J 3) (randomness-at J 4) S (rows-at at (T P) (P .L)) (T P))) to (P .r) (a-sum X)
   a-stored S at to h t = triangle-of (splice S to (flat (table (T P) M))) to (P .r) M (a-sum X) (elements-stored S to (T P) M h) (a-sum-is S at t)
     where
       M : ℕ → Element
-      M c = mixed J (job-at J 3 + 64 * c) (64 * T P) (P .K) R (randomness-at J 3) (randomness-at J 4) S (at + 64 * c) (64 * T P) (P .L)
+      M c = mixed J (further (rows-at (job-at J 3) (T P) (P .K)) c) R (randomness-at J 3) (randomness-at J 4) S (further (rows-at at (T P) (P .L)) c)
 
   -- element m of vector i of φ'' and the ring constraints' vectors mixed, of a region whose vectors k are φ''_k
   pub φ-sum-is : (S : List ℕ) (at : ℕ) → ((k : ℕ) → k < P .L → Vectors S (at + 64 * (k * (P .r * P .n))) (P .r) (P .n) (φ″ X k)) → (i m : ℕ) → i < P .r → m < P .n
-      → mixed J (job-at J 4 + 64 * (i * P .n + m)) (64 * (P .r * P .n)) (P .K) R (randomness-at J 3) (randomness-at J 4) S (at + 64 * (i * P .n + m)) (64 * (P .r * P .n)) (P .L) ≡ φ-sum X i m
+      → mixed J (further (rows-at (job-at J 4) (P .r * P .n) (P .K)) (i * P .n + m)) R (randomness-at J 3) (randomness-at J 4)
+      S (further (rows-at at (P .r * P .n) (P .L)) (i * P .n + m)) ≡ φ-sum X i m
   unfolding φ-sum
   φ-sum-is S at h i m p q =
-      mixed-is J (job-at J 4 + 64 * (i * P .n + m)) (64 * (P .r * P .n)) (P .K) R (randomness-at J 3) (randomness-at J 4) S (at + 64 * (i * P .n + m)) (64 * (P .r * P .n)) (P .L) (λ k. X .φ k i m) (λ k. φ″ X k i m)
+      mixed-is J (further (rows-at (job-at J 4) (P .r * P .n) (P .K)) (i * P .n + m)) R (randomness-at J 3) (randomness-at J 4) S (further (rows-at at (P .r * P .n) (P .L)) (i * P .n + m))
+      (λ k. X .φ k i m) (λ k. φ″ X k i m)
       (λ k l. ap (λ place. element (part J place 64)) (vector-place (job-at J 4) i m (P .r) (P .n) k))
       (λ k l. ap (λ place. element (part S place 64)) (row-place at (i * P .n + m) (P .r * P .n) k) ∙ h k l i m p q)
 
   -- the vectors that `aggregate` fills from such a region are φ
   pub φ-stored : (S : List ℕ) (at to : ℕ) → to + 64 * (P .r * P .n) ≤ length S → ((k : ℕ) → k < P .L → Vectors S (at + 64 * (k * (P .r * P .n))) (P .r) (P .n) (φ″ X k))
-      → Vectors (splice S to (flat (table (P .r * P .n) (λ c. mixed J (job-at J 4 + 64 * c) (64 * (P .r * P .n)) (P .K) R (randomness-at J 3) (randomness-at J 4) S (at + 64 * c) (64 * (P .r * P .n)) (P .L))))) to (P .r) (P .n) (φ-sum X)
+      → Vectors (splice S to (mixed-words J (rows-at (job-at J 4) (P .r * P .n) (P .K)) R (randomness-at J 3) (randomness-at J 4) S (rows-at at (P .r * P .n) (P .L)) (P .r * P .n)))
+      to (P .r) (P .n) (φ-sum X)
   φ-stored S at to h t = vectors-of (splice S to (flat (table (P .r * P .n) M))) to (P .r) (P .n) M (φ-sum X) (elements-stored S to (P .r * P .n) M h) (φ-sum-is S at t)
     where
       M : ℕ → Element
-      M c = mixed J (job-at J 4 + 64 * c) (64 * (P .r * P .n)) (P .K) R (randomness-at J 3) (randomness-at J 4) S (at + 64 * c) (64 * (P .r * P .n)) (P .L)
+      M c = mixed J (further (rows-at (job-at J 4) (P .r * P .n) (P .K)) c) R (randomness-at J 3) (randomness-at J 4) S (further (rows-at at (P .r * P .n) (P .L)) c)
 
   -- the ring constraints' right sides and b'' mixed
-  pub b-sum-is : (B : List ℕ) (at : ℕ) → mixed J (job-at J 5) 64 (P .K) R (randomness-at J 3) (randomness-at J 4) B at 64 (P .L) ≡ b-sum X (element-at B at)
+  pub b-sum-is : (B : List ℕ) (at : ℕ) → mixed J (rows-at (job-at J 5) 1 (P .K)) R (randomness-at J 3) (randomness-at J 4) B (rows-at at 1 (P .L)) ≡ b-sum X (element-at B at)
   unfolding b-sum
-  b-sum-is B at = mixed-is J (job-at J 5) 64 (P .K) R (randomness-at J 3) (randomness-at J 4) B at 64 (P .L) (X .b) (element-at B at) (λ k l. refl) (λ k l. refl)
+  b-sum-is B at = mixed-is J (rows-at (job-at J 5) 1 (P .K)) R (randomness-at J 3) (randomness-at J 4) B (rows-at at 1 (P .L)) (X .b) (element-at B at) (λ k l. refl) (λ k l. refl)

@@ -1,10 +1,12 @@
 -- The two aggregations over the words of slices: psi and omega, alpha and beta.
+use mathlib.Core.Path.{_≡_}
 use mathlib.Core.List.{List}
 use Prim.Native.Nat.{ℕ, _+_, _*_, _≤_}
 use lib.ListN.{length}
 use Rattle.lists.specs.Table.{table, cat}
 use Rattle.definitions.specs.Rq.{Element}
-use Rattle.inner_product.specs.Run.{Run, run}
+use Rattle.inner_product.specs.declared.Strided.{Strided}
+use Rattle.inner_product.specs.Run.{Run, run, strided, Within, further}
 use Rattle.jl_omega.specs.Omega.{omega-element}
 use Rattle.protocol.specs.Parameters.{triangular}
 use Rattle.protocol.specs.Views.{element-at, cell}
@@ -19,10 +21,10 @@ weighed-words words at width count numbers row number = flat (rows number width 
 unfoldable pub both : List ℕ → (at r n count : ℕ) → List ℕ → (pi psi om : ℕ) → ℕ → ℕ → Element
 both job at r n count randomness pi psi om i m = omega-element randomness (pi + i * 256 * (64 * n)) om n m ⊕ weighed job at (r * n) count randomness psi (i * n + m)
 
--- elements weighed by elements alpha, and others weighed by elements beta, together
-unfoldable pub mixed : List ℕ → (at step count : ℕ) → List ℕ → (alpha beta : ℕ) → List ℕ → (from pace number : ℕ) → Element
-mixed constraints at step count weights alpha beta aggregated from pace number =
-    dot count (run weights alpha 64) (run constraints at step) ⊕ dot number (run weights beta 64) (run aggregated from pace)
+-- a run's elements weighed by elements alpha, and another's weighed by elements beta, together
+unfoldable pub mixed : List ℕ → Strided → List ℕ → (alpha beta : ℕ) → List ℕ → Strided → Element
+mixed job constraints weights alpha beta source aggregated =
+    dot (constraints .count) (run weights alpha 64) (strided job constraints) ⊕ dot (aggregated .count) (run weights beta 64) (strided source aggregated)
 
 -- Σ a_ij·g_ij over all pairs, of two triangles of r rows, and Σ ⟨φ_i, s_i⟩ of r vectors of n elements, together
 unfoldable pub formed : List ℕ → (a g φ r n : ℕ) → List ℕ → ℕ → Element
@@ -55,36 +57,44 @@ Parts job at r n count randomness pi psi om number out to =
     × (n ≤ 64)
 
 -- the words of b'' of so many k: a'' and φ'' stand one k after the other
-abbrev pub b″-words : List ℕ → (a g φ r n : ℕ) → List ℕ → (s number : ℕ) → List ℕ
-b″-words words a g φ r n witness s number = flat (table number (λ k. formed words (a + 64 * (k * triangular r)) g (φ + 64 * (k * (r * n))) r n witness s))
+abbrev pub b″-words : List ℕ → (a g φ r n : ℕ) → List ℕ → (s count : ℕ) → List ℕ
+b″-words words a g φ r n witness s count = flat (table count (λ k. formed words (a + 64 * (k * triangular r)) g (φ + 64 * (k * (r * n))) r n witness s))
 
 -- the triangles a'' of so many k, the triangle g and the vectors φ'' of so many k end before a place, after which b'' has room
-abbrev pub FormedRows : List ℕ → (a g φ r n : ℕ) → List ℕ → (s number to : ℕ) → Type 0
-FormedRows words a g φ r n witness s number to =
-    (a + 64 * (number * triangular r) ≤ to)
+abbrev pub FormedRows : List ℕ → (a g φ r n : ℕ) → List ℕ → (s count to : ℕ) → Type 0
+FormedRows words a g φ r n witness s count to =
+    (a + 64 * (count * triangular r) ≤ to)
     × (g + 64 * triangular r ≤ to)
-    × (φ + 64 * (number * (r * n)) ≤ to)
-    × (to + 64 * number ≤ length words)
+    × (φ + 64 * (count * (r * n)) ≤ to)
+    × (to + 64 * count ≤ length words)
     × (s + 64 * (r * n) ≤ length witness)
     × (r ≤ 64)
     × (n ≤ 64)
 
--- so many constraints' elements and aggregated ones, with their weights, lie within the slices
-abbrev pub Mixable : List ℕ → (at step count : ℕ) → List ℕ → (alpha beta : ℕ) → List ℕ → (from pace number : ℕ) → Type 0
-Mixable constraints at step count weights alpha beta aggregated from pace number =
-    Run constraints at step count × Run weights alpha 64 count × Run weights beta 64 number × Run aggregated from pace number
+-- a run of constraints' elements and one of aggregated ones, with their weights, lie within the slices
+abbrev pub Mixable : List ℕ → Strided → List ℕ → (alpha beta : ℕ) → List ℕ → Strided → Type 0
+Mixable job constraints weights alpha beta source aggregated =
+    Within job constraints × Run weights alpha 64 (constraints .count) × Run weights beta 64 (aggregated .count) × Within source aggregated
 
--- the words of `width` elements mixed
-abbrev pub mixed-words : List ℕ → (at width count : ℕ) → List ℕ → (alpha beta : ℕ) → List ℕ → (from number : ℕ) → List ℕ
-mixed-words job at width count weights alpha beta aggregated from number =
-    flat (table width (λ c. mixed job (at + 64 * c) (64 * width) count weights alpha beta aggregated (from + 64 * c) (64 * width) number))
+-- the run of the first elements of so many rows, of `width` elements each, that stand one after the other from a place on
+abbrev pub rows-at : (at width count : ℕ) → Strided
+rows-at at width count = record { at = at; step = 64 * width; count = count }
 
--- so many constraints and their weights lie within the slices; so do the aggregated ones in the scratch, and after them the result has room
-abbrev pub Aggregates : List ℕ → (at width count : ℕ) → List ℕ → (alpha beta : ℕ) → List ℕ → (from number to : ℕ) → Type 0
-Aggregates job at width count weights alpha beta scratch from number to =
-    Grid job at width count
-    × Run weights alpha 64 count
-    × Run weights beta 64 number
-    × Grid scratch from width number
-    × (from + 64 * (width * number) ≤ to)
+-- a run is that of the first elements of rows, of `width` elements each, that stand one after the other, and the rows lie within the slice
+abbrev pub Rows : List ℕ → Strided → ℕ → Type 0
+Rows words x width = Grid words (x .at) width (x .count) × (x .step ≡ 64 * width)
+
+-- the words of `width` elements mixed, each of the runs of the rows' elements
+abbrev pub mixed-words : List ℕ → Strided → List ℕ → (alpha beta : ℕ) → List ℕ → Strided → ℕ → List ℕ
+mixed-words job constraints weights alpha beta source aggregated width =
+    flat (table width (λ c. mixed job (further constraints c) weights alpha beta source (further aggregated c)))
+
+-- the rows of the constraints and their weights lie within the slices; so do the aggregated ones in the scratch, and after them the result has room
+abbrev pub Aggregates : List ℕ → Strided → List ℕ → (alpha beta : ℕ) → List ℕ → Strided → (width to : ℕ) → Type 0
+Aggregates job constraints weights alpha beta scratch aggregated width to =
+    Rows job constraints width
+    × Run weights alpha 64 (constraints .count)
+    × Run weights beta 64 (aggregated .count)
+    × Rows scratch aggregated width
+    × (aggregated .at + 64 * (width * aggregated .count) ≤ to)
     × (to + 64 * width ≤ length scratch)

@@ -1,6 +1,7 @@
 // The two aggregations (core/aggregate.rs). The constraints' cells or vectors stand one constraint after the other, `width` elements each; element c of
 // the result is weighed over the constraints' elements c.
 use inner_product;
+use inner_product::Strided;
 use rq::rq::Rq;
 use rq_matrix;
 ghost use mathlib.Core.Path.{_≡_};
@@ -89,18 +90,18 @@ pub fn b_double_prime(
     n: usize,
     witness: &[u32],
     s_at: usize,
-    rows: usize,
+    count: usize,
     to: usize,
 )
-    requires { ⌜ FormedRows (now scratch) «a_at» «g_at» «phi_at» r n (now witness) «s_at» rows to ⌝ }
-    ensures { λ _. ⌜ now (scratch .exit) ≡ splice (now (scratch .entry)) to (b″-words (now (scratch .entry)) «a_at» «g_at» «phi_at» r n (now (witness .entry)) «s_at» rows) ⌝ }
+    requires { ⌜ FormedRows (now scratch) «a_at» «g_at» «phi_at» r n (now witness) «s_at» count to ⌝ }
+    ensures { λ _. ⌜ now (scratch .exit) ≡ splice (now (scratch .entry)) to (b″-words (now (scratch .entry)) «a_at» «g_at» «phi_at» r n (now (witness .entry)) «s_at» count) ⌝ }
 {
     let cells = triangles::cells(r);
     let width = r * n;
     let mut a = a_at;
     let mut phi = phi_at;
     let mut k = 0;
-    while k < rows {
+    while k < count {
         let e = form(scratch, a, g_at, phi, r, n, witness, s_at);
         words::store(scratch, to + 64 * k, e);
         a += 64 * cells;
@@ -109,60 +110,69 @@ pub fn b_double_prime(
     }
 }
 
-// The ring constraints' elements weighed by alpha and the aggregated ones weighed by beta, together.
+// A run of the ring constraints' elements weighed by alpha and a run of aggregated ones weighed by beta, together.
 pub fn mix(
-    constraints: &[u32],
-    at: usize,
-    step: usize,
-    count: usize,
+    job: &[u32],
+    constraints: Strided,
     weights: &[u32],
     alpha: usize,
     beta: usize,
-    aggregated: &[u32],
-    from: usize,
-    pace: usize,
-    number: usize,
+    source: &[u32],
+    aggregated: Strided,
 ) -> Rq
-    requires { ⌜ Mixable (now constraints) at step count (now weights) alpha beta (now aggregated) from pace number ⌝ }
-    ensures { λ r. ⌜ r .coeffs ≡ words (mixed (now (constraints .entry)) at step count (now (weights .entry)) alpha beta (now (aggregated .entry)) from pace number) ⌝ }
+    requires { ⌜ Mixable (now job) constraints (now weights) alpha beta (now source) aggregated ⌝ }
+    ensures { λ r. ⌜ r .coeffs ≡ words (mixed (now (job .entry)) constraints (now (weights .entry)) alpha beta (now (source .entry)) aggregated) ⌝ }
 {
-    let first = inner_product::inner_product(weights, alpha, 64, constraints, at, step, count);
-    let second = inner_product::inner_product(weights, beta, 64, aggregated, from, pace, number);
+    let first = inner_product::inner_product(
+        weights,
+        alpha,
+        64,
+        job,
+        constraints.at,
+        constraints.step,
+        constraints.count,
+    );
+    let second = inner_product::inner_product(
+        weights,
+        beta,
+        64,
+        source,
+        aggregated.at,
+        aggregated.step,
+        aggregated.count,
+    );
     first.add(second)
 }
 
-// a or φ: each element weighed over the ring constraints by alpha and over a region's aggregated ones by beta, into another region of the same scratch.
+// a or φ: each of `width` elements weighed over the ring constraints by alpha and over a region's aggregated ones by beta, into another region of the same
+// scratch. The runs are those of the first elements.
 pub fn aggregate(
     job: &[u32],
-    at: usize,
-    width: usize,
-    count: usize,
+    constraints: Strided,
     weights: &[u32],
     alpha: usize,
     beta: usize,
     scratch: &mut [u32],
-    from: usize,
-    number: usize,
+    aggregated: Strided,
+    width: usize,
     to: usize,
 )
-    requires { ⌜ Aggregates (now job) at width count (now weights) alpha beta (now scratch) from number to ⌝ }
-    ensures { λ _. ⌜ now (scratch .exit) ≡ splice (now (scratch .entry)) to (mixed-words (now (job .entry)) at width count (now (weights .entry)) alpha beta (now (scratch .entry)) from number) ⌝ }
+    requires { ⌜ Aggregates (now job) constraints (now weights) alpha beta (now scratch) aggregated width to ⌝ }
+    ensures { λ _. ⌜ now (scratch .exit) ≡ splice (now (scratch .entry)) to (mixed-words (now (job .entry)) constraints (now (weights .entry)) alpha beta (now (scratch .entry)) aggregated width) ⌝ }
 {
     let mut c = 0;
     while c < width {
-        let e = mix(
-            job,
-            at + 64 * c,
-            64 * width,
-            count,
-            weights,
-            alpha,
-            beta,
-            scratch,
-            from + 64 * c,
-            64 * width,
-            number,
-        );
+        let constraint = Strided {
+            at: constraints.at + 64 * c,
+            step: constraints.step,
+            count: constraints.count,
+        };
+        let one = Strided {
+            at: aggregated.at + 64 * c,
+            step: aggregated.step,
+            count: aggregated.count,
+        };
+        let e = mix(job, constraint, weights, alpha, beta, scratch, one);
         words::store(scratch, to + 64 * c, e);
         c += 1;
     }

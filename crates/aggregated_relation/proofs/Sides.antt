@@ -8,7 +8,6 @@ use lib.ListN.{length}
 use Rattle.definitions.specs.Answer.{fine, failed}
 use Rattle.definitions.specs.Rq.{Element, radd}
 use Rattle.definitions.specs.Ring.{words}
-use Rattle.inner_product.specs.Run.{Run}
 use Rattle.protocol.specs.Parameters.{Parameters, parameters, T, triangular}
 use Rattle.protocol.specs.Layout.{start, job-sections, randomness-sections}
 use Rattle.protocol.specs.Views.{Public, Message, public, message}
@@ -17,7 +16,7 @@ use Rattle.protocol.specs.Verifier.{same, twice, check-27}
 use Rattle.rq_matrix.specs.Region.{triangle-at}
 use Rattle.rq_matrix.proofs.Word.{stands-for, words-of-sum}
 use Rattle.rq_matrix.proofs.Formula.{sum-of-a}
-use Rattle.aggregate.specs.Weighed.{mixed}
+use Rattle.aggregate.specs.Weighed.{mixed, rows-at, Mixable}
 use Rattle.aggregate.proofs.Grid.{row-run}
 use Rattle.aggregate.proofs.Laws.{b-sum-is}
 use Rattle.regions.specs.declared.Regions.{Regions}
@@ -71,30 +70,30 @@ module _ (J R X : List ℕ) (p : EnvironmentParameters) (q : Regions) (S : List 
   diagonal-requires at h = (h, few-vectors)
 
   -- what the aggregated b requires
-  pub mix-requires : (at alpha beta from : ℕ) → length J < 2 ^ 61 → length R < 2 ^ 61 → length X < 2 ^ 61
-      → at ≡ 31 + start (job-sections p′) 5 → alpha ≡ start (randomness-sections p′) 3 → beta ≡ start (randomness-sections p′) 4 → from ≡ transcript-at p′ 2
-      → Run J at 64 (p .«constraint_k») × Run R alpha 64 (p .«constraint_k») × Run R beta 64 (p .«const_agg_length») × Run X from 64 (p .«const_agg_length»)
-  mix-requires at alpha beta from j r x e f g h =
+  pub mix-requires : (at alpha beta place : ℕ) → length J < 2 ^ 61 → length R < 2 ^ 61 → length X < 2 ^ 61
+      → at ≡ 31 + start (job-sections p′) 5 → alpha ≡ start (randomness-sections p′) 3 → beta ≡ start (randomness-sections p′) 4 → place ≡ transcript-at p′ 2
+      → Mixable J (rows-at at 1 (p .«constraint_k»)) R alpha beta X (rows-at place 1 (p .«const_agg_length»))
+  mix-requires at alpha beta place j r x e f g h =
       let z = reckoned (s .posed) in
       let K : p .«constraint_k» ≤ 2 ^ 18 = omega (arith, z .within .K .1) in
       let L : p .«const_agg_length» ≤ 2 ^ 18 = omega (arith, z .within .L .1) in (
         row-run J at (p .«constraint_k») (placed J X p (s .posed) J (λ Q. 31 + start (job-sections Q) 5) (λ Q. Q .K) at e (b-within J p q S ready)) K j,
         row-run R alpha (p .«constraint_k») (placed J X p (s .posed) R (λ Q. start (randomness-sections Q) 3) (λ Q. Q .K) alpha f (alpha-within 7 J R (s .drawn) (omega arith))) K r,
         row-run R beta (p .«const_agg_length») (placed J X p (s .posed) R (λ Q. start (randomness-sections Q) 4) (λ Q. Q .L) beta g (beta-within 7 J R (s .drawn) (omega arith))) L r,
-        row-run X from (p .«const_agg_length») (b″-within J X p (s .posed) from h) L x,
+        row-run X place (p .«const_agg_length») (b″-within J X p (s .posed) place h) L x,
       )
 
   -- check 27 by the boolean's value, of the words that are compared
-  pub relation-answer : (g-at h-at at alpha beta from : ℕ) (products doubled diagonal left b right : List ℕ) (t : Bool) → Holds S (q .a) (a-words J R)
+  pub relation-answer : (g-at h-at at alpha beta place : ℕ) (products doubled diagonal left b right : List ℕ) (t : Bool) → Holds S (q .a) (a-words J R)
       → g-at ≡ transcript-at p′ 6 → h-at ≡ transcript-at p′ 7
-      → at ≡ 31 + start (job-sections p′) 5 → alpha ≡ start (randomness-sections p′) 3 → beta ≡ start (randomness-sections p′) 4 → from ≡ transcript-at p′ 2
+      → at ≡ 31 + start (job-sections p′) 5 → alpha ≡ start (randomness-sections p′) 3 → beta ≡ start (randomness-sections p′) 4 → place ≡ transcript-at p′ 2
       → products ≡ words (pairs (p .multiplicity) (λ i j. triangle-at S (q .a) i j ⊗ triangle-at X g-at i j))
       → diagonal ≡ words (sum (p .multiplicity) (λ i. triangle-at X h-at i i))
-      → b ≡ words (mixed J at 64 (p .«constraint_k») R alpha beta X from 64 (p .«const_agg_length»))
+      → b ≡ words (mixed J (rows-at at 1 (p .«constraint_k»)) R alpha beta X (rows-at place 1 (p .«const_agg_length»)))
       → doubled ≡ radd products products → left ≡ radd doubled diagonal → right ≡ radd b b
       → t ≡ equal left right → cond t fine (failed 27 []) ≡ check-27 Y M
   unfolding check-27
-  relation-answer g-at h-at at alpha beta from products doubled diagonal left b right t holds eg eh ea eα eβ ef hp hd hb h2 hl hr ht =
+  relation-answer g-at h-at at alpha beta place products doubled diagonal left b right t holds eg eh ea eα eβ ef hp hd hb h2 hl hr ht =
       let x = pairs (P .r) (λ i j. a-sum Y i j ⊗ M .g i j) in
       let y = sum (P .r) (λ i. M .h i i) in
       let z = b-sum Y (M .b″) in
@@ -109,9 +108,10 @@ module _ (J R X : List ℕ) (p : EnvironmentParameters) (q : Regions) (S : List 
       ∙ ap (λ Q. words (sum (Q .r) (λ i. triangle-at X (transcript-at Q 7) i i))) (s .posed .same) in
       let pz : b ≡ words z =
       hb
-      ∙ ap₂ (λ a c. words (mixed J a 64 (p .«constraint_k») R c beta X from 64 (p .«const_agg_length»))) ea eα
-      ∙ ap₂ (λ a c. words (mixed J (31 + start (job-sections p′) 5) 64 (p .«constraint_k») R (start (randomness-sections p′) 3) a X c 64 (p .«const_agg_length»))) eβ ef
-      ∙ ap (λ Q. words (mixed J (31 + start (job-sections Q) 5) 64 (Q .K) R (start (randomness-sections Q) 3) (start (randomness-sections Q) 4) X (transcript-at Q 2) 64 (Q .L))) (s .posed .same)
+      ∙ ap₂ (λ a c. words (mixed J (rows-at a 1 (p .«constraint_k»)) R c beta X (rows-at place 1 (p .«const_agg_length»)))) ea eα
+      ∙ ap₂ (λ a c. words (mixed J (rows-at (31 + start (job-sections p′) 5) 1 (p .«constraint_k»)) R (start (randomness-sections p′) 3) a X (rows-at c 1 (p .«const_agg_length»)))) eβ ef
+      ∙ ap (λ Q. words (mixed J (rows-at (31 + start (job-sections Q) 5) 1 (Q .K)) R (start (randomness-sections Q) 3) (start (randomness-sections Q) 4) X (rows-at (transcript-at Q 2) 1 (Q .L))))
+      (s .posed .same)
       ∙ ap words (b-sum-is J R X (transcript-at P 2)) in
       let l : left ≡ words (twice x ⊕ y) = words-of-sum left doubled diagonal (twice x) y hl (stands-for doubled (twice x) (words-of-twice doubled products x h2 px)) (stands-for diagonal y py) in
       sym (require-equal (words (twice x ⊕ y)) (words (twice z)) (failed 27 []) t (ht ∙ ap₂ equal l (words-of-twice right b z hr pz)))

@@ -1,6 +1,7 @@
 // The verifier's check of the aggregated relation (verifier.rs): 27.
 use definitions::answers::Checked;
 use definitions::answers::FailedCheck;
+use inner_product::Strided;
 use regions::Regions;
 use relation::env_params::EnvironmentParameters;
 use sizes::offsets;
@@ -29,18 +30,26 @@ pub fn check_relation(
     let r = p.multiplicity;
     let products = rq_matrix::sum_of_products(scratch, q.a, transcript, g_at, r);
     let diagonal = rq_matrix::diagonal_sum(transcript, h_at, r);
+    let constraints = Strided {
+        at: offsets::of_job(p, 5),
+        step: 64,
+        count: p.constraint_k,
+    };
+    let alpha = offsets::of_randomness(p, 3);
+    let beta = offsets::of_randomness(p, 4);
+    let aggregated = Strided {
+        at: offsets::of_transcript(p, 2),
+        step: 64,
+        count: p.const_agg_length,
+    };
     let b = aggregate::mix(
         job,
-        offsets::of_job(p, 5),
-        64,
-        p.constraint_k,
+        constraints,
         randomness,
-        offsets::of_randomness(p, 3),
-        offsets::of_randomness(p, 4),
+        alpha,
+        beta,
         transcript,
-        offsets::of_transcript(p, 2),
-        64,
-        p.const_agg_length,
+        aggregated,
     );
     let twice = products.add(products);
     let left = twice.add(diagonal);

@@ -5,6 +5,7 @@ use lib.ListN.{length}
 use Rattle.lists.specs.Part.{part}
 use Rattle.definitions.specs.Rq.{Element}
 use Rattle.definitions.specs.Ring.{element}
+use Rattle.inner_product.specs.declared.Strided.{Strided}
 
 -- element m of a run: its first word stands at the place and m steps on
 abbrev pub run : List ℕ → ℕ → ℕ → ℕ → Element
@@ -16,6 +17,18 @@ pub record Run (words : List ℕ) (at step n : ℕ) : Type 0 where
   pub few : n ≤ 2 ^ 18
   pub near : step ≤ 2 ^ 40
   pub first : at ≤ 2 ^ 62
+
+-- element m of a strided run
+abbrev pub strided : List ℕ → Strided → ℕ → Element
+strided words x = run words (x .at) (x .step)
+
+-- a strided run lies within the slice
+abbrev pub Within : List ℕ → Strided → Type 0
+Within words x = Run words (x .at) (x .step) (x .count)
+
+-- the run of the elements that stand c elements further on
+abbrev pub further : Strided → ℕ → Strided
+further x c = record { at = x .at + 64 * c; step = x .step; count = x .count }
 
 -- n elements one after the other have room in the slice from a place on
 abbrev pub Room : List ℕ → (at n : ℕ) → Type 0

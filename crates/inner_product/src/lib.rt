@@ -9,6 +9,13 @@ ghost use Rattle.algebra.specs.Ops.{sum, dot};
 ghost use Rattle.definitions.specs.Ring.{RqOps, words, scale};
 ghost use Rattle.inner_product.specs.Run.{Run, run};
 
+// A run of elements in a slice: the place of the first, the step from one to the next, both in words, and how many there are.
+pub struct Strided {
+    pub at: usize,
+    pub step: usize,
+    pub count: usize,
+}
+
 // The inner product of two runs of n elements.
 pub fn inner_product(
     x: &[u32],

@@ -44,12 +44,14 @@ module _ (e a buffer : List ℕ) (same : a ≡ e) (stored : buffer ≡ splice (r
   }
 
   -- by which the terms are those by the element's values
-  pub forms-stored : (forms next from : List ℕ) (at step number : ℕ) → next ≡ splice forms 0 (forms-added forms from at step number buffer) → next ≡ splice forms 0 (forms-added forms from at step number (values e))
+  pub forms-stored : (forms next from : List ℕ) (at step count : ℕ) → next ≡ splice forms 0 (forms-added forms from at step count buffer)
+      → next ≡ splice forms 0 (forms-added forms from at step count (values e))
   unfolding forms-added
-  forms-stored forms next from at step number made =
+  forms-stored forms next from at step count made =
       made
       ∙ ap (splice forms 0)
-      (table-ext (192 * number) (λ j. getD forms j 0 + getD (values (part from (at + step * (j / 192)) 64)) (j % 192) 0 * getD buffer (j % 192) 0) (λ j. getD forms j 0 + getD (values (part from (at + step * (j / 192)) 64)) (j % 192) 0 * getD (values e) (j % 192) 0)
+      (table-ext (192 * count) (λ j. getD forms j 0 + getD (values (part from (at + step * (j / 192)) 64)) (j % 192) 0 * getD buffer (j % 192) 0)
+      (λ j. getD forms j 0 + getD (values (part from (at + step * (j / 192)) 64)) (j % 192) 0 * getD (values e) (j % 192) 0)
       (λ j l. ap (λ x. getD forms j 0 + getD (values (part from (at + step * (j / 192)) 64)) (j % 192) 0 * x) (ap (λ o. getD buffer o 0) (sym (zero-add (j % 192))) ∙ value-in e a buffer same stored (j % 192) (omega arith))))
 
 -- sums for each k
@@ -93,18 +95,18 @@ module _ (forms from : List ℕ) (at step : ℕ) (s : List ℕ) where
       ∙ ap (splice forms 0) (sym (table-split (192 * k) 192 grown) ∙ ap (λ n. table n grown) more)
 
   -- room for the term of the next k
-  pub form-small : (now : List ℕ) (number k : ℕ) → now ≡ splice forms 0 (forms-added forms from at step k s) → k < number → FormsSmall forms number → FormSmall now (192 * k)
-  form-small now number k e h small = (
+  pub form-small : (now : List ℕ) (count k : ℕ) → now ≡ splice forms 0 (forms-added forms from at step k s) → k < count → FormsSmall forms count → FormSmall now (192 * k)
+  form-small now count k e h small = (
     omega (arith, ap length e, length-splice forms 0 (forms-added forms from at step k s), small .0),
     (λ o l. subst (λ x. x ≤ 63 * 18032502047663104) (sym (forms-rest now k (192 * k + o) e (omega arith))) (small .1 (192 * k + o) (omega arith))),
   )
 
   -- sum o of k after all are added
-  pub form-at : (next : List ℕ) (number : ℕ) → next ≡ splice forms 0 (forms-added forms from at step number s) → 192 * number ≤ length forms → (k o : ℕ) → k < number → o < 192
+  pub form-at : (next : List ℕ) (count : ℕ) → next ≡ splice forms 0 (forms-added forms from at step count s) → 192 * count ≤ length forms → (k o : ℕ) → k < count → o < 192
       → getD next (192 * k + o) 0 ≡ getD forms (192 * k + o) 0 + getD (values (part from (at + step * k) 64)) o 0 * getD s o 0
   unfolding forms-added grown
-  form-at next number e h k o l b =
+  form-at next count e h k o l b =
       ap (λ l. getD l (192 * k + o) 0) e
-      ∙ ap (λ j. getD (splice forms 0 (table (192 * number) grown)) j 0) (sym (zero-add (192 * k + o)))
-      ∙ getD-splice-table forms 0 (192 * number) grown (192 * k + o) 0 (omega arith) (omega arith)
+      ∙ ap (λ j. getD (splice forms 0 (table (192 * count) grown)) j 0) (sym (zero-add (192 * k + o)))
+      ∙ getD-splice-table forms 0 (192 * count) grown (192 * k + o) 0 (omega arith) (omega arith)
       ∙ grown-at k o b

@@ -6,7 +6,8 @@ use Rattle.lists.specs.Table.{table}
 use Rattle.lists.specs.Part.{part}
 use Rattle.definitions.specs.Rq.{Element}
 use Rattle.definitions.specs.Ring.{element}
-use Rattle.inner_product.specs.Run.{Run}
+use Rattle.inner_product.specs.declared.Strided.{Strided}
+use Rattle.inner_product.specs.Run.{Within}
 use Rattle.protocol.specs.Views.{element-at}
 use Rattle.protocol.specs.Formulas.{_⊕_}
 use Rattle.kept_vectors.specs.Keeps.{values, AllValues}
@@ -17,17 +18,21 @@ unfoldable pub form-added : List ℕ → ℕ → List ℕ → List ℕ → List 
 form-added forms form e s = table 192 (λ k. getD forms (form + k) 0 + getD (values e) k 0 * getD s k 0)
 
 -- those of so many elements a step apart, each added to sums of its own
-unfoldable pub forms-added : List ℕ → List ℕ → (at step number : ℕ) → List ℕ → List ℕ
-forms-added forms from at step number s =
-    table (192 * number) (λ j. getD forms j 0 + getD (values (part from (at + step * (j / 192)) 64)) (j % 192) 0 * getD s (j % 192) 0)
+unfoldable pub forms-added : List ℕ → List ℕ → (at step count : ℕ) → List ℕ → List ℕ
+forms-added forms from at step count s =
+    table (192 * count) (λ j. getD forms j 0 + getD (values (part from (at + step * (j / 192)) 64)) (j % 192) 0 * getD s (j % 192) 0)
+
+-- those of a run
+abbrev pub run-formed : List ℕ → List ℕ → Strided → List ℕ → List ℕ
+run-formed forms from x s = forms-added forms from (x .at) (x .step) (x .count) s
 
 -- an element lies within the slice, and the weight and s are values
 abbrev pub TermRoom : List ℕ → ℕ → List ℕ → ℕ → List ℕ → Type 0
 TermRoom from at weights weight s = (at + 64 ≤ length from) × AllValues weights weight 1 × AllValues s 0 1
 
--- so do so many, and their weights
-abbrev pub ColumnRoom : List ℕ → (at step number : ℕ) → List ℕ → ℕ → List ℕ → Type 0
-ColumnRoom from at step number weights weights-at s = Run from at step number × AllValues weights weights-at number × AllValues s 0 1
+-- a run lies within the slice, and its weights and s are values
+abbrev pub ColumnRoom : List ℕ → Strided → List ℕ → ℕ → List ℕ → Type 0
+ColumnRoom from x weights weights-at s = Within from x × AllValues weights weights-at (x .count) × AllValues s 0 1
 
 -- 192 sums from a place on, with room for a term
 abbrev pub FormSmall : List ℕ → ℕ → Type 0
@@ -35,11 +40,11 @@ FormSmall forms form = (form + 192 ≤ length forms) × ((k : ℕ) → k < 192 �
 
 -- so many times 192 sums, each with room for a term
 abbrev pub FormsSmall : List ℕ → ℕ → Type 0
-FormsSmall forms number = (192 * number ≤ length forms) × ((j : ℕ) → j < 192 * number → getD forms j 0 ≤ 63 * 18032502047663104)
+FormsSmall forms count = (192 * count ≤ length forms) × ((j : ℕ) → j < 192 * count → getD forms j 0 ≤ 63 * 18032502047663104)
 
 -- and the element of the witness lies within it
 abbrev pub FormsRoom : List ℕ → ℕ → List ℕ → ℕ → Type 0
-FormsRoom forms number witness s-at = (s-at + 64 ≤ length witness) × FormsSmall forms number
+FormsRoom forms count witness s-at = (s-at + 64 ≤ length witness) × FormsSmall forms count
 
 -- element k of the totals and the element whose values the sums of k are, together
 abbrev pub total : List ℕ → List ℕ → ℕ → Element

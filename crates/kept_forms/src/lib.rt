@@ -1,5 +1,6 @@
 // φ and b'' in one pass: each element of φ'' is transformed once, and its values are multiplied by the kept beta for φ and by the witness's for b''. The
 // sums for b'', 192 for each k, are lent.
+use inner_product::Strided;
 use kept_mix;
 use kept_sums;
 use kept_vectors;
@@ -13,8 +14,8 @@ ghost use Rattle.definitions.specs.Ring.{words};
 ghost use Rattle.protocol.specs.Formulas.{flat};
 ghost use Rattle.ntt.specs.Roots.{twiddleTable};
 ghost use Rattle.kept_vectors.specs.Keeps.{values};
-ghost use Rattle.kept_mix.specs.Terms.{term-added, terms-added, SumsSmall, kept-mixed, KeptMixable};
-ghost use Rattle.kept_forms.specs.Forms.{form-added, forms-added, TermRoom, ColumnRoom, FormSmall, FormsSmall, FormsRoom, total};
+ghost use Rattle.kept_mix.specs.Terms.{term-added, run-added, SumsSmall, kept-mixed, KeptMixable};
+ghost use Rattle.kept_forms.specs.Forms.{form-added, run-formed, TermRoom, ColumnRoom, FormSmall, FormsSmall, FormsRoom, total};
 
 // The product of a kept weight and the element at a place added to 192 sums, and the element's with kept values of s added to others from `form` on.
 pub fn add_both(
@@ -39,12 +40,10 @@ pub fn add_both(
     kept_sums::add_product(forms, form, &values, 0, s, 0);
 }
 
-// Those of `number` elements a step apart, with kept weights one after the other; each has sums of its own in `forms`.
+// Those of a run of elements, with kept weights one after the other; each has sums of its own in `forms`.
 pub fn add_column(
     from: &[u32],
-    at: usize,
-    step: usize,
-    number: usize,
+    run: Strided,
     weights: &[u32],
     weights_at: usize,
     s: &[u32],
@@ -52,14 +51,16 @@ pub fn add_column(
     sums: &mut [u64],
     forms: &mut [u64],
 )
-    requires { ⌜ (now w ≡ twiddleTable) × ColumnRoom (now from) at step number (now weights) «weights_at» (now s) × SumsSmall (now sums) number × FormsSmall (now forms) number ⌝ }
-    ensures { λ _. ⌜ now (sums .exit) ≡ terms-added (now (sums .entry)) (now (weights .entry)) «weights_at» (now (from .entry)) at step number ⌝ }
-    ensures { λ _. ⌜ now (forms .exit) ≡ splice (now (forms .entry)) 0 (forms-added (now (forms .entry)) (now (from .entry)) at step number (now (s .entry))) ⌝ }
+    requires { ⌜ (now w ≡ twiddleTable) × ColumnRoom (now from) run (now weights) «weights_at» (now s) × SumsSmall (now sums) (run .count) × FormsSmall (now forms) (run .count) ⌝ }
+    ensures { λ _. ⌜ now (sums .exit) ≡ run-added (now (sums .entry)) (now (weights .entry)) «weights_at» (now (from .entry)) run ⌝ }
+    ensures { λ _. ⌜ now (forms .exit) ≡ splice (now (forms .entry)) 0 (run-formed (now (forms .entry)) (now (from .entry)) run (now (s .entry))) ⌝ }
 {
-    let mut i = at;
+    let step = run.step;
+    let count = run.count;
+    let mut i = run.at;
     let mut weight = weights_at;
     let mut k = 0;
-    while k < number {
+    while k < count {
         add_both(from, i, weights, weight, s, w, sums, forms, 192 * k);
         i += step;
         weight += 192;
@@ -69,36 +70,30 @@ pub fn add_column(
 
 // `kept_mix::mix`, with the terms of b'': the aggregated elements' products with the witness's element at a place.
 pub fn mix_and_form(
-    constraints: &[u32],
-    at: usize,
-    step: usize,
-    count: usize,
-    aggregated: &[u32],
-    from: usize,
-    pace: usize,
-    number: usize,
+    job: &[u32],
+    constraints: Strided,
+    scratch: &[u32],
+    aggregated: Strided,
     weights: &[u32],
     witness: &[u32],
     s: usize,
     w: &[u32],
     forms: &mut [u64],
 ) -> Rq
-    requires { ⌜ (now w ≡ twiddleTable) × KeptMixable (now constraints) at step count (now aggregated) from pace number (now weights) × FormsRoom (now forms) number (now witness) s ⌝ }
-    ensures { λ r. ⌜ r .coeffs ≡ words (kept-mixed (now (constraints .entry)) at step count (now (aggregated .entry)) from pace number (now (weights .entry))) ⌝ }
-    ensures { λ _. ⌜ now (forms .exit) ≡ splice (now (forms .entry)) 0 (forms-added (now (forms .entry)) (now (aggregated .entry)) from pace number (values (part (now (witness .entry)) s 64))) ⌝ }
+    requires { ⌜ (now w ≡ twiddleTable) × KeptMixable (now job) constraints (now scratch) aggregated (now weights) × FormsRoom (now forms) (aggregated .count) (now witness) s ⌝ }
+    ensures { λ r. ⌜ r .coeffs ≡ words (kept-mixed (now (job .entry)) constraints (now (scratch .entry)) aggregated (now (weights .entry))) ⌝ }
+    ensures { λ _. ⌜ now (forms .exit) ≡ splice (now (forms .entry)) 0 (run-formed (now (forms .entry)) (now (scratch .entry)) aggregated (values (part (now (witness .entry)) s 64))) ⌝ }
 {
     let mut values = [0u32; 192];
     let e = words::load(witness, s).coeffs;
     kept_vectors::store_values(e, w, &mut values, 0);
     let mut sums = [0u64; 192];
-    kept_mix::add_terms(constraints, at, step, count, weights, 0, w, &mut sums);
+    kept_mix::add_terms(job, constraints, weights, 0, w, &mut sums);
     add_column(
+        scratch,
         aggregated,
-        from,
-        pace,
-        number,
         weights,
-        192 * count,
+        192 * constraints.count,
         &values,
         w,
         &mut sums,
@@ -108,12 +103,12 @@ pub fn mix_and_form(
 }
 
 // The way back from the sums of each k, added to the element k of the totals.
-pub fn add_totals(forms: &[u64], number: usize, w: &[u32], totals: &mut [u32])
-    requires { ⌜ (now w ≡ twiddleTable) × (192 * number ≤ length (now forms)) × (64 * number ≤ length (now totals)) ⌝ }
-    ensures { λ _. ⌜ now (totals .exit) ≡ splice (now (totals .entry)) 0 (flat (table number (total (now (totals .entry)) (now (forms .entry))))) ⌝ }
+pub fn add_totals(forms: &[u64], count: usize, w: &[u32], totals: &mut [u32])
+    requires { ⌜ (now w ≡ twiddleTable) × (192 * count ≤ length (now forms)) × (64 * count ≤ length (now totals)) ⌝ }
+    ensures { λ _. ⌜ now (totals .exit) ≡ splice (now (totals .entry)) 0 (flat (table count (total (now (totals .entry)) (now (forms .entry))))) ⌝ }
 {
     let mut k = 0;
-    while k < number {
+    while k < count {
         let e = kept_sums::back(forms, 192 * k, w);
         let sum = words::load(totals, 64 * k).add(e);
         words::store(totals, 64 * k, sum);

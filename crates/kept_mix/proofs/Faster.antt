@@ -11,10 +11,10 @@ passed : (test rest : Bool) → cond test false rest ≡ true → (test ≡ fals
 passed true rest e = absurd (false≢true e)
 passed false rest e = (refl, e)
 
-pub faster-weights : (width count number : ℕ) → kept-faster width count number ≡ true → Weights count number
-faster-weights width count number e =
-    let a = passed (ltb count 1) (cond (ltb number 1) false (cond (ltb (count + number) 4) false (cond (ltb 64 (count + number)) false (leb 8 width)))) e in
-    let b = passed (ltb number 1) (cond (ltb (count + number) 4) false (cond (ltb 64 (count + number)) false (leb 8 width))) (a .1) in
-    let c = passed (ltb (count + number) 4) (cond (ltb 64 (count + number)) false (leb 8 width)) (b .1) in
-    let d = passed (ltb 64 (count + number)) (leb 8 width) (c .1) in
-    (ltb-false count 1 (a .0), ltb-false number 1 (b .0), ltb-false 64 (count + number) (d .0))
+pub faster-weights : (width alphas betas : ℕ) → kept-faster width alphas betas ≡ true → Weights alphas betas
+faster-weights width alphas betas e =
+    let a = passed (ltb alphas 1) (cond (ltb betas 1) false (cond (ltb (alphas + betas) 4) false (cond (ltb 64 (alphas + betas)) false (leb 8 width)))) e in
+    let b = passed (ltb betas 1) (cond (ltb (alphas + betas) 4) false (cond (ltb 64 (alphas + betas)) false (leb 8 width))) (a .1) in
+    let c = passed (ltb (alphas + betas) 4) (cond (ltb 64 (alphas + betas)) false (leb 8 width)) (b .1) in
+    let d = passed (ltb 64 (alphas + betas)) (leb 8 width) (c .1) in
+    (ltb-false alphas 1 (a .0), ltb-false betas 1 (b .0), ltb-false 64 (alphas + betas) (d .0))

@@ -20,12 +20,13 @@ use Rattle.definitions.proofs.Bridge.{element-words, words-element}
 use Rattle.definitions.proofs.RqRing.{rq-ring}
 use Rattle.fast_product.proofs.Residue.{Words}
 use Rattle.protocol.specs.Formulas.{flat}
-use Rattle.inner_product.specs.Run.{run}
+use Rattle.inner_product.specs.declared.Strided.{Strided}
+use Rattle.inner_product.specs.Run.{run, strided, further}
 use Rattle.aggregate.specs.Weighed.{mixed, mixed-words}
 use Rattle.kept_vectors.specs.Keeps.{values, Keeps}
 use Rattle.kept_sums.specs.Sums.{back-from, HoldsSums}
 use Rattle.kept_sums.proofs.Laws.{part-words, keeps-value, back-holds, back-from-element}
-use Rattle.kept_mix.specs.Terms.{terms-added, kept-mixed, kept-mixed-words}
+use Rattle.kept_mix.specs.Terms.{terms-added, run-added, kept-mixed, kept-mixed-words}
 use Rattle.kept_mix.proofs.Terms.{length-terms, term-at}
 
 -- the first K of one, then the other
@@ -51,8 +52,15 @@ module _ (K : ℕ) (f g : ℕ → List ℕ) where
       either true = wf m
       either false = wg (m - K)
 
-module _ (J : List ℕ) (at step K : ℕ) (S : List ℕ) (from pace L : ℕ) (weights W : List ℕ) (alpha beta : ℕ) (few : K + L ≤ 64)
-    (kept-alpha : Keeps weights 0 W alpha K) (kept-beta : Keeps weights (192 * K) W beta L) (job : (j : ℕ) → getD J j 0 ≤ 4294967295) (scratch : (j : ℕ) → getD S j 0 ≤ 4294967295) where
+module _ (J : List ℕ) (x : Strided) (S : List ℕ) (y : Strided) (weights W : List ℕ) (alpha beta : ℕ) (few : x .count + y .count ≤ 64)
+    (kept-alpha : Keeps weights 0 W alpha (x .count)) (kept-beta : Keeps weights (192 * x .count) W beta (y .count)) (job : (j : ℕ) → getD J j 0 ≤ 4294967295)
+    (scratch : (j : ℕ) → getD S j 0 ≤ 4294967295) where
+  abbrev K : ℕ
+  K = x .count
+
+  abbrev L : ℕ
+  L = y .count
+
   abbrev α : ℕ → List ℕ
   α m = part W (alpha + 64 * m) 64
 
@@ -60,13 +68,13 @@ module _ (J : List ℕ) (at step K : ℕ) (S : List ℕ) (from pace L : ℕ) (we
   β m = part W (beta + 64 * m) 64
 
   abbrev c : ℕ → List ℕ
-  c m = part J (at + step * m) 64
+  c m = part J (x .at + x .step * m) 64
 
   abbrev d : ℕ → List ℕ
-  d m = part S (from + pace * m) 64
+  d m = part S (y .at + y .step * m) 64
 
   abbrev sums : List ℕ
-  sums = terms-added (terms-added (replicate 192 0) weights 0 J at step K) weights (192 * K) S from pace L
+  sums = run-added (run-added (replicate 192 0) weights 0 J x) weights (192 * K) S y
 
   product : (k : ℕ) → ℕ → ℕ
   product k m = getD (values (joined K α β m)) k 0 * getD (values (joined K c d m)) k 0
@@ -88,48 +96,54 @@ module _ (J : List ℕ) (at step K : ℕ) (S : List ℕ) (from pace L : ℕ) (we
   holds k l =
       let z : ℕ = 0 in
       ap (λ j. getD sums j 0) (zero-add k)
-      ∙ term-at (terms-added (replicate 192 0) weights 0 J at step K) weights (192 * K) S from pace L k l
-      ∙ ap₂ _+_ (term-at (replicate 192 0) weights 0 J at step K k l ∙ ap₂ _+_ (getD-replicate 192 k z z l) (by-alpha k l) ∙ zero-add (Σ K (product k))) (by-beta k l)
+      ∙ term-at (run-added (replicate 192 0) weights 0 J x) weights (192 * K) S (y .at) (y .step) L k l
+      ∙ ap₂ _+_ (term-at (replicate 192 0) weights 0 J (x .at) (x .step) K k l ∙ ap₂ _+_ (getD-replicate 192 k z z l) (by-alpha k l) ∙ zero-add (Σ K (product k))) (by-beta k l)
       ∙ sym (Σ-split K L (product k))
 
-  pub kept-mixed-is : kept-mixed J at step K S from pace L weights ≡ mixed J at step K W alpha beta S from pace L
+  pub kept-mixed-is : kept-mixed J x S y weights ≡ mixed J x W alpha beta S y
   unfolding kept-mixed mixed
   kept-mixed-is =
       ap element
-      (back-holds sums 0 (K + L) (joined K α β) (joined K c d) (omega (arith, length-terms (terms-added (replicate 192 0) weights 0 J at step K) weights (192 * K) S from pace L)) holds few
-      (joined-words K α β (kept-alpha .small) (kept-beta .small)) (joined-words K c d (λ m. part-words J job (at + step * m)) (λ m. part-words S scratch (from + pace * m))))
+      (back-holds sums 0 (K + L) (joined K α β) (joined K c d) (omega (arith, length-terms (run-added (replicate 192 0) weights 0 J x) weights (192 * K) S (y .at) (y .step) L)) holds few
+      (joined-words K α β (kept-alpha .small) (kept-beta .small)) (joined-words K c d (λ m. part-words J job (x .at + x .step * m)) (λ m. part-words S scratch (y .at + y .step * m))))
       ∙ element-words (dot RqOps (K + L) (λ m. element (joined K α β m)) (λ m. element (joined K c d m)))
       ∙ dot-split RqOps rq-ring K L (λ m. element (joined K α β m)) (λ m. element (joined K c d m))
       ∙ ap₂ (RqOps .add)
-      (dot-ext RqOps K (λ m. element (joined K α β m)) (run W alpha 64) (λ m. element (joined K c d m)) (run J at step) (λ m l. ap element (first K α β m l)) (λ m l. ap element (first K c d m l)))
-      (dot-ext RqOps L (λ m. element (joined K α β (K + m))) (run W beta 64) (λ m. element (joined K c d (K + m))) (run S from pace) (λ m l. ap element (second K α β m)) (λ m l. ap element (second K c d m)))
+      (dot-ext RqOps K (λ m. element (joined K α β m)) (run W alpha 64) (λ m. element (joined K c d m)) (strided J x) (λ m l. ap element (first K α β m l)) (λ m l. ap element (first K c d m l)))
+      (dot-ext RqOps L (λ m. element (joined K α β (K + m))) (run W beta 64) (λ m. element (joined K c d (K + m))) (strided S y) (λ m l. ap element (second K α β m))
+      (λ m l. ap element (second K c d m)))
 
 -- the words of both runs of terms and the way back
-pub mixed-words-are : (J : List ℕ) (at step K : ℕ) (S : List ℕ) (from pace L : ℕ) (weights s₁ s₂ r : List ℕ) → s₁ ≡ terms-added (replicate 192 0) weights 0 J at step K → s₂ ≡ terms-added s₁ weights (192 * K) S from pace L
-    → r ≡ back-from s₂ 0 → r ≡ words (kept-mixed J at step K S from pace L weights)
+pub mixed-words-are : (J : List ℕ) (x : Strided) (S : List ℕ) (y : Strided) (weights s₁ s₂ r : List ℕ) → s₁ ≡ run-added (replicate 192 0) weights 0 J x → s₂ ≡ run-added s₁ weights (192 * x .count) S y
+    → r ≡ back-from s₂ 0 → r ≡ words (kept-mixed J x S y weights)
 unfolding kept-mixed
-mixed-words-are J at step K S from pace L weights s₁ s₂ r a b e =
-    e ∙ ap (λ s. back-from s 0) (b ∙ ap (λ s. terms-added s weights (192 * K) S from pace L) a) ∙ sym (words-element (back-from (terms-added (terms-added (replicate 192 0) weights 0 J at step K) weights (192 * K) S from pace L) 0) (back-from-element (terms-added (terms-added (replicate 192 0) weights 0 J at step K) weights (192 * K) S from pace L) 0))
+mixed-words-are J x S y weights s₁ s₂ r a b e =
+    e ∙ ap (λ s. back-from s 0) (b ∙ ap (λ s. run-added s weights (192 * x .count) S y) a) ∙ sym (words-element (back-from sums 0) (back-from-element sums 0))
+  where
+    sums : List ℕ
+    sums = run-added (run-added (replicate 192 0) weights 0 J x) weights (192 * x .count) S y
 
 -- what lies before a store keeps its elements
-pub kept-mixed-before : (J : List ℕ) (at step K : ℕ) (S S′ : List ℕ) (from pace L : ℕ) (weights : List ℕ) (to : ℕ) (new : List ℕ) → S′ ≡ splice S to new → ((m : ℕ) → m < L → from + pace * m + 64 ≤ to)
-    → kept-mixed J at step K S′ from pace L weights ≡ kept-mixed J at step K S from pace L weights
+pub kept-mixed-before : (J : List ℕ) (x : Strided) (S S′ : List ℕ) (y : Strided) (weights : List ℕ) (to : ℕ) (new : List ℕ) → S′ ≡ splice S to new
+    → ((m : ℕ) → m < y .count → y .at + y .step * m + 64 ≤ to) → kept-mixed J x S′ y weights ≡ kept-mixed J x S y weights
 unfolding kept-mixed terms-added
-kept-mixed-before J at step K S S′ from pace L weights to new e h =
+kept-mixed-before J x S S′ y weights to new e h =
     ap (λ t. element (back-from t 0))
-    (table-ext 192 (λ k. getD s k 0 + Σ L (term S′ k)) (λ k. getD s k 0 + Σ L (term S k)) (λ k l.
-    ap (λ x. getD s k 0 + x) (Σ-ext L (term S′ k) (term S k) (λ m b. ap (λ x. getD weights (192 * K + 192 * m + k) 0 * getD (values x) k 0) (ap (λ l. part l (from + pace * m) 64) e ∙ part-splice-before 0 S to new (from + pace * m) 64 (h m b))))))
+    (table-ext 192 (λ k. getD s k 0 + Σ (y .count) (term S′ k)) (λ k. getD s k 0 + Σ (y .count) (term S k)) (λ k l.
+    ap (λ z. getD s k 0 + z) (Σ-ext (y .count) (term S′ k) (term S k) (λ m b. ap (λ z. getD weights (192 * x .count + 192 * m + k) 0 * getD (values z) k 0)
+    (ap (λ l. part l (y .at + y .step * m) 64) e ∙ part-splice-before 0 S to new (y .at + y .step * m) 64 (h m b))))))
   where
     s : List ℕ
-    s = terms-added (replicate 192 0) weights 0 J at step K
+    s = run-added (replicate 192 0) weights 0 J x
 
     term : List ℕ → ℕ → ℕ → ℕ
-    term l k m = getD weights (192 * K + 192 * m + k) 0 * getD (values (part l (from + pace * m) 64)) k 0
+    term l k m = getD weights (192 * x .count + 192 * m + k) 0 * getD (values (part l (y .at + y .step * m) 64)) k 0
 
 -- all elements
-pub kept-mixed-all : (J : List ℕ) (at width K : ℕ) (S : List ℕ) (from L : ℕ) (weights W : List ℕ) (alpha beta : ℕ) → K + L ≤ 64 → Keeps weights 0 W alpha K → Keeps weights (192 * K) W beta L
-    → ((j : ℕ) → getD J j 0 ≤ 4294967295) → ((j : ℕ) → getD S j 0 ≤ 4294967295) → kept-mixed-words J at width K S from L weights ≡ mixed-words J at width K W alpha beta S from L
-kept-mixed-all J at width K S from L weights W alpha beta few a b job scratch =
+pub kept-mixed-all : (J : List ℕ) (x : Strided) (S : List ℕ) (y : Strided) (width : ℕ) (weights W : List ℕ) (alpha beta : ℕ) → x .count + y .count ≤ 64
+    → Keeps weights 0 W alpha (x .count) → Keeps weights (192 * x .count) W beta (y .count)
+    → ((j : ℕ) → getD J j 0 ≤ 4294967295) → ((j : ℕ) → getD S j 0 ≤ 4294967295) → kept-mixed-words J x S y width weights ≡ mixed-words J x W alpha beta S y width
+kept-mixed-all J x S y width weights W alpha beta few a b job scratch =
     ap flat
-    (table-ext width (λ c. kept-mixed J (at + 64 * c) (64 * width) K S (from + 64 * c) (64 * width) L weights) (λ c. mixed J (at + 64 * c) (64 * width) K W alpha beta S (from + 64 * c) (64 * width) L)
-    (λ c l. kept-mixed-is J (at + 64 * c) (64 * width) K S (from + 64 * c) (64 * width) L weights W alpha beta few a b job scratch))
+    (table-ext width (λ c. kept-mixed J (further x c) S (further y c) weights) (λ c. mixed J (further x c) W alpha beta S (further y c))
+    (λ c l. kept-mixed-is J (further x c) S (further y c) weights W alpha beta few a b job scratch))

@@ -11,8 +11,9 @@ use Rattle.lists.specs.Sum.{Σ}
 use Rattle.definitions.specs.Rq.{Element}
 use Rattle.definitions.specs.Ring.{element}
 use Rattle.protocol.specs.Formulas.{flat}
-use Rattle.inner_product.specs.Run.{Run}
-use Rattle.aggregate_psi.specs.Grid.{Grid}
+use Rattle.inner_product.specs.declared.Strided.{Strided}
+use Rattle.inner_product.specs.Run.{Run, Within, further}
+use Rattle.aggregate.specs.Weighed.{Rows}
 use Rattle.kept_vectors.specs.Keeps.{values, kept-words, Keeps, AllValues}
 use Rattle.kept_sums.specs.Sums.{back-from}
 
@@ -25,55 +26,61 @@ unfoldable pub terms-added : List ℕ → List ℕ → ℕ → List ℕ → (at 
 terms-added sums weights weights-at from at step count =
     table 192 (λ k. getD sums k 0 + Σ count (λ m. getD weights (weights-at + 192 * m + k) 0 * getD (values (part from (at + step * m) 64)) k 0))
 
+-- those of a run
+abbrev pub run-added : List ℕ → List ℕ → ℕ → List ℕ → Strided → List ℕ
+run-added sums weights weights-at from x = terms-added sums weights weights-at from (x .at) (x .step) (x .count)
+
 -- 192 sums with room for so many terms, of 64 in all
 pub record SumsSmall (sums : List ℕ) (count : ℕ) : Type 0 where
   pub whole : length sums ≡ 192
   pub few : count ≤ 64
   pub small : (k : ℕ) → k < 192 → getD sums k 0 ≤ (64 - count) * 18032502047663104
 
--- the element whose values are the sums of the products of weights, kept one after the other, with so many constraints' elements and aggregated ones
-unfoldable pub kept-mixed : List ℕ → (at step count : ℕ) → List ℕ → (from pace number : ℕ) → List ℕ → Element
-kept-mixed constraints at step count aggregated from pace number weights =
-    element (back-from (terms-added (terms-added (replicate 192 0) weights 0 constraints at step count) weights (192 * count) aggregated from pace number) 0)
+-- the element whose values are the sums of the products of weights, kept one after the other, with a run of constraints' elements and one of aggregated ones
+unfoldable pub kept-mixed : List ℕ → Strided → List ℕ → Strided → List ℕ → Element
+kept-mixed job constraints scratch aggregated weights =
+    element (back-from (run-added (run-added (replicate 192 0) weights 0 job constraints) weights (192 * constraints .count) scratch aggregated) 0)
 
--- those elements lie within the slices, and their weights are values
-abbrev pub KeptMixable : List ℕ → (at step count : ℕ) → List ℕ → (from pace number : ℕ) → List ℕ → Type 0
-KeptMixable constraints at step count aggregated from pace number weights =
-    Run constraints at step count × Run aggregated from pace number × AllValues weights 0 (count + number) × (count + number ≤ 64)
+-- both runs lie within the slices, and their weights are values
+abbrev pub KeptMixable : List ℕ → Strided → List ℕ → Strided → List ℕ → Type 0
+KeptMixable job constraints scratch aggregated weights =
+    Within job constraints
+    × Within scratch aggregated
+    × AllValues weights 0 (constraints .count + aggregated .count)
+    × (constraints .count + aggregated .count ≤ 64)
 
--- the words of `width` such elements
-abbrev pub kept-mixed-words : List ℕ → (at width count : ℕ) → List ℕ → (from number : ℕ) → List ℕ → List ℕ
-kept-mixed-words job at width count scratch from number weights =
-    flat (table width (λ c. kept-mixed job (at + 64 * c) (64 * width) count scratch (from + 64 * c) (64 * width) number weights))
+-- the words of `width` such elements, each of the runs of the rows' elements
+abbrev pub kept-mixed-words : List ℕ → Strided → List ℕ → Strided → ℕ → List ℕ → List ℕ
+kept-mixed-words job constraints scratch aggregated width weights = flat (table width (λ c. kept-mixed job (further constraints c) scratch (further aggregated c) weights))
 
--- so many constraints lie within the job, the aggregated ones within the scratch, and after them the result has room
-abbrev pub MixRoom : List ℕ → (at width count : ℕ) → List ℕ → (from number to : ℕ) → List ℕ → Type 0
-MixRoom job at width count scratch from number to weights =
-    Grid job at width count
-    × Grid scratch from width number
-    × (from + 64 * (width * number) ≤ to)
+-- the rows of the constraints lie within the job, the aggregated ones within the scratch, and after them the result has room
+abbrev pub MixRoom : List ℕ → Strided → List ℕ → Strided → (width to : ℕ) → List ℕ → Type 0
+MixRoom job constraints scratch aggregated width to weights =
+    Rows job constraints width
+    × Rows scratch aggregated width
+    × (aggregated .at + 64 * (width * aggregated .count) ≤ to)
     × (to + 64 * width ≤ length scratch)
-    × AllValues weights 0 (count + number)
-    × (count + number ≤ 64)
+    × AllValues weights 0 (constraints .count + aggregated .count)
+    × (constraints .count + aggregated .count ≤ 64)
 
--- weights of both kinds, 64 at most
-abbrev pub Weights : ℕ → ℕ → Type 0
-Weights count number = (1 ≤ count) × (1 ≤ number) × (count + number ≤ 64)
+-- weights alpha and weights beta, 64 at most
+abbrev pub Weights : (alphas betas : ℕ) → Type 0
+Weights alphas betas = (1 ≤ alphas) × (1 ≤ betas) × (alphas + betas ≤ 64)
 
 -- the weights of both kinds lie within the slice, and their values have room
-abbrev pub WeightsRoom : List ℕ → (alpha count beta number : ℕ) → List ℕ → Type 0
-WeightsRoom weights alpha count beta number kept =
-    Run weights alpha 64 count × Run weights beta 64 number × Weights count number × (192 * (count + number) ≤ length kept)
+abbrev pub WeightsRoom : List ℕ → (alpha alphas beta betas : ℕ) → List ℕ → Type 0
+WeightsRoom weights alpha alphas beta betas kept =
+    Run weights alpha 64 alphas × Run weights beta 64 betas × Weights alphas betas × (192 * (alphas + betas) ≤ length kept)
 
 -- a slice with the values of the weights of both kinds, one after the other
-abbrev pub with-weights : List ℕ → (alpha count beta number : ℕ) → List ℕ → List ℕ
-with-weights weights alpha count beta number kept = splice (splice kept 0 (kept-words weights alpha count)) (192 * count) (kept-words weights beta number)
+abbrev pub with-weights : List ℕ → (alpha alphas beta betas : ℕ) → List ℕ → List ℕ
+with-weights weights alpha alphas beta betas kept = splice (splice kept 0 (kept-words weights alpha alphas)) (192 * alphas) (kept-words weights beta betas)
 
 -- it keeps them
-abbrev pub KeepsWeights : List ℕ → List ℕ → (alpha count beta number : ℕ) → Type 0
-KeepsWeights kept weights alpha count beta number = Keeps kept 0 weights alpha count × Keeps kept (192 * count) weights beta number
+abbrev pub KeepsWeights : List ℕ → List ℕ → (alpha alphas beta betas : ℕ) → Type 0
+KeepsWeights kept weights alpha alphas beta betas = Keeps kept 0 weights alpha alphas × Keeps kept (192 * alphas) weights beta betas
 
 -- weights of both kinds, four to 64 together, and eight elements or more
-abbrev pub kept-faster : (width count number : ℕ) → Bool
-kept-faster width count number =
-    cond (ltb count 1) false (cond (ltb number 1) false (cond (ltb (count + number) 4) false (cond (ltb 64 (count + number)) false (leb 8 width))))
+abbrev pub kept-faster : (width alphas betas : ℕ) → Bool
+kept-faster width alphas betas =
+    cond (ltb alphas 1) false (cond (ltb betas 1) false (cond (ltb (alphas + betas) 4) false (cond (ltb 64 (alphas + betas)) false (leb 8 width))))

@@ -1,5 +1,6 @@
 // φ by kept transforms: the weights alpha and beta are transformed once; of each element the constraints' terms are transformed, their products with the
 // kept weights summed, and there is one way back.
+use inner_product::Strided;
 use kept_sums;
 use kept_vectors;
 use ntt::table;
@@ -9,11 +10,11 @@ ghost use Prim.Native.Nat.{_+_, _≤_, _^_};
 ghost use lib.ListN.{length};
 ghost use Rattle.lists.specs.Part.{part, splice};
 ghost use Rattle.definitions.specs.Ring.{words};
-ghost use Rattle.inner_product.specs.Run.{Run};
+ghost use Rattle.inner_product.specs.Run.{Within};
 ghost use Rattle.ntt.specs.Roots.{twiddleTable};
 ghost use Rattle.kept_vectors.specs.Keeps.{AllValues};
 ghost use Rattle.aggregate.specs.Weighed.{Aggregates, mixed-words};
-ghost use Rattle.kept_mix.specs.Terms.{term-added, terms-added, SumsSmall, kept-mixed, KeptMixable, kept-mixed-words, MixRoom, Weights, WeightsRoom, with-weights, KeepsWeights, kept-faster};
+ghost use Rattle.kept_mix.specs.Terms.{term-added, run-added, SumsSmall, kept-mixed, KeptMixable, kept-mixed-words, MixRoom, Weights, WeightsRoom, with-weights, KeepsWeights, kept-faster};
 
 // The product of a kept weight and the element at a place, added to 192 sums.
 pub fn add_term(
@@ -33,21 +34,21 @@ pub fn add_term(
     kept_sums::add_product(sums, 0, weights, weight, &values, 0);
 }
 
-// Those of `count` elements a step apart, with kept weights one after the other.
+// Those of a run of elements, with kept weights one after the other.
 pub fn add_terms(
     from: &[u32],
-    at: usize,
-    step: usize,
-    count: usize,
+    run: Strided,
     weights: &[u32],
     weights_at: usize,
     w: &[u32],
     sums: &mut [u64],
 )
-    requires { ⌜ (now w ≡ twiddleTable) × Run (now from) at step count × AllValues (now weights) «weights_at» count × SumsSmall (now sums) count ⌝ }
-    ensures { λ _. ⌜ now (sums .exit) ≡ terms-added (now (sums .entry)) (now (weights .entry)) «weights_at» (now (from .entry)) at step count ⌝ }
+    requires { ⌜ (now w ≡ twiddleTable) × Within (now from) run × AllValues (now weights) «weights_at» (run .count) × SumsSmall (now sums) (run .count) ⌝ }
+    ensures { λ _. ⌜ now (sums .exit) ≡ run-added (now (sums .entry)) (now (weights .entry)) «weights_at» (now (from .entry)) run ⌝ }
 {
-    let mut i = at;
+    let step = run.step;
+    let count = run.count;
+    let mut i = run.at;
     let mut weight = weights_at;
     let mut m = 0;
     while m < count {
@@ -58,67 +59,58 @@ pub fn add_terms(
     }
 }
 
-// One element: the terms of the ring constraints and of the aggregated ones, whose weights are kept one after the other.
+// One element: the terms of a run of the ring constraints' elements and of a run of the aggregated ones, whose weights are kept one after the other.
 pub fn mix(
-    constraints: &[u32],
-    at: usize,
-    step: usize,
-    count: usize,
-    aggregated: &[u32],
-    from: usize,
-    pace: usize,
-    number: usize,
+    job: &[u32],
+    constraints: Strided,
+    scratch: &[u32],
+    aggregated: Strided,
     weights: &[u32],
     w: &[u32],
 ) -> Rq
-    requires { ⌜ (now w ≡ twiddleTable) × KeptMixable (now constraints) at step count (now aggregated) from pace number (now weights) ⌝ }
-    ensures { λ r. ⌜ r .coeffs ≡ words (kept-mixed (now (constraints .entry)) at step count (now (aggregated .entry)) from pace number (now (weights .entry))) ⌝ }
+    requires { ⌜ (now w ≡ twiddleTable) × KeptMixable (now job) constraints (now scratch) aggregated (now weights) ⌝ }
+    ensures { λ r. ⌜ r .coeffs ≡ words (kept-mixed (now (job .entry)) constraints (now (scratch .entry)) aggregated (now (weights .entry))) ⌝ }
 {
     let mut sums = [0u64; 192];
-    add_terms(constraints, at, step, count, weights, 0, w, &mut sums);
+    add_terms(job, constraints, weights, 0, w, &mut sums);
     add_terms(
+        scratch,
         aggregated,
-        from,
-        pace,
-        number,
         weights,
-        192 * count,
+        192 * constraints.count,
         w,
         &mut sums,
     );
     kept_sums::back(&sums, 0, w)
 }
 
-// All of them.
+// All of `width` elements. The runs are those of the first.
 pub fn mix_all(
     job: &[u32],
-    at: usize,
-    width: usize,
-    count: usize,
+    constraints: Strided,
     scratch: &mut [u32],
-    from: usize,
-    number: usize,
+    aggregated: Strided,
+    width: usize,
     to: usize,
     weights: &[u32],
     w: &[u32],
 )
-    requires { ⌜ (now w ≡ twiddleTable) × MixRoom (now job) at width count (now scratch) from number to (now weights) ⌝ }
-    ensures { λ _. ⌜ now (scratch .exit) ≡ splice (now (scratch .entry)) to (kept-mixed-words (now (job .entry)) at width count (now (scratch .entry)) from number (now (weights .entry))) ⌝ }
+    requires { ⌜ (now w ≡ twiddleTable) × MixRoom (now job) constraints (now scratch) aggregated width to (now weights) ⌝ }
+    ensures { λ _. ⌜ now (scratch .exit) ≡ splice (now (scratch .entry)) to (kept-mixed-words (now (job .entry)) constraints (now (scratch .entry)) aggregated width (now (weights .entry))) ⌝ }
 {
     let mut c = 0;
     while c < width {
-        let e = mix(
-            job,
-            at + 64 * c,
-            64 * width,
-            count,
-            scratch,
-            from + 64 * c,
-            64 * width,
-            number,
-            weights,
-            w,
-        );
+        let constraint = Strided {
+            at: constraints.at + 64 * c,
+            step: constraints.step,
+            count: constraints.count,
+        };
+        let one = Strided {
+            at: aggregated.at + 64 * c,
+            step: aggregated.step,
+            count: aggregated.count,
+        };
+        let e = mix(job, constraint, scratch, one, weights, w);
         words::store(scratch, to + 64 * c, e);
         c += 1;
     }
@@ -128,52 +120,58 @@ pub fn mix_all(
 pub fn keep_weights(
     weights: &[u32],
     alpha: usize,
-    count: usize,
+    alphas: usize,
     beta: usize,
-    number: usize,
+    betas: usize,
     w: &[u32],
     kept: &mut [u32],
 )
-    requires { ⌜ (now w ≡ twiddleTable) × WeightsRoom (now weights) alpha count beta number (now kept) ⌝ }
-    ensures { λ _. ⌜ now (kept .exit) ≡ with-weights (now (weights .entry)) alpha count beta number (now (kept .entry)) ⌝ }
-    ensures { λ _. ⌜ KeepsWeights (now (kept .exit)) (now (weights .entry)) alpha count beta number ⌝ }
+    requires { ⌜ (now w ≡ twiddleTable) × WeightsRoom (now weights) alpha alphas beta betas (now kept) ⌝ }
+    ensures { λ _. ⌜ now (kept .exit) ≡ with-weights (now (weights .entry)) alpha alphas beta betas (now (kept .entry)) ⌝ }
+    ensures { λ _. ⌜ KeepsWeights (now (kept .exit)) (now (weights .entry)) alpha alphas beta betas ⌝ }
 {
-    kept_vectors::keep(weights, alpha, count, w, kept, 0);
-    kept_vectors::keep(weights, beta, number, w, kept, 192 * count);
+    kept_vectors::keep(weights, alpha, alphas, w, kept, 0);
+    kept_vectors::keep(weights, beta, betas, w, kept, 192 * alphas);
 }
 
 // `aggregate::aggregate` with kept weights.
 pub fn aggregate_kept(
     job: &[u32],
-    at: usize,
-    width: usize,
-    count: usize,
+    constraints: Strided,
     weights: &[u32],
     alpha: usize,
     beta: usize,
     scratch: &mut [u32],
-    from: usize,
-    number: usize,
+    aggregated: Strided,
+    width: usize,
     to: usize,
 )
-    requires { ⌜ Aggregates (now job) at width count (now weights) alpha beta (now scratch) from number to × Weights count number ⌝ }
-    ensures { λ _. ⌜ now (scratch .exit) ≡ splice (now (scratch .entry)) to (mixed-words (now (job .entry)) at width count (now (weights .entry)) alpha beta (now (scratch .entry)) from number) ⌝ }
+    requires { ⌜ Aggregates (now job) constraints (now weights) alpha beta (now scratch) aggregated width to × Weights (constraints .count) (aggregated .count) ⌝ }
+    ensures { λ _. ⌜ now (scratch .exit) ≡ splice (now (scratch .entry)) to (mixed-words (now (job .entry)) constraints (now (weights .entry)) alpha beta (now (scratch .entry)) aggregated width) ⌝ }
 {
     let w = table::twiddles();
     let mut kept = [0u32; 12288];
-    keep_weights(weights, alpha, count, beta, number, &w, &mut kept);
-    mix_all(job, at, width, count, scratch, from, number, to, &kept, &w);
+    keep_weights(
+        weights,
+        alpha,
+        constraints.count,
+        beta,
+        aggregated.count,
+        &w,
+        &mut kept,
+    );
+    mix_all(job, constraints, scratch, aggregated, width, to, &kept, &w);
 }
 
 // From four terms and eight elements on the transforms cost less than plain products. There is room for 64 weights.
-pub fn kept_is_faster(width: usize, count: usize, number: usize) -> bool
-    requires { ⌜ (count ≤ 2 ^ 18) × (number ≤ 2 ^ 18) ⌝ }
-    ensures { λ r. ⌜ r ≡ kept-faster width count number ⌝ }
+pub fn kept_is_faster(width: usize, alphas: usize, betas: usize) -> bool
+    requires { ⌜ (alphas ≤ 2 ^ 18) × (betas ≤ 2 ^ 18) ⌝ }
+    ensures { λ r. ⌜ r ≡ kept-faster width alphas betas ⌝ }
 {
-    let terms = count + number;
-    if count < 1 {
+    let terms = alphas + betas;
+    if alphas < 1 {
         false
-    } else if number < 1 {
+    } else if betas < 1 {
         false
     } else if terms < 4 {
         false
@@ -187,46 +185,40 @@ pub fn kept_is_faster(width: usize, count: usize, number: usize) -> bool
 // a or φ as `aggregate::aggregate` makes them, by the way that costs less.
 pub fn aggregate(
     job: &[u32],
-    at: usize,
-    width: usize,
-    count: usize,
+    constraints: Strided,
     weights: &[u32],
     alpha: usize,
     beta: usize,
     scratch: &mut [u32],
-    from: usize,
-    number: usize,
+    aggregated: Strided,
+    width: usize,
     to: usize,
 )
-    requires { ⌜ Aggregates (now job) at width count (now weights) alpha beta (now scratch) from number to ⌝ }
-    ensures { λ _. ⌜ now (scratch .exit) ≡ splice (now (scratch .entry)) to (mixed-words (now (job .entry)) at width count (now (weights .entry)) alpha beta (now (scratch .entry)) from number) ⌝ }
+    requires { ⌜ Aggregates (now job) constraints (now weights) alpha beta (now scratch) aggregated width to ⌝ }
+    ensures { λ _. ⌜ now (scratch .exit) ≡ splice (now (scratch .entry)) to (mixed-words (now (job .entry)) constraints (now (weights .entry)) alpha beta (now (scratch .entry)) aggregated width) ⌝ }
 {
-    if kept_is_faster(width, count, number) {
+    if kept_is_faster(width, constraints.count, aggregated.count) {
         aggregate_kept(
             job,
-            at,
-            width,
-            count,
+            constraints,
             weights,
             alpha,
             beta,
             scratch,
-            from,
-            number,
+            aggregated,
+            width,
             to,
         );
     } else {
         aggregate::aggregate(
             job,
-            at,
-            width,
-            count,
+            constraints,
             weights,
             alpha,
             beta,
             scratch,
-            from,
-            number,
+            aggregated,
+            width,
             to,
         );
     }

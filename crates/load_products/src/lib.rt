@@ -1,5 +1,6 @@
 // To every element of b: the products of a constraint's elements with weights. The weights are kept transformed (document 02, Item 7), 32 at a time, and of
 // those each constraint takes one way back.
+use inner_product::Strided;
 use kept_mix;
 use kept_sums;
 use kept_vectors;
@@ -22,8 +23,13 @@ fn line(job: &[u32], at: usize, n: usize, kept: &[u32], w: &[u32]) -> Rq
     requires { ⌜ (now w ≡ twiddleTable) × Run (now job) at 64 n × AllValues (now kept) 0 n × (n ≤ 64) ⌝ }
     ensures { λ r. ⌜ r .coeffs ≡ words (kept-line (now (job .entry)) at n (now (kept .entry))) ⌝ }
 {
+    let run = Strided {
+        at,
+        step: 64,
+        count: n,
+    };
     let mut sums = [0u64; 192];
-    kept_mix::add_terms(job, at, 64, n, kept, 0, w, &mut sums);
+    kept_mix::add_terms(job, run, kept, 0, w, &mut sums);
     kept_sums::back(&sums, 0, w)
 }
 

@@ -13,7 +13,8 @@ use Rattle.lists.proofs.Splice.{part-splice-before}
 use Rattle.algebra.proofs.Form.{pairs-ext}
 use Rattle.definitions.specs.Ring.{RqOps, element}
 use Rattle.definitions.proofs.Bridge.{element-words}
-use Rattle.inner_product.specs.Run.{Run, run}
+use Rattle.inner_product.specs.declared.Strided.{Strided}
+use Rattle.inner_product.specs.Run.{run, Within, further}
 use Rattle.protocol.specs.Parameters.{triangular}
 use Rattle.protocol.specs.Views.{element-at, cell}
 use Rattle.protocol.specs.Formulas.{_⊕_, _⊗_, dot, flat}
@@ -21,54 +22,55 @@ use Rattle.aggregate.proofs.Formed.{cells-before}
 use Rattle.kept_vectors.specs.Keeps.{values}
 use Rattle.kept_sums.specs.Sums.{HoldsSums}
 use Rattle.kept_sums.proofs.Laws.{part-words, back-holds, holds-small}
-use Rattle.kept_forms.specs.Forms.{forms-added, FormsSmall, total}
+use Rattle.kept_forms.specs.Forms.{run-formed, FormsSmall, total}
 use Rattle.kept_forms.proofs.Forms.{form-at}
-use Rattle.one_pass.specs.Pass.{with-line, formed-with}
+use Rattle.one_pass.specs.Pass.{with-line, with-lines, formed-with}
 
 -- a run within any slice of the same length
-pub run-same : (words others : List ℕ) (at step n : ℕ) → length others ≡ length words → Run words at step n → Run others at step n
-run-same words others at step n e r = record { within = λ m l. omega (arith, r .within m l); few = r .few; near = r .near; first = r .first }
+pub run-same : (words others : List ℕ) (x : Strided) → length others ≡ length words → Within words x → Within others x
+run-same words others x e r = record { within = λ m l. omega (arith, r .within m l); few = r .few; near = r .near; first = r .first }
 
-module _ (S : List ℕ) (from pace : ℕ) (W : List ℕ) (s-at : ℕ) where
+module _ (S : List ℕ) (y : Strided) (W : List ℕ) (s-at : ℕ) where
   -- the sums of k are those of m products of φ''_k's elements and the witness's
-  abbrev pub Lines : List ℕ → (m number : ℕ) → Type 0
-  Lines forms m number = (k : ℕ) → k < number → HoldsSums forms (192 * k) m (λ o. part S (from + pace * k + 64 * o) 64) (λ o. part W (s-at + 64 * o) 64)
+  abbrev pub Lines : List ℕ → ℕ → Type 0
+  Lines forms m = (k : ℕ) → k < y .count → HoldsSums forms (192 * k) m (λ o. part S (y .at + y .step * k + 64 * o) 64) (λ o. part W (s-at + 64 * o) 64)
 
-  pub lines-none : (number : ℕ) → number ≤ 8 → Lines (replicate 1536 0) 0 number
+  pub lines-none : y .count ≤ 8 → Lines (replicate 1536 0) 0
   unfolding Σ
-  lines-none number few k l o b = let z : ℕ = 0 in getD-replicate 1536 (192 * k + o) z z (omega arith)
+  lines-none few k l o b = let z : ℕ = 0 in getD-replicate 1536 (192 * k + o) z z (omega arith)
 
   -- one product more
-  pub lines-next : (S′ forms next : List ℕ) (to : ℕ) (new : List ℕ) (m number : ℕ) → S′ ≡ splice S to new → ((k : ℕ) → k < number → from + 64 * m + pace * k + 64 ≤ to) → 192 * number ≤ length forms
-      → next ≡ splice forms 0 (forms-added forms S′ (from + 64 * m) pace number (values (part W (s-at + 64 * m) 64))) → Lines forms m number → Lines next (m + 1) number
-  lines-next S′ forms next to new m number e before room made lines k l o b =
-      let there : from + 64 * m + pace * k ≡ from + pace * k + 64 * m = omega arith in
-      form-at forms S′ (from + 64 * m) pace (values (part W (s-at + 64 * m) 64)) next number made room k o l b
+  pub lines-next : (S′ forms next : List ℕ) (to : ℕ) (new : List ℕ) (m : ℕ) → S′ ≡ splice S to new → ((k : ℕ) → k < y .count → y .at + 64 * m + y .step * k + 64 ≤ to) → 192 * y .count ≤ length forms
+      → next ≡ splice forms 0 (run-formed forms S′ (further y m) (values (part W (s-at + 64 * m) 64))) → Lines forms m → Lines next (m + 1)
+  lines-next S′ forms next to new m e before room made lines k l o b =
+      let there : y .at + 64 * m + y .step * k ≡ y .at + y .step * k + 64 * m = omega arith in
+      form-at forms S′ (y .at + 64 * m) (y .step) (values (part W (s-at + 64 * m) 64)) next (y .count) made room k o l b
       ∙ ap₂ (λ x e. x + getD (values e) o 0 * getD (values (part W (s-at + 64 * m) 64)) o 0) (lines k l o b)
-      (ap (λ s. part s (from + 64 * m + pace * k) 64) e ∙ part-splice-before 0 S to new (from + 64 * m + pace * k) 64 (before k l) ∙ ap (λ p. part S p 64) there)
-      ∙ sym (Σ-suc m (λ i. getD (values (part S (from + pace * k + 64 * i) 64)) o 0 * getD (values (part W (s-at + 64 * i) 64)) o 0))
+      (ap (λ s. part s (y .at + 64 * m + y .step * k) 64) e ∙ part-splice-before 0 S to new (y .at + 64 * m + y .step * k) 64 (before k l) ∙ ap (λ p. part S p 64) there)
+      ∙ sym (Σ-suc m (λ i. getD (values (part S (y .at + y .step * k + 64 * i) 64)) o 0 * getD (values (part W (s-at + 64 * i) 64)) o 0))
 
   module _ (words : (j : ℕ) → getD S j 0 ≤ 4294967295) (witness : (j : ℕ) → getD W j 0 ≤ 4294967295) where
     -- for which there is room
-    pub lines-small : (forms : List ℕ) (m number : ℕ) → m < 64 → 192 * number ≤ length forms → Lines forms m number → FormsSmall forms number
-    lines-small forms m number few room lines = (
+    pub lines-small : (forms : List ℕ) (m : ℕ) → m < 64 → 192 * y .count ≤ length forms → Lines forms m → FormsSmall forms (y .count)
+    lines-small forms m few room lines = (
       room,
       (λ j l.
           let there : j ≡ 192 * (j / 192) + j % 192 = omega arith in
-          let bound = holds-small forms (192 * (j / 192)) m (λ o. part S (from + pace * (j / 192) + 64 * o) 64) (λ o. part W (s-at + 64 * o) 64) (omega arith) (lines (j / 192) (omega arith))
-          (λ o. part-words S words (from + pace * (j / 192) + 64 * o)) (λ o. part-words W witness (s-at + 64 * o)) (j % 192) (omega arith) in
+          let bound = holds-small forms (192 * (j / 192)) m (λ o. part S (y .at + y .step * (j / 192) + 64 * o) 64) (λ o. part W (s-at + 64 * o) 64) (omega arith) (lines (j / 192) (omega arith))
+          (λ o. part-words S words (y .at + y .step * (j / 192) + 64 * o)) (λ o. part-words W witness (s-at + 64 * o)) (j % 192) (omega arith) in
           omega (arith, ap (λ i. getD forms i 0) there, bound)),
     )
 
     -- the totals with the inner products added
-    pub lines-total : (T T′ forms : List ℕ) (n number : ℕ) → n ≤ 64 → 192 * number ≤ length forms → Lines forms n number → T′ ≡ splice T 0 (flat (table number (total T forms)))
-        → T′ ≡ splice T 0 (flat (table number (with-line T S from pace W s-at n)))
-    lines-total T T′ forms n number few room lines e =
+    pub lines-total : (T T′ forms : List ℕ) (n : ℕ) → n ≤ 64 → 192 * y .count ≤ length forms → Lines forms n → T′ ≡ splice T 0 (flat (table (y .count) (total T forms)))
+        → T′ ≡ with-lines T S y W s-at n
+    lines-total T T′ forms n few room lines e =
         e
-        ∙ ap (λ cells. splice T 0 (flat cells)) (table-ext number (total T forms) (with-line T S from pace W s-at n) (λ k l.
+        ∙ ap (λ cells. splice T 0 (flat cells)) (table-ext (y .count) (total T forms) (with-line T S y W s-at n) (λ k l.
         ap (λ x. element-at T 0 k ⊕ x)
-        (ap element (back-holds forms (192 * k) n (λ o. part S (from + pace * k + 64 * o) 64) (λ o. part W (s-at + 64 * o) 64) (omega arith) (lines k l) few (λ o. part-words S words (from + pace * k + 64 * o)) (λ o. part-words W witness (s-at + 64 * o)))
-        ∙ element-words (dot n (run S (from + pace * k) 64) (run W s-at 64)))))
+        (ap element (back-holds forms (192 * k) n (λ o. part S (y .at + y .step * k + 64 * o) 64) (λ o. part W (s-at + 64 * o) 64) (omega arith) (lines k l) few
+        (λ o. part-words S words (y .at + y .step * k + 64 * o)) (λ o. part-words W witness (s-at + 64 * o)))
+        ∙ element-words (dot n (run S (y .at + y .step * k) 64) (run W s-at 64)))))
 
 -- triangles before a store
 pub formed-with-before : (l after : List ℕ) (a g r : ℕ) (T : List ℕ) (k to : ℕ) (new : List ℕ) → after ≡ splice l to new → a + 64 * (k * triangular r) + 64 * triangular r ≤ to → g + 64 * triangular r ≤ to

@@ -1,4 +1,5 @@
 // φ and b'' of the whole call, together.
+use inner_product::Strided;
 use one_pass;
 use regions::Regions;
 use relation::env_params::EnvironmentParameters;
@@ -22,23 +23,25 @@ pub fn phi_and_b(
     requires { ⌜ Work-given (now job) (now witness) p q (now scratch) × Drawn 5 (now job) (now randomness) × Holds (now scratch) (q .phi2) (φ″-words (now job) (now randomness)) ⌝ }
     ensures { λ _. ⌜ now (scratch .exit) ≡ with-b″ (with-φ (now (job .entry)) (now (randomness .entry)) q (now (scratch .entry))) (now (witness .entry)) p q ⌝ }
 {
+    let width = p.multiplicity * p.rank;
+    let step = 64 * width;
+    let constraints = Strided {
+        at: offsets::of_job(p, 4),
+        step,
+        count: p.constraint_k,
+    };
     one_pass::phi_and_b(
         job,
-        offsets::of_job(p, 4),
-        p.constraint_k,
+        constraints,
         randomness,
         offsets::of_randomness(p, 3),
         offsets::of_randomness(p, 4),
         scratch,
-        q.phi2,
+        q,
         p.const_agg_length,
-        q.phi,
-        q.a2,
-        q.g,
         p.multiplicity,
         p.rank,
         witness,
         1,
-        q.b2,
     );
 }

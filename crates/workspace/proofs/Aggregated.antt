@@ -16,7 +16,8 @@ use Rattle.protocol.specs.Region.{Triangle, Vectors}
 use Rattle.protocol.proofs.Region.{rows-ext, triangle-table}
 use Rattle.rq_matrix.proofs.Place.{cell-mirrored}
 use Rattle.aggregate_psi.specs.Grid.{weighed}
-use Rattle.aggregate.specs.Weighed.{both, mixed}
+use Rattle.inner_product.specs.Run.{further}
+use Rattle.aggregate.specs.Weighed.{both, mixed, rows-at, mixed-words}
 use Rattle.aggregate.proofs.Laws.{job-at, randomness-at, a″-is, φ″-is, a-sum-is, φ-sum-is}
 use Rattle.workspace.specs.Aggregated.{a″-words, φ″-words, φ-words, a-words}
 
@@ -75,16 +76,16 @@ module _ (J R : List ℕ) where
 
   -- φ, as `aggregate` stores it from a region whose vectors k are φ''_k
   pub φ-formula : (S : List ℕ) (at : ℕ) → ((k : ℕ) → k < P .L → Vectors S (at + 64 * (k * (P .r * P .n))) (P .r) (P .n) (φ″ X k))
-      → flat (table (P .r * P .n) (λ c. mixed J (job-at J 4 + 64 * c) (64 * (P .r * P .n)) (P .K) R (randomness-at J 3) (randomness-at J 4) S (at + 64 * c) (64 * (P .r * P .n)) (P .L))) ≡ φ-words J R
+      → mixed-words J (rows-at (job-at J 4) (P .r * P .n) (P .K)) R (randomness-at J 3) (randomness-at J 4) S (rows-at at (P .r * P .n) (P .L)) (P .r * P .n) ≡ φ-words J R
   φ-formula S at h = ap flat (table-vectors (P .r) (P .n) M (φ-sum X) (φ-sum-is J R S at h))
     where
       M : ℕ → Element
-      M c = mixed J (job-at J 4 + 64 * c) (64 * (P .r * P .n)) (P .K) R (randomness-at J 3) (randomness-at J 4) S (at + 64 * c) (64 * (P .r * P .n)) (P .L)
+      M c = mixed J (further (rows-at (job-at J 4) (P .r * P .n) (P .K)) c) R (randomness-at J 3) (randomness-at J 4) S (further (rows-at at (P .r * P .n) (P .L)) c)
 
   -- a, as `aggregate` stores it from a region whose triangle k is a''_k
   pub a-formula : (S : List ℕ) (at : ℕ) → ((k : ℕ) → k < P .L → Triangle S (at + 64 * (k * T P)) (P .r) (a″ X k))
-      → flat (table (T P) (λ c. mixed J (job-at J 3 + 64 * c) (64 * T P) (P .K) R (randomness-at J 3) (randomness-at J 4) S (at + 64 * c) (64 * T P) (P .L))) ≡ a-words J R
+      → mixed-words J (rows-at (job-at J 3) (T P) (P .K)) R (randomness-at J 3) (randomness-at J 4) S (rows-at at (T P) (P .L)) (T P) ≡ a-words J R
   a-formula S at h = ap flat (table-triangle (P .r) M (a-sum X) (a-sum-is J R S at h))
     where
       M : ℕ → Element
-      M c = mixed J (job-at J 3 + 64 * c) (64 * T P) (P .K) R (randomness-at J 3) (randomness-at J 4) S (at + 64 * c) (64 * T P) (P .L)
+      M c = mixed J (further (rows-at (job-at J 3) (T P) (P .K)) c) R (randomness-at J 3) (randomness-at J 4) S (further (rows-at at (T P) (P .L)) c)

@@ -1,14 +1,13 @@
 -- What each step requires of the slices and what it stores, of the parameters and places that the code holds.
-use mathlib.Core.Path.{_≡_, sym, ap, subst, _∙_}
+use mathlib.Core.Path.{_≡_, refl, sym, ap, subst, _∙_}
 use mathlib.Core.List.{List, _++_}
 use Prim.Native.Nat.{ℕ, _+_, _*_, _≤_, _<_, _^_}
 use native.Mathlib.Nat.{mul-le-mul}
 use native.Mathlib.Omega.{arith}
 use lib.ListN.{length}
-use Rattle.lists.specs.Table.{table, cat}
+use Rattle.lists.specs.Table.{cat}
 use Rattle.lists.specs.Part.{splice}
 use Rattle.lists.proofs.Splice.{splice-append}
-use Rattle.inner_product.specs.Run.{Run}
 use Rattle.protocol.specs.Parameters.{Parameters, parameters, T, triangular}
 use Rattle.protocol.specs.Layout.{start, job-sections, randomness-sections}
 use Rattle.protocol.specs.Views.{public}
@@ -17,7 +16,7 @@ use Rattle.regions.specs.declared.Regions.{Regions}
 use Rattle.relation.specs.declared.env_params.EnvironmentParameters.{EnvironmentParameters}
 use Rattle.relation.specs.Parameters.{parametersOf}
 use Rattle.aggregate_psi.specs.Grid.{Grid, weighed}
-use Rattle.aggregate.specs.Weighed.{both, mixed}
+use Rattle.aggregate.specs.Weighed.{both, rows-at, mixed-words, Aggregates}
 use Rattle.aggregate.proofs.Grid.{row-run}
 use Rattle.aggregate.proofs.Laws.{job-at, randomness-at}
 use Rattle.workspace.specs.Ready.{Ready, Drawn}
@@ -31,19 +30,18 @@ use Rattle.workspace.proofs.Ready.{length-φ″, φ″-end, a″-end, �
 few-cells : (r : ℕ) → r ≤ 16 → triangular r ≤ 1024
 few-cells r h = omega (arith, mul-le-mul h h)
 
--- what `aggregate` requires
-abbrev Aggregates : (J R S : List ℕ) (at width count alpha beta from number to : ℕ) → Type 0
-Aggregates J R S at width count alpha beta from number to =
-    Grid J at width count × Run R alpha 64 count × Run R beta 64 number × Grid S from width number × (from + 64 * (width * number) ≤ to) × (to + 64 * width ≤ length S)
+-- what `aggregate` requires, of rows from a place of the job on and others from a place of the scratch on
+abbrev Mixes : (J R S : List ℕ) (at place width K L alpha beta to : ℕ) → Type 0
+Mixes J R S at place width K L alpha beta to = Aggregates J (rows-at at width K) R alpha beta S (rows-at place width L) width to
 
 -- it holds by these bounds
-aggregates : (J R S : List ℕ) (at width count alpha beta from number to : ℕ) → length R < 2 ^ 61 → width ≤ 1024 → count ≤ 64 → number ≤ 32 → at + 64 * (width * count) ≤ length J
-    → alpha + 64 * count ≤ length R → beta + 64 * number ≤ length R → from + 64 * (width * number) ≤ to → to + 64 * width ≤ length S → Aggregates J R S at width count alpha beta from number to
-aggregates J R S at width count alpha beta from number to short w k l a x y f t = (
-  record { within = a; narrow = omega arith; few = omega arith },
-  row-run R alpha count x (omega arith) short,
-  row-run R beta number y (omega arith) short,
-  record { within = omega arith; narrow = omega arith; few = omega arith },
+aggregates : (J R S : List ℕ) (at place width K L alpha beta to : ℕ) → length R < 2 ^ 61 → width ≤ 1024 → K ≤ 64 → L ≤ 32 → at + 64 * (width * K) ≤ length J
+    → alpha + 64 * K ≤ length R → beta + 64 * L ≤ length R → place + 64 * (width * L) ≤ to → to + 64 * width ≤ length S → Mixes J R S at place width K L alpha beta to
+aggregates J R S at place width K L alpha beta to short w k l a x y f t = (
+  (record { within = a; narrow = omega arith; few = omega arith }, refl),
+  row-run R alpha K x (omega arith) short,
+  row-run R beta L y (omega arith) short,
+  (record { within = omega arith; narrow = omega arith; few = omega arith }, refl),
   f,
   t,
 )
@@ -57,8 +55,8 @@ abbrev a″-of : (J R : List ℕ) → Parameters → (cells at psi : ℕ) → Li
 a″-of J R Q cells at psi = flat (rows (Q .L) cells (λ k. weighed J at cells (Q .l) R (psi + k * Q .l)))
 
 -- what `aggregate::aggregate` stores
-abbrev sum-of : (J R S : List ℕ) → Parameters → (width at alpha beta from : ℕ) → List ℕ
-sum-of J R S Q width at alpha beta from = flat (table width (λ c. mixed J (at + 64 * c) (64 * width) (Q .K) R alpha beta S (from + 64 * c) (64 * width) (Q .L)))
+abbrev sum-of : (J R S : List ℕ) → Parameters → (width at alpha beta place : ℕ) → List ℕ
+sum-of J R S Q width at alpha beta place = mixed-words J (rows-at at width (Q .K)) R alpha beta S (rows-at place width (Q .L)) width
 
 module _ (J R S : List ℕ) (p : EnvironmentParameters) (q : Regions) (h : Ready J p q S) where
   abbrev P : Parameters
@@ -154,11 +152,11 @@ module _ (J R S : List ℕ) (p : EnvironmentParameters) (q : Regions) (h : Ready
   -- what `aggregate` requires for φ
   pub φ-requires : (at alpha beta : ℕ) → Drawn 5 J R → length R < 2 ^ 61 → at ≡ 31 + start (job-sections (parametersOf p)) 4
       → alpha ≡ start (randomness-sections (parametersOf p)) 3 → beta ≡ start (randomness-sections (parametersOf p)) 4
-      → Aggregates J R S at (p .multiplicity * p .rank) (p .«constraint_k») alpha beta (q .phi2) (p .«const_agg_length») (q .phi)
+      → Mixes J R S at (q .phi2) (p .multiplicity * p .rank) (p .«constraint_k») (p .«const_agg_length») alpha beta (q .phi)
   φ-requires at alpha beta d short a b c =
       let w = h .sound .within in
-      subst (λ Q. Aggregates J R S at (Q .r * Q .n) (Q .K) alpha beta (q .phi2) (Q .L) (q .phi)) (sym (h .same))
-      (aggregates J R S at (P .r * P .n) (P .K) alpha beta (q .phi2) (P .L) (q .phi) short
+      subst (λ Q. Mixes J R S at (q .phi2) (Q .r * Q .n) (Q .K) (Q .L) alpha beta (q .phi)) (sym (h .same))
+      (aggregates J R S at (q .phi2) (P .r * P .n) (P .K) (P .L) alpha beta (q .phi) short
       (mul-le-mul (w .r .1) (w .n .1))
       (w .K .1)
       (h .sound .within .L .1)
@@ -182,12 +180,12 @@ module _ (J R S : List ℕ) (p : EnvironmentParameters) (q : Regions) (h : Ready
   -- what `aggregate` requires for a
   pub a-requires : (cells at alpha beta : ℕ) → Drawn 5 J R → length R < 2 ^ 61 → cells ≡ triangular (p .multiplicity) → at ≡ 31 + start (job-sections (parametersOf p)) 3
       → alpha ≡ start (randomness-sections (parametersOf p)) 3 → beta ≡ start (randomness-sections (parametersOf p)) 4
-      → Aggregates J R S at cells (p .«constraint_k») alpha beta (q .a2) (p .«const_agg_length») (q .a)
+      → Mixes J R S at (q .a2) cells (p .«constraint_k») (p .«const_agg_length») alpha beta (q .a)
   a-requires cells at alpha beta d short t a b c =
       let w = h .sound .within in
-      subst (λ n. Aggregates J R S at n (p .«constraint_k») alpha beta (q .a2) (p .«const_agg_length») (q .a)) (sym (in-cells cells t))
-      (subst (λ Q. Aggregates J R S at (T P) (Q .K) alpha beta (q .a2) (Q .L) (q .a)) (sym (h .same))
-      (aggregates J R S at (T P) (P .K) alpha beta (q .a2) (P .L) (q .a) short
+      subst (λ n. Mixes J R S at (q .a2) n (p .«constraint_k») (p .«const_agg_length») alpha beta (q .a)) (sym (in-cells cells t))
+      (subst (λ Q. Mixes J R S at (q .a2) (T P) (Q .K) (Q .L) alpha beta (q .a)) (sym (h .same))
+      (aggregates J R S at (q .a2) (T P) (P .K) (P .L) alpha beta (q .a) short
       (few-cells (P .r) (w .r .1))
       (w .K .1)
       (h .sound .within .L .1)

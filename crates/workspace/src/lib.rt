@@ -2,6 +2,7 @@
 // slices whole, with the parameters and the places of the regions.
 use aggregate;
 use challenges;
+use inner_product::Strided;
 use kept_mix;
 use regions::Regions;
 use relation::env_params::EnvironmentParameters;
@@ -91,17 +92,27 @@ pub fn phi(
     requires { ⌜ Ready (now job) p q (now scratch) × Drawn 5 (now job) (now randomness) × Holds (now scratch) (q .phi2) (φ″-words (now job) (now randomness)) ⌝ }
     ensures { λ _. ⌜ now (scratch .exit) ≡ splice (now (scratch .entry)) (q .phi) (φ-words (now (job .entry)) (now (randomness .entry))) ⌝ }
 {
+    let width = p.multiplicity * p.rank;
+    let step = 64 * width;
+    let constraints = Strided {
+        at: offsets::of_job(p, 4),
+        step,
+        count: p.constraint_k,
+    };
+    let aggregated = Strided {
+        at: q.phi2,
+        step,
+        count: p.const_agg_length,
+    };
     kept_mix::aggregate(
         job,
-        offsets::of_job(p, 4),
-        p.multiplicity * p.rank,
-        p.constraint_k,
+        constraints,
         randomness,
         offsets::of_randomness(p, 3),
         offsets::of_randomness(p, 4),
         scratch,
-        q.phi2,
-        p.const_agg_length,
+        aggregated,
+        width,
         q.phi,
     );
 }
@@ -112,17 +123,26 @@ pub fn a(job: &[u32], randomness: &[u32], p: EnvironmentParameters, q: Regions, 
     ensures { λ _. ⌜ now (scratch .exit) ≡ splice (now (scratch .entry)) (q .a) (a-words (now (job .entry)) (now (randomness .entry))) ⌝ }
 {
     let cells = sizes::slices::triangle(p.multiplicity);
+    let step = 64 * cells;
+    let constraints = Strided {
+        at: offsets::of_job(p, 3),
+        step,
+        count: p.constraint_k,
+    };
+    let aggregated = Strided {
+        at: q.a2,
+        step,
+        count: p.const_agg_length,
+    };
     aggregate::aggregate(
         job,
-        offsets::of_job(p, 3),
-        cells,
-        p.constraint_k,
+        constraints,
         randomness,
         offsets::of_randomness(p, 3),
         offsets::of_randomness(p, 4),
         scratch,
-        q.a2,
-        p.const_agg_length,
+        aggregated,
+        cells,
         q.a,
     );
 }

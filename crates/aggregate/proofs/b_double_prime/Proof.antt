@@ -18,15 +18,15 @@ use Rattle.aggregate.proofs.b_double_prime.Statement.{statement}
 use Rattle.aggregate.proofs.b_double_prime.Tie as tie
 
 abbrev Inv-loop : tie.InvT-loop
-Inv-loop scratch₀ a-at g-at phi-at r n witness s-at rows to cells width a₀ phi₀ k₀ scratch a phi k =
-    (k ≤ rows)
+Inv-loop scratch₀ a-at g-at phi-at r n witness s-at count to cells width a₀ phi₀ k₀ scratch a phi k =
+    (k ≤ count)
     × (a ≡ a-at + 64 * (k * triangular r))
     × (phi ≡ phi-at + 64 * (k * (r * n)))
     × (scratch ≡ splice scratch₀ to (flat (table k (λ k. formed scratch₀ (a-at + 64 * (k * triangular r)) g-at (phi-at + 64 * (k * (r * n))) r n witness s-at))))
     × (length scratch ≡ length scratch₀)
 
 abbrev μ-loop : tie.MeasureT-loop
-μ-loop scratch₀ a-at g-at phi-at r n witness s-at rows to cells width a₀ phi₀ k₀ scratch a phi k = rows - k
+μ-loop scratch₀ a-at g-at phi-at r n witness s-at count to cells width a₀ phi₀ k₀ scratch a phi k = count - k
 
 mul-width : tie.Need-mul-width Inv-loop μ-loop
 mul-width c = let h = c .before .before .before .pre in omega (arith, mul-le-mul (h .5) (h .6))
@@ -36,11 +36,11 @@ form-requires c κs =
     let s = c .before .before .before .before .before .before .args in
     let h = c .before .before .before .before .before .before .pre in
     let l = c .before .before .loop in
-    let more : l .k < s .rows = omega arith in
+    let more : l .k < s .count = omega arith in
     record {
-      squares = omega (arith, row-within (s .a-at) (l .k) (s .rows) (triangular (s .r)) (s .to) more (h .0));
+      squares = omega (arith, row-within (s .a-at) (l .k) (s .count) (triangular (s .r)) (s .to) more (h .0));
       products = omega (arith, h .1);
-      lines = omega (arith, row-within (s .phi-at) (l .k) (s .rows) (s .r * s .n) (s .to) more (h .2));
+      lines = omega (arith, row-within (s .phi-at) (l .k) (s .count) (s .r * s .n) (s .to) more (h .2));
       vectors = h .4;
       few = h .5;
       narrow = h .6;
@@ -58,8 +58,8 @@ ends c =
     let s = c .before .before .before .before .before .before .before .before .before .before .before .args in
     let h = c .before .before .before .before .before .before .before .before .before .before .before .pre in
     let l = c .before .before .before .before .before .before .before .loop in
-    let more : l .k < s .rows = omega arith in
-    (row-within (s .a-at) (l .k) (s .rows) (triangular (s .r)) (s .to) more (h .0), row-within (s .phi-at) (l .k) (s .rows) (s .r * s .n) (s .to) more (h .2))
+    let more : l .k < s .count = omega arith in
+    (row-within (s .a-at) (l .k) (s .count) (triangular (s .r)) (s .to) more (h .0), row-within (s .phi-at) (l .k) (s .count) (s .r * s .n) (s .to) more (h .2))
 
 add-a : tie.Need-add-a Inv-loop μ-loop
 add-a c = omega (arith, ends c .0)

@@ -5,7 +5,7 @@ use Rattle.algebra.specs.Ops.{dot}
 use Rattle.definitions.specs.Rq.{radd}
 use Rattle.definitions.specs.Ring.{RqOps}
 use Rattle.definitions.proofs.Bridge.{words-add}
-use Rattle.inner_product.specs.Run.{run}
+use Rattle.inner_product.specs.Run.{run, strided}
 use Rattle.aggregate.specs.Weighed.{mixed}
 use Rattle.aggregate.proofs.mix.Statement.{statement}
 use Rattle.aggregate.proofs.mix.Tie as tie
@@ -16,7 +16,8 @@ returns c =
     let s = c .before .before .before .before .before .before .args in
     c .add .ensures
     ∙ ap₂ radd (c .before .before .inner-product .ensures) (c .before .inner-product2 .ensures)
-    ∙ sym (words-add (dot RqOps (s .count) (run (s .weights .now) (s .alpha) 64) (run (s .constraints .now) (s .at) (s .step))) (dot RqOps (s .number) (run (s .weights .now) (s .beta) 64) (run (s .aggregated .now) (s .from) (s .pace))))
+    ∙ sym (words-add (dot RqOps (s .constraints .count) (run (s .weights .now) (s .alpha) 64) (strided (s .job .now) (s .constraints)))
+    (dot RqOps (s .aggregated .count) (run (s .weights .now) (s .beta) 64) (strided (s .source .now) (s .aggregated))))
 
 pub mix-spec : {M : Type 1} → statement M
 mix-spec = tie.close (tie.spec (λ c κs. search needs) (λ c κs. search needs) (λ c κs. search needs) returns)

@@ -21,10 +21,10 @@ use Rattle.kept_forms.proofs.add_totals.Statement.{statement}
 use Rattle.kept_forms.proofs.add_totals.Tie as tie
 
 abbrev Inv-loop : tie.InvT-loop
-Inv-loop forms number w totals₀ k₀ totals k = (k ≤ number) × (totals ≡ splice totals₀ 0 (flat (table k (total totals₀ forms)))) × (length totals ≡ length totals₀)
+Inv-loop forms count w totals₀ k₀ totals k = (k ≤ count) × (totals ≡ splice totals₀ 0 (flat (table k (total totals₀ forms)))) × (length totals ≡ length totals₀)
 
 abbrev μ-loop : tie.MeasureT-loop
-μ-loop forms number w totals₀ k₀ totals k = number - k
+μ-loop forms count w totals₀ k₀ totals k = count - k
 
 loop-again : tie.Need-loop-again Inv-loop μ-loop
 loop-again c =

@@ -20,39 +20,46 @@ add-terms-requires c κs =
     let b = c .before .before .before .before .before .before .before .before .before .before .before .before in
     let s = b .args in
     let p = b .pre in
-    (p .0, p .1 .0, values-first (s .weights .now) 0 (s .count + s .number) (s .count) (omega arith) (p .1 .2), none-small (s .count) (omega arith))
+    (p .0, p .1 .0, values-first (s .weights .now) 0 (s .constraints .count + s .aggregated .count) (s .constraints .count) (omega arith) (p .1 .2), none-small (s .constraints .count) (omega arith))
 
 add-column-requires : tie.Need-add-column-requires
 add-column-requires c κs =
-    let b = c .before .before .before .before .before .before .before .before .before .before .before .before .before .before .before .before .before in
+    let b = c .before .before .before .before .before .before .before .before .before .before .before .before .before .before .before .before .before .before in
     let s = b .args in
     let p = b .pre in
-    let stored = c .before .before .before .before .before .before .before .store-values .ensures in
-    let loaded = c .before .before .before .before .before .before .before .before .before .before .load .ensures in (
+    let stored = c .before .before .before .before .before .before .before .before .store-values .ensures in
+    let loaded = c .before .before .before .before .before .before .before .before .before .before .before .load .ensures in (
       p .0,
       (
         p .1 .1,
-        values-last (s .weights .now) (s .count) (s .number) (p .1 .2),
+        values-last (s .weights .now) (s .constraints .count) (s .aggregated .count) (p .1 .2),
         buffer-values (part (s .witness .now) (s .s) 64) _ _ loaded stored
-            (part-words (s .witness .now) (λ j. omega (arith, c .before .before .before .before .before .before .before .before .before .before .before .before .before .shared-slice-known4 .given j)) (s .s)),
+            (part-words (s .witness .now)
+            (λ j. omega (arith, c .before .before .before .before .before .before .before .before .before .before .before .before .before .before .shared-slice-known4 .given j)) (s .s)),
       ),
-      terms-after (s .weights .now) (s .constraints .now) (s .at) (s .step) _ (s .count) (s .number) (c .before .before .before .before .add-terms .ensures) (p .1 .2) (omega arith)
-          (λ j. omega (arith, c .before .before .before .before .before .before .before .before .before .before .before .before .before .before .before .before .shared-slice-known .given j)),
+      terms-after (s .weights .now) (s .job .now) (s .constraints .at) (s .constraints .step) _ (s .constraints .count) (s .aggregated .count)
+          (c .before .before .before .before .before .add-terms .ensures) (p .1 .2) (omega arith)
+          (λ j. omega (arith, c .before .before .before .before .before .before .before .before .before .before .before .before .before .before .before .before .before .shared-slice-known .given j)),
       p .2 .1,
     )
 
 back-requires : tie.Need-back-requires
 back-requires c κs =
-    let b = c .before .before .before .before .before .before .before .before .before .before .before .before .before .before .before .before .before .before .before .before .before .before in
+    let b = c .before .before .before .before .before .before .before .before .before .before .before .before .before .before .before .before .before .before .before .before .before .before .before in
     let size = terms-length _ _ _ _ _ _ _ _ (c .before .before .before .before .add-column .ensures .0) in
     (b .pre .0, omega (arith, size))
 
 returns : tie.Need-returns
 returns c =
-    let s = c .before .before .before .before .before .before .before .before .before .before .before .before .before .before .before .before .before .before .before .before .before .before .before .args in
+    let m = c .before .before .before .before .before .before .before .before .before .before .before .before in
+    let s = m .before .before .before .before .before .before .before .before .before .before .before .before .args in
     let column = c .before .before .before .before .before .add-column .ensures in (
-      mixed-words-are (s .constraints .now) (s .at) (s .step) (s .count) (s .aggregated .now) (s .from) (s .pace) (s .number) (s .weights .now) _ _ _ (c .before .before .before .before .before .before .before .before .before .before .add-terms .ensures) (column .0) (c .back .ensures),
-      forms-stored (part (s .witness .now) (s .s) 64) _ _ (c .before .before .before .before .before .before .before .before .before .before .before .before .before .before .before .before .load .ensures) (c .before .before .before .before .before .before .before .before .before .before .before .before .before .store-values .ensures) (s .forms .now) _ (s .aggregated .now) (s .from) (s .pace) (s .number) (column .1),
+      mixed-words-are (s .job .now) (s .constraints) (s .scratch .now) (s .aggregated) (s .weights .now) _ _ _
+          (c .before .before .before .before .before .before .before .before .before .before .before .add-terms .ensures) (column .0) (c .back .ensures),
+      forms-stored (part (s .witness .now) (s .s) 64) _ _
+          (c .before .before .before .before .before .before .before .before .before .before .before .before .before .before .before .before .before .load .ensures)
+          (c .before .before .before .before .before .before .before .before .before .before .before .before .before .before .store-values .ensures) (s .forms .now) _ (s .scratch .now)
+          (s .aggregated .at) (s .aggregated .step) (s .aggregated .count) (column .1),
     )
 
 pub mix-and-form-spec : {M : Type 1} → statement M

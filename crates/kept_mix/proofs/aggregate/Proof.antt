@@ -11,7 +11,7 @@ kept-is-faster-requires c κs = let p = c .before .before .before .pre in (p .1 
 aggregate-kept-requires : tie.Need-aggregate-kept-requires
 aggregate-kept-requires c κs =
     let b = c .before .before .before .before .before .before in
-    (b .pre, faster-weights (b .args .width) (b .args .count) (b .args .number) (sym (c .before .before .kept-is-faster .ensures) ∙ c .before .if1 .taken))
+    (b .pre, faster-weights (b .args .width) (b .args .constraints .count) (b .args .aggregated .count) (sym (c .before .before .kept-is-faster .ensures) ∙ c .before .if1 .taken))
 
 pub aggregate-spec : {M : Type 1} → statement M
 aggregate-spec =

@@ -21,7 +21,8 @@ mix-all-requires c κs =
     let s = b .args in
     let p = b .pre in
     let kept = c .before .before .before .before .keep-weights .ensures .1 in
-    (c .before .before .before .before .before .before .before .twiddles .ensures, (p .0 .0, p .0 .3, p .0 .4, p .0 .5, both-values _ (s .weights .now) (s .alpha) (s .beta) (s .count) (s .number) (kept .0) (kept .1), p .1 .2))
+    let values = both-values _ (s .weights .now) (s .alpha) (s .beta) (s .constraints .count) (s .aggregated .count) (kept .0) (kept .1) in
+    (c .before .before .before .before .before .before .before .twiddles .ensures, (p .0 .0, p .0 .3, p .0 .4, p .0 .5, values, p .1 .2))
 
 returns : tie.Need-returns
 returns c =
@@ -30,7 +31,7 @@ returns c =
     let kept = c .before .before .before .before .before .before .before .keep-weights .ensures .1 in
     c .before .before .mix-all .ensures
     ∙ ap (splice (s .scratch .now) (s .to))
-    (kept-mixed-all (s .job .now) (s .at) (s .width) (s .count) (s .scratch .now) (s .from) (s .number) _ (s .weights .now) (s .alpha) (s .beta) (b .pre .1 .2) (kept .0) (kept .1)
+    (kept-mixed-all (s .job .now) (s .constraints) (s .scratch .now) (s .aggregated) (s .width) _ (s .weights .now) (s .alpha) (s .beta) (b .pre .1 .2) (kept .0) (kept .1)
     (λ j. omega (arith, c .before .before .before .before .before .before .before .before .before .before .before .before .before .shared-slice-known .given j))
     (λ j. omega (arith, c .before .before .before .before .before .before .before .before .before .before .before .slice-known .given j)))
 

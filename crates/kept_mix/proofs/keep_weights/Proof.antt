@@ -15,13 +15,13 @@ keep-requires : tie.Need-keep-requires
 keep-requires c κs =
     let b = c .before .before .before .before in
     let s = b .args in
-    (b .pre .0, run-end (s .weights .now) (s .alpha) (s .count) (b .pre .1 .0) (omega arith), omega arith)
+    (b .pre .0, run-end (s .weights .now) (s .alpha) (s .alphas) (b .pre .1 .0) (omega arith), omega arith)
 
 keep-requires-2 : tie.Need-keep-requires-2
 keep-requires-2 c κs =
     let b = c .before .before .before .before .before .before .before .before in
     let s = b .args in
-    (b .pre .0, run-end (s .weights .now) (s .beta) (s .number) (b .pre .1 .1) (omega arith), omega (arith, length-filled _ _ _ _ (c .before .before .before .keep .ensures .0)))
+    (b .pre .0, run-end (s .weights .now) (s .beta) (s .betas) (b .pre .1 .1) (omega arith), omega (arith, length-filled _ _ _ _ (c .before .before .before .keep .ensures .0)))
 
 returns : tie.Need-returns
 returns c =
@@ -29,8 +29,8 @@ returns c =
     let s = b .args in
     let first = c .before .before .before .before .before .before .keep .ensures in
     let second = c .before .before .keep2 .ensures in (
-      second .0 ∙ ap (λ l. splice l (192 * s .count) (kept-words (s .weights .now) (s .beta) (s .number))) (first .0),
-      (keeps-before _ 0 (s .weights .now) (s .alpha) _ (192 * s .count) _ (s .count) (second .0) (omega arith) (first .1), second .1),
+      second .0 ∙ ap (λ l. splice l (192 * s .alphas) (kept-words (s .weights .now) (s .beta) (s .betas))) (first .0),
+      (keeps-before _ 0 (s .weights .now) (s .alpha) _ (192 * s .alphas) _ (s .alphas) (second .0) (omega arith) (first .1), second .1),
     )
 
 pub keep-weights-spec : {M : Type 1} → statement M

@@ -13,30 +13,32 @@ add-terms-requires c κs =
     let b = c .before .before .before .before .before in
     let s = b .args in
     let p = b .pre in
-    (p .0, p .1 .0, values-first (s .weights .now) 0 (s .count + s .number) (s .count) (omega arith) (p .1 .2), none-small (s .count) (omega arith))
+    (p .0, p .1 .0, values-first (s .weights .now) 0 (s .constraints .count + s .aggregated .count) (s .constraints .count) (omega arith) (p .1 .2), none-small (s .constraints .count) (omega arith))
 
 add-terms-requires-2 : tie.Need-add-terms-requires-2
 add-terms-requires-2 c κs =
-    let b = c .before .before .before .before .before .before .before .before in
+    let b = c .before .before .before .before .before .before .before .before .before in
     let s = b .args in
     let p = b .pre in (
       p .0,
       p .1 .1,
-      values-last (s .weights .now) (s .count) (s .number) (p .1 .2),
-      terms-after (s .weights .now) (s .constraints .now) (s .at) (s .step) _ (s .count) (s .number) (c .before .before .add-terms .ensures) (p .1 .2) (omega arith)
-          (λ j. omega (arith, c .before .before .before .before .before .before .before .shared-slice-known .given j)),
+      values-last (s .weights .now) (s .constraints .count) (s .aggregated .count) (p .1 .2),
+      terms-after (s .weights .now) (s .job .now) (s .constraints .at) (s .constraints .step) _ (s .constraints .count) (s .aggregated .count) (c .before .before .before .add-terms .ensures)
+          (p .1 .2) (omega arith)
+          (λ j. omega (arith, c .before .before .before .before .before .before .before .before .shared-slice-known .given j)),
     )
 
 back-requires : tie.Need-back-requires
 back-requires c κs =
-    let b = c .before .before .before .before .before .before .before .before .before .before .before in
+    let b = c .before .before .before .before .before .before .before .before .before .before .before .before in
     let size = terms-length _ _ _ _ _ _ _ _ (c .before .before .add-terms2 .ensures) in
     (b .pre .0, omega (arith, size))
 
 returns : tie.Need-returns
 returns c =
-    let s = c .before .before .before .before .before .before .before .before .before .before .before .before .args in
-    mixed-words-are (s .constraints .now) (s .at) (s .step) (s .count) (s .aggregated .now) (s .from) (s .pace) (s .number) (s .weights .now) _ _ _ (c .before .before .before .before .before .before .add-terms .ensures) (c .before .before .before .add-terms2 .ensures) (c .back .ensures)
+    let s = c .before .before .before .before .before .before .before .before .before .before .before .before .before .args in
+    mixed-words-are (s .job .now) (s .constraints) (s .scratch .now) (s .aggregated) (s .weights .now) _ _ _ (c .before .before .before .before .before .before .before .add-terms .ensures)
+    (c .before .before .before .add-terms2 .ensures) (c .back .ensures)
 
 pub mix-spec : {M : Type 1} → statement M
 mix-spec =

@@ -1,7 +1,6 @@
 -- `mix_all` meets its contract. The invariant: the first c elements are stored, and what they are made of is as it was.
 use mathlib.Core.Path.{_≡_, refl, _∙_, ap}
 use Prim.Native.Nat.{_+_, _-_, _*_, _≤_}
-use native.Mathlib.Nat.{mul-le-mul-left}
 use native.Mathlib.Omega.{arith}
 use lib.ListN.{length}
 use Rattle.lists.specs.Table.{table}
@@ -10,31 +9,31 @@ use Rattle.lists.proofs.Splice.{length-splice}
 use Rattle.definitions.specs.Ring.{words}
 use Rattle.protocol.specs.Formulas.{flat}
 use Rattle.protocol.proofs.Stored.{stored-none, stored-next, stored-all}
-use Rattle.aggregate_psi.proofs.Sums.{grid-run}
-use Rattle.aggregate.proofs.Grid.{grid-same}
+use Rattle.inner_product.specs.Run.{further}
+use Rattle.aggregate.proofs.Grid.{rows-run, rows-same, row-ends}
 use Rattle.kept_mix.specs.Terms.{kept-mixed}
 use Rattle.kept_mix.proofs.Mixed.{kept-mixed-before}
 use Rattle.kept_mix.proofs.mix_all.Statement.{statement}
 use Rattle.kept_mix.proofs.mix_all.Tie as tie
 
 abbrev Inv-loop : tie.InvT-loop
-Inv-loop job at width count scratch₀ from number to weights w c₀ scratch c =
+Inv-loop job constraints scratch₀ aggregated width to weights w c₀ scratch c =
     (c ≤ width)
-    × (scratch ≡ splice scratch₀ to (flat (table c (λ c. kept-mixed job (at + 64 * c) (64 * width) count scratch₀ (from + 64 * c) (64 * width) number weights))))
+    × (scratch ≡ splice scratch₀ to (flat (table c (λ c. kept-mixed job (further constraints c) scratch₀ (further aggregated c) weights))))
     × (length scratch ≡ length scratch₀)
 
 abbrev μ-loop : tie.MeasureT-loop
-μ-loop job at width count scratch₀ from number to weights w c₀ scratch c = width - c
+μ-loop job constraints scratch₀ aggregated width to weights w c₀ scratch c = width - c
 
 mix-requires : tie.Need-mix-requires Inv-loop μ-loop
 mix-requires c κs =
-    let s = c .before .before .before .before .before .before .before .args in
-    let h = c .before .before .before .before .before .before .before .pre in
-    let l = c .before .before .loop in (
+    let s = c .before .before .before .before .before .before .before .before .before .args in
+    let h = c .before .before .before .before .before .before .before .before .before .pre in
+    let l = c .before .before .before .before .loop in (
       h .0,
       (
-        grid-run (s .job .now) (s .at) (s .width) (s .count) (l .c) (h .1 .0) (omega arith) (omega arith),
-        grid-run (l .scratch) (s .from) (s .width) (s .number) (l .c) (grid-same _ _ _ _ _ (l .inv .2) (h .1 .1)) (omega arith) (omega arith),
+        rows-run (s .job .now) (s .constraints) (s .width) (l .c) (h .1 .0) (omega arith) (omega arith),
+        rows-run (l .scratch) (s .aggregated) (s .width) (l .c) (rows-same _ _ _ _ (l .inv .2) (h .1 .1)) (omega arith) (omega arith),
         h .1 .4,
         h .1 .5,
       ),
@@ -42,10 +41,11 @@ mix-requires c κs =
 
 loop-again : tie.Need-loop-again Inv-loop μ-loop
 loop-again c =
-    let s = c .before .before .before .before .before .before .before .before .before .before .before .before .args in
-    let h = c .before .before .before .before .before .before .before .before .before .before .before .before .pre in
-    let l = c .before .before .before .before .before .before .before .loop in
-    let e = c .before .before .before .before .mix .ensures ∙ ap words (kept-mixed-before _ _ _ _ _ _ (s .from + 64 * l .c) (64 * s .width) (s .number) _ (s .to) _ (l .inv .1) (λ m i. omega (arith, h .1 .2, mul-le-mul-left (s .width) i))) in
+    let s = c .before .before .before .before .before .before .before .before .before .before .before .before .before .before .args in
+    let h = c .before .before .before .before .before .before .before .before .before .before .before .before .before .before .pre in
+    let l = c .before .before .before .before .before .before .before .before .before .loop in
+    let e = c .before .before .before .before .mix .ensures ∙ ap words (kept-mixed-before _ _ _ _ (further (s .aggregated) (l .c)) _ (s .to) _ (l .inv .1)
+    (λ m i. row-ends (s .aggregated) (s .width) (s .to) (l .c) m (h .1 .1 .1) (h .1 .2) (omega arith) i)) in
     let w = c .before .before .store .ensures ∙ stored-next _ _ _ (l .c) _ _ (l .inv .1) e in
     (omega arith, w, ap length w ∙ length-splice _ _ _)
 
@@ -59,8 +59,6 @@ mix-all-spec =
     Inv-loop
     μ-loop
     (λ c. (omega arith, stored-none _ _ _, refl))
-    (λ c. omega arith)
-    (λ c. omega arith)
     (λ c. omega arith)
     (λ c. omega arith)
     (λ c. omega arith)

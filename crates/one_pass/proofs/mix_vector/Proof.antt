@@ -11,6 +11,7 @@ use Rattle.definitions.specs.Ring.{words}
 use Rattle.protocol.specs.Formulas.{flat}
 use Rattle.protocol.proofs.Stored.{stored-none, stored-next, stored-all}
 use Rattle.rq_matrix.proofs.Fill.{length-filled}
+use Rattle.inner_product.specs.Run.{further}
 use Rattle.kept_mix.proofs.Mixed.{kept-mixed-before}
 use Rattle.one_pass.specs.Pass.{column-mixed}
 use Rattle.one_pass.proofs.Forms.{run-same, Lines, lines-none, lines-next, lines-small, lines-total}
@@ -18,58 +19,67 @@ use Rattle.one_pass.proofs.mix_vector.Statement.{statement}
 use Rattle.one_pass.proofs.mix_vector.Tie as tie
 
 abbrev Inv-loop : tie.InvT-loop
-Inv-loop job at step count scratch₀ from pace number to weights witness s-at n w totals forms₀ m₀ scratch forms m =
+Inv-loop job constraints scratch₀ aggregated to weights witness s-at n w totals count forms₀ m₀ scratch forms m =
     (m ≤ n)
-    × (scratch ≡ splice scratch₀ to (flat (table m (column-mixed job at step count scratch₀ from pace number weights))))
+    × (scratch ≡ splice scratch₀ to (flat (table m (column-mixed job constraints scratch₀ aggregated weights))))
     × (length scratch ≡ length scratch₀)
     × (length forms ≡ 1536)
-    × Lines scratch₀ from pace witness s-at forms m number
+    × Lines scratch₀ aggregated witness s-at forms m
 
 abbrev μ-loop : tie.MeasureT-loop
-μ-loop job at step count scratch₀ from pace number to weights witness s-at n w totals forms₀ m₀ scratch forms m = n - m
+μ-loop job constraints scratch₀ aggregated to weights witness s-at n w totals count forms₀ m₀ scratch forms m = n - m
 
 loop-holds : tie.Need-loop-holds Inv-loop μ-loop
 loop-holds c =
     let b = c .before .before .before .before .before .before in
     let s = b .args in
-    (omega arith, stored-none _ _ _, refl, length-replicate {A = ℕ} 1536 0, lines-none (s .scratch .now) (s .from) (s .pace) (s .witness .now) (s .s-at) (s .number) (b .pre .1 .forms))
+    (omega arith, stored-none _ _ _, refl, length-replicate {A = ℕ} 1536 0, lines-none (s .scratch .now) (s .aggregated) (s .witness .now) (s .s-at) (b .pre .1 .forms))
 
 mix-and-form-requires : tie.Need-mix-and-form-requires Inv-loop μ-loop
 mix-and-form-requires c κs =
-    let b = c .before .before .before .before .before .before .before .before .before .before in
+    let b = c .before .before .before .before .before .before .before .before .before .before .before .before in
     let s = b .args in
     let p = b .pre .1 in
-    let l = c .before .before .before .loop in
+    let l = c .before .before .before .before .before .loop in
     let more : l .m < s .n = omega arith in (
       b .pre .0,
       (
-        p .constraints (l .m) more,
-        run-same (s .scratch .now) (l .scratch) (s .from + 64 * l .m) (s .pace) (s .number) (l .inv .2) (p .aggregated (l .m) more),
+        p .in-job (l .m) more,
+        run-same (s .scratch .now) (l .scratch) (further (s .aggregated) (l .m)) (l .inv .2) (p .in-scratch (l .m) more),
         p .values,
         p .few,
       ),
       (
         omega (arith, p .vectors),
-        lines-small (s .scratch .now) (s .from) (s .pace) (s .witness .now) (s .s-at) (λ j. omega (arith, c .before .before .before .before .before .before .before .before .slice-known .given j)) (λ j. omega (arith, c .before .before .before .before .before .before .shared-slice-known3 .given j)) (l .forms) (l .m) (s .number) (omega arith) (omega (arith, p .forms)) (l .inv .4),
+        lines-small (s .scratch .now) (s .aggregated) (s .witness .now) (s .s-at)
+            (λ j. omega (arith, c .before .before .before .before .before .before .before .before .before .before .slice-known .given j))
+            (λ j. omega (arith, c .before .before .before .before .before .before .before .before .shared-slice-known3 .given j)) (l .forms) (l .m) (omega arith) (omega (arith, p .forms))
+            (l .inv .4),
       ),
     )
 
+add-m : tie.Need-add-m Inv-loop μ-loop
+add-m c =
+    let l = c .before .before .before .before .before .before .before .before .before .before in
+    omega (arith, l .loop-test .taken, l .before .before .before .before .before .before .before .before .pre .2)
+
 loop-again : tie.Need-loop-again Inv-loop μ-loop
 loop-again c =
-    let b = c .before .before .before .before .before .before .before .before .before .before .before .before .before .before .before .before in
+    let b = c .before .before .before .before .before .before .before .before .before .before .before .before .before .before .before .before .before .before in
     let s = b .args in
     let p = b .pre .1 in
-    let l = c .before .before .before .before .before .before .before .before .before .loop in
-    let more : l .m < s .n = omega arith in
+    let l = c .before .before .before .before .before .before .before .before .before .before .before .loop in
+    let more = c .before .before .before .before .before .before .before .before .before .before .loop-test .taken in
     let made = c .before .before .before .before .before .mix-and-form .ensures in
-    let new = flat (table (l .m) (column-mixed (s .job .now) (s .at) (s .step) (s .count) (s .scratch .now) (s .from) (s .pace) (s .number) (s .weights .now))) in
-    let e = made .0 ∙ ap words (kept-mixed-before _ _ _ _ _ _ (s .from + 64 * l .m) (s .pace) (s .number) _ (s .to) _ (l .inv .1) (λ k i. p .before (l .m) k more i)) in
+    let new = flat (table (l .m) (column-mixed (s .job .now) (s .constraints) (s .scratch .now) (s .aggregated) (s .weights .now))) in
+    let e = made .0 ∙ ap words (kept-mixed-before _ _ _ _ (further (s .aggregated) (l .m)) _ (s .to) _ (l .inv .1) (λ k i. p .before (l .m) k more i)) in
     let w = c .before .before .store .ensures ∙ stored-next _ _ _ (l .m) _ _ (l .inv .1) e in (
-      omega arith,
+      omega (arith, more),
       w,
       ap length w ∙ length-splice _ _ _,
       length-filled _ _ _ _ (made .1) ∙ l .inv .3,
-      lines-next (s .scratch .now) (s .from) (s .pace) (s .witness .now) (s .s-at) (l .scratch) (l .forms) _ (s .to) new (l .m) (s .number) (l .inv .1) (λ k i. p .before (l .m) k more i) (omega (arith, p .forms)) (made .1) (l .inv .4),
+      lines-next (s .scratch .now) (s .aggregated) (s .witness .now) (s .s-at) (l .scratch) (l .forms) _ (s .to) new (l .m) (l .inv .1) (λ k i. p .before (l .m) k more i)
+          (omega (arith, p .forms, l .inv .3)) (made .1) (l .inv .4),
     )
 
 add-totals-requires : tie.Need-add-totals-requires Inv-loop μ-loop
@@ -84,7 +94,9 @@ returns c =
     let l = c .before .before .before .before .before .before .loop in
     let n : l .m ≡ s .n = omega arith in (
       stored-all _ _ _ _ _ _ (l .inv .1) n,
-      lines-total (s .scratch .now) (s .from) (s .pace) (s .witness .now) (s .s-at) (λ j. omega (arith, c .before .before .before .before .before .before .before .before .before .before .before .slice-known .given j)) (λ j. omega (arith, c .before .before .before .before .before .before .before .before .before .shared-slice-known3 .given j)) (s .totals .now) _ (l .forms) (s .n) (s .number)
+      lines-total (s .scratch .now) (s .aggregated) (s .witness .now) (s .s-at)
+          (λ j. omega (arith, c .before .before .before .before .before .before .before .before .before .before .before .slice-known .given j))
+          (λ j. omega (arith, c .before .before .before .before .before .before .before .before .before .shared-slice-known3 .given j)) (s .totals .now) _ (l .forms) (s .n)
           (b .pre .2) (omega (arith, b .pre .1 .forms, l .inv .3)) (rw n at (l .inv .4)) (c .before .before .add-totals .ensures),
     )
 
@@ -96,18 +108,18 @@ mix-vector-spec =
     μ-loop
     loop-holds
     (λ c. omega (arith, c .before .before .before .before .before .before .before .before .pre .1 .near .0))
-    (λ c. omega (arith, c .before .before .before .before .before .before .before .before .pre .1 .near .0))
+    (λ c. omega (arith, c .before .before .before .before .before .before .before .before .before .pre .1 .near .0))
     (λ c. omega (arith, c .before .before .before .before .before .before .before .before .before .pre .1 .near .1))
-    (λ c. omega (arith, c .before .before .before .before .before .before .before .before .before .pre .1 .near .1))
-    (λ c. omega (arith, c .before .before .before .before .before .before .before .before .before .pre .1 .vectors))
-    (λ c. omega (arith, c .before .before .before .before .before .before .before .before .before .pre .1 .vectors))
+    (λ c. omega (arith, c .before .before .before .before .before .before .before .before .before .before .pre .1 .near .1))
+    (λ c. omega (arith, c .before .before .before .before .before .before .before .before .before .before .before .pre .1 .vectors))
+    (λ c. omega (arith, c .before .before .before .before .before .before .before .before .before .before .before .pre .1 .vectors))
     (λ c. search needs)
     mix-and-form-requires
-    (λ c. omega (arith, c .before .before .before .before .before .before .before .before .before .before .before .before .before .pre .1 .room))
-    (λ c. omega (arith, c .before .before .before .before .before .before .before .before .before .before .before .before .before .pre .1 .room))
-    (λ c κs. omega (arith, c .before .before .before .before .before .before .before .before .before .before .before .before .before .pre .1 .room))
-    (λ c. omega arith)
-    (λ c. omega arith)
+    (λ c. omega (arith, c .before .before .before .before .before .before .before .before .before .before .before .before .before .before .before .pre .1 .room))
+    (λ c. omega (arith, c .before .before .before .before .before .before .before .before .before .before .before .before .before .before .before .pre .1 .room))
+    (λ c κs. omega (arith, c .before .before .before .before .before .before .before .before .before .before .before .before .before .before .before .pre .1 .room))
+    add-m
+    (λ c. omega (arith, c .before .before .before .before .before .before .before .before .before .before .loop-test .taken))
     loop-again
     (λ c. search needs)
     add-totals-requires

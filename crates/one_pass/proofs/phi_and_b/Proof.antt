@@ -3,28 +3,27 @@ use mathlib.Core.Path.{sym, ap, _∙_}
 use Prim.Native.Nat.{_*_}
 use native.Mathlib.Omega.{arith}
 use borrow.Author.Needs.{needs}
-use Rattle.lists.specs.Part.{splice}
 use Rattle.rq_matrix.proofs.Place.{product-bound}
 use Rattle.rq_matrix.proofs.Fill.{length-filled}
-use Rattle.aggregate.specs.Weighed.{b″-words}
+use Rattle.one_pass.specs.Pass.{with-b″}
 use Rattle.one_pass.proofs.Made.{pass-weights}
 use Rattle.one_pass.proofs.phi_and_b.Statement.{statement}
 use Rattle.one_pass.proofs.phi_and_b.Tie as tie
 
-mul-faster : tie.Need-mul-one-pass-is-faster
-mul-faster c =
+mul-width : tie.Need-mul-width
+mul-width c =
     let b = c .before .before .before .before in
     omega (arith, product-bound (b .args .r) (b .args .n) (b .pre .1 .5) (b .pre .1 .6))
 
-mul-aggregate : tie.Need-mul-aggregate
-mul-aggregate c =
+mul-step : tie.Need-mul-step
+mul-step c =
     let b = c .before .before .before .before .before .before in
     omega (arith, product-bound (b .args .r) (b .args .n) (b .pre .1 .5) (b .pre .1 .6))
 
 phi-and-b-kept-requires : tie.Need-phi-and-b-kept-requires
 phi-and-b-kept-requires c κs =
     let b = c .before .before .before .before .before .before .before in
-    let chosen = pass-weights (b .args .r * b .args .n) (b .args .count) (b .args .number) (sym (c .before .before .one-pass-is-faster .ensures) ∙ c .before .if1 .taken) in
+    let chosen = pass-weights (b .args .r * b .args .n) (b .args .constraints .count) (b .args .count) (sym (c .before .before .one-pass-is-faster .ensures) ∙ c .before .if1 .taken) in
     (b .pre, chosen .0, chosen .1)
 
 b-double-prime-requires : tie.Need-b-double-prime-requires
@@ -36,16 +35,16 @@ returns-2 : tie.Need-returns-2
 returns-2 c =
     let s = c .before .before .before .before .before .before .before .before .before .before .before .before .before .before .args in
     c .before .before .b-double-prime .ensures
-    ∙ ap (λ x. splice x (s .b) (b″-words x (s .a) (s .g) (s .from) (s .r) (s .n) (s .witness .now) (s .s) (s .number))) (c .before .before .before .before .before .before .aggregate .ensures)
+    ∙ ap (λ x. with-b″ x (s .q) (s .count) (s .r) (s .n) (s .witness .now) (s .s)) (c .before .before .before .before .before .before .aggregate .ensures)
 
 pub phi-and-b-spec : {M : Type 1} → statement M
 phi-and-b-spec =
     tie.close
     (tie.spec
-    mul-faster
+    mul-width
     (λ c κs. let p = c .before .before .before .before .pre .0 in (p .1 .few, p .2 .few))
     phi-and-b-kept-requires
-    mul-aggregate
+    mul-step
     (λ c κs. c .before .before .before .before .before .before .before .pre .0)
     b-double-prime-requires
     (λ c. search needs)

@@ -15,20 +15,15 @@ mul-width c =
     let b = c .before .before .before .before in
     omega (arith, product-bound (b .args .r) (b .args .n) (b .pre .0 .1 .5) (b .pre .0 .1 .6))
 
+mul-step : tie.Need-mul-step
+mul-step c =
+    let b = c .before .before .before .before in
+    omega (arith, product-bound (b .args .r) (b .args .n) (b .pre .0 .1 .5) (b .pre .0 .1 .6))
+
 keep-weights-requires : tie.Need-keep-weights-requires
 keep-weights-requires c κs =
     let p = c .before .before .before .before .before .before .before .pre in
     (c .before .before .twiddles .ensures, (p .0 .0 .1, p .0 .0 .2, p .1, omega (arith, length-replicate {A = ℕ} 12288 0)))
-
-mul-mix-vectors : tie.Need-mul-mix-vectors
-mul-mix-vectors c =
-    let b = c .before .before .before .before .before .before .before .before .before in
-    omega (arith, product-bound (b .args .r) (b .args .n) (b .pre .0 .1 .5) (b .pre .0 .1 .6))
-
-mul-mix-vectors-2 : tie.Need-mul-mix-vectors-2
-mul-mix-vectors-2 c =
-    let b = c .before .before .before .before .before .before .before .before .before .before in
-    omega (arith, product-bound (b .args .r) (b .args .n) (b .pre .0 .1 .5) (b .pre .0 .1 .6))
 
 mix-vectors-requires : tie.Need-mix-vectors-requires
 mix-vectors-requires c κs =
@@ -36,8 +31,9 @@ mix-vectors-requires c κs =
     let s = b .args in
     let kept = c .before .before .before .before .before .keep-weights .ensures .1 in (
       c .before .before .before .before .before .before .before .before .twiddles .ensures,
-      pass-room (s .job .now) (s .at) (s .count) (s .weights .now) (s .alpha) (s .beta) (s .scratch .now) (s .from) (s .number) (s .to) (s .a) (s .g) (s .r) (s .n) (s .witness .now) (s .s) (s .b) (b .pre .0) _ _ (b .pre .1) (b .pre .2) (omega arith) (omega arith)
-          (both-values _ (s .weights .now) (s .alpha) (s .beta) (s .count) (s .number) (kept .0) (kept .1)) (omega (arith, length-replicate {A = ℕ} 512 0)),
+      pass-room (s .job .now) (s .constraints) (s .weights .now) (s .alpha) (s .beta) (s .scratch .now) (s .q) (s .count) (s .r) (s .n) (s .witness .now) (s .s) (b .pre .0) _ _ (b .pre .1)
+          (b .pre .2) (omega arith) (omega arith)
+          (both-values _ (s .weights .now) (s .alpha) (s .beta) (s .constraints .count) (s .count) (kept .0) (kept .1)) (omega (arith, length-replicate {A = ℕ} 512 0)),
       b .pre .0 .1 .6,
       b .pre .0 .1 .5,
     )
@@ -55,7 +51,8 @@ returns c =
     let s = b .args in
     let made = c .before .before .before .before .before .before .before .before .mix-vectors .ensures in
     let kept = c .before .before .before .before .before .before .before .before .before .before .before .before .before .before .keep-weights .ensures .1 in
-    pass-made (s .job .now) (s .at) (s .count) (s .weights .now) (s .alpha) (s .beta) (s .scratch .now) (s .from) (s .number) (s .to) (s .a) (s .g) (s .r) (s .n) (s .witness .now) (s .s) (s .b) (b .pre .0) _ _ _ _ (b .pre .1 .2) (b .pre .2) kept
+    pass-made (s .job .now) (s .constraints) (s .weights .now) (s .alpha) (s .beta) (s .scratch .now) (s .q) (s .count) (s .r) (s .n) (s .witness .now) (s .s) (b .pre .0) _ _ _ _
+    (b .pre .1 .2) (b .pre .2) kept
     (λ j. omega (arith, c .before .before .before .before .before .before .before .before .before .before .before .before .before .before .before .before .before .before .before .before .before .shared-slice-known .given j))
     (λ j. omega (arith, c .before .before .before .before .before .before .before .before .before .before .before .before .before .before .before .before .before .before .before .slice-known .given j))
     (made .0) (made .1 .0) (c .before .before .store-forms .ensures)
@@ -65,12 +62,11 @@ phi-and-b-kept-spec =
     tie.close
     (tie.spec
     mul-width
+    mul-step
     (λ c κs. search needs)
     (λ c. search needs)
     (λ c. search needs)
     keep-weights-requires
-    mul-mix-vectors
-    mul-mix-vectors-2
     (λ c. search needs)
     (λ c. search needs)
     (λ c. search needs)

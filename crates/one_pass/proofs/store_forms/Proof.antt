@@ -21,18 +21,18 @@ use Rattle.one_pass.proofs.store_forms.Statement.{statement}
 use Rattle.one_pass.proofs.store_forms.Tie as tie
 
 abbrev Inv-loop : tie.InvT-loop
-Inv-loop scratch₀ a-at g-at r totals number to cells a₀ k₀ scratch a k =
-    (k ≤ number) × (a ≡ a-at + 64 * (k * triangular r)) × (scratch ≡ splice scratch₀ to (flat (table k (formed-with scratch₀ a-at g-at r totals)))) × (length scratch ≡ length scratch₀)
+Inv-loop scratch₀ a-at g-at r totals count to cells a₀ k₀ scratch a k =
+    (k ≤ count) × (a ≡ a-at + 64 * (k * triangular r)) × (scratch ≡ splice scratch₀ to (flat (table k (formed-with scratch₀ a-at g-at r totals)))) × (length scratch ≡ length scratch₀)
 
 abbrev μ-loop : tie.MeasureT-loop
-μ-loop scratch₀ a-at g-at r totals number to cells a₀ k₀ scratch a k = number - k
+μ-loop scratch₀ a-at g-at r totals count to cells a₀ k₀ scratch a k = count - k
 
 sum-of-products-requires : tie.Need-sum-of-products-requires Inv-loop μ-loop
 sum-of-products-requires c κs =
     let b = c .before .before .before .before .before .before in
     let s = b .args in
     let l = c .before .before .loop in
-    (omega (arith, row-within (s .a-at) (l .k) (s .number) (triangular (s .r)) (s .to) (omega arith) (b .pre .0)), omega arith, b .pre .4)
+    (omega (arith, row-within (s .a-at) (l .k) (s .count) (triangular (s .r)) (s .to) (omega arith) (b .pre .0)), omega arith, b .pre .4)
 
 -- where a'' of the turn's k ends
 end : (c : tie.After-slice-known2 Inv-loop μ-loop)
@@ -41,7 +41,7 @@ end c =
     let b = c .before .before .before .before .before .before .before .before .before .before .before .before .before in
     let s = b .args in
     let l = c .before .before .before .before .before .before .before .before .before .loop in
-    row-within (s .a-at) (l .k) (s .number) (triangular (s .r)) (s .to) (omega arith) (b .pre .0)
+    row-within (s .a-at) (l .k) (s .count) (triangular (s .r)) (s .to) (omega arith) (b .pre .0)
 
 loop-again : tie.Need-loop-again Inv-loop μ-loop
 loop-again c =

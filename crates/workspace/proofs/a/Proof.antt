@@ -11,6 +11,9 @@ use Rattle.workspace.proofs.a.Tie as tie
 triangle-requires : tie.Need-triangle-requires
 triangle-requires c κs = ready-sized _ _ _ _ (c .before .before .before .pre .0) .within .r .1
 
+mul-step : tie.Need-mul-step
+mul-step c = omega (arith, c .triangle .ensures .1)
+
 of-job-requires : tie.Need-of-job-requires
 of-job-requires c κs = (ready-sized _ _ _ _ (c .before .before .before .before .pre .0), omega arith)
 
@@ -33,4 +36,4 @@ returns c =
     (a-made (s .args .job .now) (s .args .randomness .now) (s .args .scratch .now) (s .args .p) (s .args .q) (s .pre .0) _ _ _ _ (s .pre .2) (c .before .before .before .before .before .before .before .triangle .ensures .0) (c .before .before .before .before .before .before .of-job .ensures) (c .before .before .before .before .before .of-randomness .ensures) (c .before .before .before .before .of-randomness2 .ensures))
 
 pub a-spec : {M : Type 1} → statement M
-a-spec = tie.close (tie.spec triangle-requires of-job-requires of-randomness-requires of-randomness-requires-2 aggregate-requires (λ c. search needs) returns)
+a-spec = tie.close (tie.spec triangle-requires mul-step of-job-requires of-randomness-requires of-randomness-requires-2 aggregate-requires (λ c. search needs) returns)

@@ -9,13 +9,18 @@ use Rattle.workspace.proofs.Steps.{φ-requires, φ-made}
 use Rattle.workspace.proofs.phi.Statement.{statement}
 use Rattle.workspace.proofs.phi.Tie as tie
 
-of-job-requires : tie.Need-of-job-requires
-of-job-requires c κs = (ready-sized _ _ _ _ (c .before .before .before .pre .0), omega arith)
-
-mul-aggregate : tie.Need-mul-aggregate
-mul-aggregate c =
-    let w = ready-sized _ _ _ _ (c .before .before .before .before .before .pre .0) .within in
+mul-width : tie.Need-mul-width
+mul-width c =
+    let w = ready-sized _ _ _ _ (c .before .before .before .before .pre .0) .within in
     omega (arith, mul-le-mul (w .r .1) (w .n .1))
+
+mul-step : tie.Need-mul-step
+mul-step c =
+    let w = ready-sized _ _ _ _ (c .before .before .before .before .pre .0) .within in
+    omega (arith, mul-le-mul (w .r .1) (w .n .1))
+
+of-job-requires : tie.Need-of-job-requires
+of-job-requires c κs = (ready-sized _ _ _ _ (c .before .before .before .before .pre .0), omega arith)
 
 of-randomness-requires : tie.Need-of-randomness-requires
 of-randomness-requires c κs = (ready-sized _ _ _ _ (c .before .before .before .before .before .pre .0), omega arith)
@@ -26,14 +31,17 @@ of-randomness-requires-2 c κs = (ready-sized _ _ _ _ (c .before .before .before
 aggregate-requires : tie.Need-aggregate-requires
 aggregate-requires c κs =
     let s = c .before .before .before .before .before .before .before .before in
-    φ-requires (s .args .job .now) (s .args .randomness .now) (s .args .scratch .now) (s .args .p) (s .args .q) (s .pre .0) _ _ _ (s .pre .1) (omega arith) (c .before .before .before .before .of-job .ensures) (c .before .before .of-randomness .ensures) (c .before .of-randomness2 .ensures)
+    φ-requires (s .args .job .now) (s .args .randomness .now) (s .args .scratch .now) (s .args .p) (s .args .q) (s .pre .0) _ _ _ (s .pre .1) (omega arith)
+    (c .before .before .before .of-job .ensures) (c .before .before .of-randomness .ensures) (c .before .of-randomness2 .ensures)
 
 returns : tie.Need-returns
 returns c =
     let s = c .before .before .before .before .before .before .before .before .before .before .before in
     c .before .before .aggregate .ensures
     ∙ ap (splice (s .args .scratch .now) (s .args .q .phi))
-    (φ-made (s .args .job .now) (s .args .randomness .now) (s .args .scratch .now) (s .args .p) (s .args .q) (s .pre .0) _ _ _ (s .pre .2) (c .before .before .before .before .before .before .before .of-job .ensures) (c .before .before .before .before .before .of-randomness .ensures) (c .before .before .before .before .of-randomness2 .ensures))
+    (φ-made (s .args .job .now) (s .args .randomness .now) (s .args .scratch .now) (s .args .p) (s .args .q) (s .pre .0) _ _ _ (s .pre .2)
+    (c .before .before .before .before .before .before .of-job .ensures) (c .before .before .before .before .before .of-randomness .ensures)
+    (c .before .before .before .before .of-randomness2 .ensures))
 
 pub phi-spec : {M : Type 1} → statement M
-phi-spec = tie.close (tie.spec of-job-requires mul-aggregate of-randomness-requires of-randomness-requires-2 aggregate-requires (λ c. search needs) returns)
+phi-spec = tie.close (tie.spec mul-width mul-step of-job-requires of-randomness-requires of-randomness-requires-2 aggregate-requires (λ c. search needs) returns)
