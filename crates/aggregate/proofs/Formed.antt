@@ -1,9 +1,7 @@
 -- b'' over two triangles and the vectors of a region: stores after them leave it, and it is what the protocol's formula says.
 use mathlib.Core.Path.{_≡_, refl, ap, ap₂, _∙_}
 use mathlib.Core.List.{List}
-use Prim.Native.Nat.{ℕ, _+_, _*_, _≤_, _<_}
-use lib.ListN.{length}
-use Rattle.lists.specs.Table.{table}
+use Prim.Native.Nat.{ℕ, _+_, _*_, _≤_}
 use Rattle.lists.specs.Part.{splice}
 use Rattle.algebra.specs.Ops as Ops
 use Rattle.algebra.proofs.Sum.{sum-ext, sum-rows}
@@ -12,12 +10,12 @@ use Rattle.algebra.proofs.Form.{pairs-ext}
 use Rattle.definitions.specs.Rq.{Element}
 use Rattle.definitions.specs.Ring.{RqOps}
 use Rattle.definitions.proofs.RqRing.{rq-ring}
-use Rattle.protocol.specs.Parameters.{Parameters, parameters, T, triangular}
+use Rattle.protocol.specs.Parameters.{Parameters, parameters, triangular}
 use Rattle.protocol.specs.Layout.{start, witness-sections}
 use Rattle.protocol.specs.Views.{Public, public, element-at, cell, witness}
 use Rattle.protocol.specs.Formulas as F
-use Rattle.protocol.specs.Formulas.{flat, sum, dot, _⊕_, _⊗_, a″, φ″, b″}
-use Rattle.protocol.proofs.Region.{Elements, Triangle, Vectors, elements-ext, elements-before, elements-stored, triangle-of}
+use Rattle.protocol.specs.Formulas.{sum, dot, _⊕_, _⊗_, a″, φ″, b″}
+use Rattle.protocol.proofs.Region.{Triangle, Vectors, elements-before, triangle-of}
 use Rattle.aggregate.specs.Weighed.{formed}
 
 -- a triangle before a store
@@ -63,15 +61,3 @@ module _ (J R W : List ℕ) where
       ap₂ _⊕_
       (pairs-ext RqOps (P .r) (λ i j. element-at S a (cell i j) ⊗ element-at S g (cell i j)) (λ i j. a″ X k i j ⊗ dot (P .n) (witness P W i) (witness P W j)) (λ i j p q. ap₂ _⊗_ (ta i j p q) (tg i j p q)))
       (line-is S φ (P .r) (P .n) (φ″ X k) W (start (witness-sections P) 0) v)
-
-  -- the region that `b_double_prime` fills, of regions whose triangles and vectors k are a''_k and φ''_k
-  pub b″-stored : (S : List ℕ) (a g φ count to : ℕ) → to + 64 * count ≤ length S
-      → ((k : ℕ) → k < count → Triangle S (a + 64 * (k * T P)) (P .r) (a″ X k)) → Triangle S g (P .r) (F.g X (witness P W))
-      → ((k : ℕ) → k < count → Vectors S (φ + 64 * (k * (P .r * P .n))) (P .r) (P .n) (φ″ X k))
-      → Elements (splice S to (flat (table count (λ k. formed S (a + 64 * (k * T P)) g (φ + 64 * (k * (P .r * P .n))) (P .r) (P .n) W (start (witness-sections P) 0))))) to count (b″ X (witness P W))
-  b″-stored S a g φ count to h ta tg v =
-      elements-ext (splice S to (flat (table count B))) to count B (b″ X (witness P W)) (λ k l. b″-is S (a + 64 * (k * T P)) g (φ + 64 * (k * (P .r * P .n))) k (ta k l) tg (v k l))
-      (elements-stored S to count B h)
-    where
-      B : ℕ → Element
-      B k = formed S (a + 64 * (k * T P)) g (φ + 64 * (k * (P .r * P .n))) (P .r) (P .n) W (start (witness-sections P) 0)

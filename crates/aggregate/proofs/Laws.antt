@@ -4,7 +4,7 @@ use mathlib.Core.List.{List}
 use Prim.Native.Nat.{ℕ, _+_, _*_, _≤_, _<_}
 use native.Mathlib.Omega.{arith}
 use lib.ListN.{length, getD}
-use Rattle.lists.specs.Table.{table, cat}
+use Rattle.lists.specs.Table.{table}
 use Rattle.lists.specs.Part.{part, splice}
 use Rattle.algebra.specs.Ops as Ops
 use Rattle.algebra.proofs.Ring.{add-comm}
@@ -20,9 +20,8 @@ use Rattle.jl_omega.proofs.Formula.{φ″-parts}
 use Rattle.protocol.specs.Parameters.{Parameters, parameters, T}
 use Rattle.protocol.specs.Layout.{start, job-sections, randomness-sections}
 use Rattle.protocol.specs.Views.{Public, public, element-at, cell}
-use Rattle.protocol.specs.Formulas.{flat, rows, sum, _⊕_, _⊗_, a″, φ″, a-sum, φ-sum, b-sum}
-use Rattle.protocol.proofs.Flat.{length-rows, row-cell}
-use Rattle.protocol.proofs.Region.{elements-list, Triangle, Vectors, elements-stored, elements-row, triangle-of, vectors-of}
+use Rattle.protocol.specs.Formulas.{flat, sum, _⊕_, _⊗_, a″, φ″, a-sum, φ-sum, b-sum}
+use Rattle.protocol.proofs.Region.{Triangle, Vectors, elements-stored, vectors-of}
 use Rattle.aggregate_psi.specs.Grid.{weighed}
 use Rattle.aggregate.specs.Weighed.{both, mixed, mixed-words, rows-at}
 
@@ -89,26 +88,6 @@ module _ (J R : List ℕ) where
       ∙ add-comm RqOps rq-ring (omega-element R (randomness-at J 0 + i * 256 * (64 * P .n)) (randomness-at J 2 + k * 256) (P .n) m) (sum (P .l) (λ x. scale (X .φ′ x i m) (X .psi k x)))
       ∙ sym (φ″-parts J R i k m)
 
-  -- the vectors k of the region that `phi_double_prime` fills are φ''_k
-  pub φ″-stored : (S : List ℕ) (to : ℕ) → to + 64 * (P .L * (P .r * P .n)) ≤ length S → (k : ℕ) → k < P .L
-      → Vectors (splice S to (flat (cat (P .L) (λ k. rows (P .r) (P .n) (both J (job-at J 1) (P .r) (P .n) (P .l) R (randomness-at J 0) (randomness-at J 1 + k * P .l) (randomness-at J 2 + k * 256)))))) (to + 64 * (k * (P .r * P .n))) (P .r) (P .n) (φ″ X k)
-  φ″-stored S to h k l =
-      vectors-of (splice S to (flat (cat (P .L) (λ k. rows (P .r) (P .n) (B k))))) (to + 64 * (k * (P .r * P .n))) (P .r) (P .n) (λ m. getD (rows (P .r) (P .n) (B k)) m (B 0 0 0)) (φ″ X k)
-      (elements-list S to (P .L) (P .r * P .n) (λ k. rows (P .r) (P .n) (B k)) (λ k. length-rows (P .r) (B k) (P .n)) h (B 0 0 0) k l)
-      (λ i m p q. row-cell (P .r) (B k) (P .n) i m (B 0 0 0) p q ∙ φ″-is k i m)
-    where
-      B : ℕ → ℕ → ℕ → Element
-      B k = both J (job-at J 1) (P .r) (P .n) (P .l) R (randomness-at J 0) (randomness-at J 1 + k * P .l) (randomness-at J 2 + k * 256)
-
-  -- triangle k of the region that `a_double_prime` fills is a''_k
-  pub a″-stored : (S : List ℕ) (to : ℕ) → to + 64 * (P .L * T P) ≤ length S → (k : ℕ) → k < P .L
-      → Triangle (splice S to (flat (rows (P .L) (T P) (λ k. weighed J (job-at J 0) (T P) (P .l) R (randomness-at J 1 + k * P .l))))) (to + 64 * (k * T P)) (P .r) (a″ X k)
-  a″-stored S to h k l =
-      triangle-of (splice S to (flat (rows (P .L) (T P) W))) (to + 64 * (k * T P)) (P .r) (W k) (a″ X k) (elements-row S to (P .L) (T P) W h k l) (λ i j p q. a″-is k i j)
-    where
-      W : ℕ → ℕ → Element
-      W k = weighed J (job-at J 0) (T P) (P .l) R (randomness-at J 1 + k * P .l)
-
   -- cell (i, j) of a'' and the ring constraints' triangles mixed, of a region whose triangle k is a''_k
   pub a-sum-is : (S : List ℕ) (at : ℕ) → ((k : ℕ) → k < P .L → Triangle S (at + 64 * (k * T P)) (P .r) (a″ X k)) → (i j : ℕ) → i < P .r → j < P .r
       → mixed J (further (rows-at (job-at J 3) (T P) (P .K)) (cell i j)) R (randomness-at J 3) (randomness-at J 4) S (further (rows-at at (T P) (P .L)) (cell i j)) ≡ a-sum X i j
@@ -118,14 +97,6 @@ module _ (J R : List ℕ) where
       (λ k. X .a k i j) (λ k. a″ X k i j)
       (λ k l. ap (λ place. element (part J place 64)) (constraint-place (job-at J 3) (cell i j) (T P) k))
       (λ k l. ap (λ place. element (part S place 64)) (row-place at (cell i j) (T P) k) ∙ h k l i j p q)
-
-  -- the triangle that `aggregate` fills from such a region is a
-  pub a-stored : (S : List ℕ) (at to : ℕ) → to + 64 * T P ≤ length S → ((k : ℕ) → k < P .L → Triangle S (at + 64 * (k * T P)) (P .r) (a″ X k))
-      → Triangle (splice S to (mixed-words J (rows-at (job-at J 3) (T P) (P .K)) R (randomness-at J 3) (randomness-at J 4) S (rows-at at (T P) (P .L)) (T P))) to (P .r) (a-sum X)
-  a-stored S at to h t = triangle-of (splice S to (flat (table (T P) M))) to (P .r) M (a-sum X) (elements-stored S to (T P) M h) (a-sum-is S at t)
-    where
-      M : ℕ → Element
-      M c = mixed J (further (rows-at (job-at J 3) (T P) (P .K)) c) R (randomness-at J 3) (randomness-at J 4) S (further (rows-at at (T P) (P .L)) c)
 
   -- element m of vector i of φ'' and the ring constraints' vectors mixed, of a region whose vectors k are φ''_k
   pub φ-sum-is : (S : List ℕ) (at : ℕ) → ((k : ℕ) → k < P .L → Vectors S (at + 64 * (k * (P .r * P .n))) (P .r) (P .n) (φ″ X k)) → (i m : ℕ) → i < P .r → m < P .n

@@ -1,35 +1,19 @@
 -- Inner products and linear combinations in a commutative ring.
-use mathlib.Core.Path.{_≡_, refl, sym, ap, ap₂, _∙_}
+use mathlib.Core.Path.{_≡_, sym, ap, ap₂, _∙_}
 use Prim.Native.Nat.{ℕ, _+_, _<_}
 use Rattle.algebra.specs.Ops.{Ops, sum, dot, comb}
-use Rattle.algebra.proofs.Ring.{CRing, ring, mul-left-comm, add-mul, neg-mul, nil-mul}
-use Rattle.algebra.proofs.Sum.{sum-suc, sum-ext, sum-split, sum-is-nil, sum-add, sum-neg, sum-mul-left, sum-mul-right, sum-swap}
+use Rattle.algebra.proofs.Ring.{CRing, ring, add-mul, neg-mul}
+use Rattle.algebra.proofs.Sum.{sum-ext, sum-split, sum-add, sum-neg, sum-mul-left, sum-mul-right, sum-swap}
 
 module _ (O : Ops) where
   open Ops O using (Carrier, add as _⊕_, mul as _⊗_)
 
   infixl 60 _⊕_
   infixl 70 _⊗_
-  -- one more entry
-  pub dot-suc : (n : ℕ) (f g : ℕ → Carrier) → dot O (n + 1) f g ≡ dot O n f g ⊕ f n ⊗ g n
-  unfolding dot
-  dot-suc n f g = sum-suc O n (λ i. f i ⊗ g i)
-
   -- vectors that agree below n have equal inner products
   pub dot-ext : (n : ℕ) (f f′ g g′ : ℕ → Carrier) → ((i : ℕ) → i < n → f i ≡ f′ i) → ((i : ℕ) → i < n → g i ≡ g′ i) → dot O n f g ≡ dot O n f′ g′
   unfolding dot
   dot-ext n f f′ g g′ p q = sum-ext O n (λ i. f i ⊗ g i) (λ i. f′ i ⊗ g′ i) (λ i l. ap₂ _⊗_ (p i l) (q i l))
-
-  -- coefficients and vectors that agree below n have equal combinations
-  pub comb-ext : (n : ℕ) (c c′ : ℕ → Carrier) (v v′ : ℕ → ℕ → Carrier) (k : ℕ) → ((i : ℕ) → i < n → c i ≡ c′ i) → ((i : ℕ) → i < n → v i k ≡ v′ i k)
-      → comb O n c v k ≡ comb O n c′ v′ k
-  unfolding comb
-  comb-ext n c c′ v v′ k p q = sum-ext O n (λ i. c i ⊗ v i k) (λ i. c′ i ⊗ v′ i k) (λ i l. ap₂ _⊗_ (p i l) (q i l))
-
-  -- an entry of a combination is an inner product with the entries of the vectors
-  pub comb-dot : (n : ℕ) (c : ℕ → Carrier) (v : ℕ → ℕ → Carrier) (k : ℕ) → comb O n c v k ≡ dot O n c (λ i. v i k)
-  unfolding comb dot
-  comb-dot n c v k = refl
 
 module _ (O : Ops) (R : CRing O) where
   open Ops O using (Carrier, add as _⊕_, mul as _⊗_, neg, nil, one)
@@ -77,26 +61,12 @@ module _ (O : Ops) (R : CRing O) where
   pub dot-mul-right : (n : ℕ) (c : Carrier) (f g : ℕ → Carrier) → dot O n f (λ i. c ⊗ g i) ≡ c ⊗ dot O n f g
   dot-mul-right n c f g = dot-comm n f (λ i. c ⊗ g i) ∙ dot-mul-left n c g f ∙ ap (λ x. c ⊗ x) (dot-comm n g f)
 
-  -- ⟨0, g⟩ = 0
-  pub dot-nil-left : (n : ℕ) (f g : ℕ → Carrier) → ((i : ℕ) → i < n → f i ≡ nil) → dot O n f g ≡ nil
-  unfolding dot
-  dot-nil-left n f g h = sum-is-nil O R n (λ i. f i ⊗ g i) (λ i l. ap (λ x. x ⊗ g i) (h i l) ∙ nil-mul O R (g i))
-
-  -- ⟨f, 0⟩ = 0
-  pub dot-nil-right : (n : ℕ) (f g : ℕ → Carrier) → ((i : ℕ) → i < n → g i ≡ nil) → dot O n f g ≡ nil
-  dot-nil-right n f g h = dot-comm n f g ∙ dot-nil-left n g f h
-
   -- ⟨Σ f_j, g⟩ = Σ ⟨f_j, g⟩
   pub dot-sum-left : (n m : ℕ) (f : ℕ → ℕ → Carrier) (g : ℕ → Carrier) → dot O n (λ k. sum O m (λ j. f j k)) g ≡ sum O m (λ j. dot O n (f j) g)
   unfolding dot
   dot-sum-left n m f g =
       sum-ext O n (λ k. sum O m (λ j. f j k) ⊗ g k) (λ k. sum O m (λ j. f j k ⊗ g k)) (λ k l. sym (sum-mul-right O R m (g k) (λ j. f j k)))
       ∙ sum-swap O R n m (λ k j. f j k ⊗ g k)
-
-  -- ⟨f, Σ g_j⟩ = Σ ⟨f, g_j⟩
-  pub dot-sum-right : (n m : ℕ) (f : ℕ → Carrier) (g : ℕ → ℕ → Carrier) → dot O n f (λ k. sum O m (λ j. g j k)) ≡ sum O m (λ j. dot O n f (g j))
-  dot-sum-right n m f g =
-      dot-comm n f (λ k. sum O m (λ j. g j k)) ∙ dot-sum-left n m g f ∙ sum-ext O m (λ j. dot O n (g j) f) (λ j. dot O n f (g j)) (λ j l. dot-comm n (g j) f)
 
   -- ⟨Σ c_j v_j, g⟩ = Σ c_j ⟨v_j, g⟩
   pub dot-comb-left : (n m : ℕ) (c : ℕ → Carrier) (v : ℕ → ℕ → Carrier) (g : ℕ → Carrier) → dot O n (comb O m c v) g ≡ sum O m (λ j. c j ⊗ dot O n (v j) g)
@@ -125,26 +95,3 @@ module _ (O : Ops) (R : CRing O) where
           ap (λ x. c i ⊗ x) (dot-comb-right n m d (u i) v)
           ∙ sym (sum-mul-left O R m (c i) (λ j. d j ⊗ dot O n (u i) (v j)))
           ∙ sum-ext O m (λ j. c i ⊗ (d j ⊗ dot O n (u i) (v j))) (λ j. dot O n (u i) (v j) ⊗ c i ⊗ d j) (λ j h. order (c i) (d j) (dot O n (u i) (v j)))
-
-  -- a combination of combinations of the same vectors is one combination of them
-  pub comb-comb : (n m : ℕ) (c : ℕ → Carrier) (d v : ℕ → ℕ → Carrier) (k : ℕ)
-      → comb O n c (λ i. comb O m (d i) v) k ≡ comb O m (λ j. comb O n c d j) v k
-  unfolding comb
-  comb-comb n m c d v k =
-      sum-ext O n (λ i. c i ⊗ sum O m (λ j. d i j ⊗ v j k)) (λ i. sum O m (λ j. c i ⊗ d i j ⊗ v j k)) (λ i h. out i)
-      ∙ sum-swap O R n m (λ i j. c i ⊗ d i j ⊗ v j k)
-      ∙ sum-ext O m (λ j. sum O n (λ i. c i ⊗ d i j ⊗ v j k)) (λ j. sum O n (λ i. c i ⊗ d i j) ⊗ v j k) (λ j h. sum-mul-right O R n (v j k) (λ i. c i ⊗ d i j))
-    where
-      out : (i : ℕ) → c i ⊗ sum O m (λ j. d i j ⊗ v j k) ≡ sum O m (λ j. c i ⊗ d i j ⊗ v j k)
-      out i = sym (sum-mul-left O R m (c i) (λ j. d i j ⊗ v j k)) ∙ sum-ext O m (λ j. c i ⊗ (d i j ⊗ v j k)) (λ j. c i ⊗ d i j ⊗ v j k) (λ j h. sym (R .mul-assoc (c i) (d i j) (v j k)))
-
-  -- a combination of sums of vectors
-  pub comb-add : (n : ℕ) (c : ℕ → Carrier) (u v : ℕ → ℕ → Carrier) (k : ℕ) → comb O n c (λ i j. u i j ⊕ v i j) k ≡ comb O n c u k ⊕ comb O n c v k
-  unfolding comb
-  comb-add n c u v k =
-      sum-ext O n (λ i. c i ⊗ (u i k ⊕ v i k)) (λ i. c i ⊗ u i k ⊕ c i ⊗ v i k) (λ i h. R .mul-add (c i) (u i k) (v i k)) ∙ sum-add O R n (λ i. c i ⊗ u i k) (λ i. c i ⊗ v i k)
-
-  -- a combination of multiples of vectors
-  pub comb-mul : (n : ℕ) (c : ℕ → Carrier) (x : Carrier) (v : ℕ → ℕ → Carrier) (k : ℕ) → comb O n c (λ i j. x ⊗ v i j) k ≡ x ⊗ comb O n c v k
-  unfolding comb
-  comb-mul n c x v k = sum-ext O n (λ i. c i ⊗ (x ⊗ v i k)) (λ i. x ⊗ (c i ⊗ v i k)) (λ i h. mul-left-comm O R (c i) x (v i k)) ∙ sum-mul-left O R n x (λ i. c i ⊗ v i k)

@@ -3,7 +3,7 @@ use mathlib.Core.Path.{_≡_, sym, ap, ap₂, _∙_}
 use Prim.Native.Nat.{ℕ, _<_}
 use Rattle.algebra.specs.Ops.{Ops, sum, dot, comb, pairs, form}
 use Rattle.algebra.proofs.Ring.{CRing, ring, add-mul, add-add-add-comm}
-use Rattle.algebra.proofs.Sum.{sum-ext, sum-add, sum-mul-left, sum-mul-right, sum-swap, sum-triangle, sum-is-nil}
+use Rattle.algebra.proofs.Sum.{sum-ext, sum-add, sum-mul-left, sum-mul-right, sum-swap, sum-triangle}
 use Rattle.algebra.proofs.Dot.{dot-ext, dot-comb-left, dot-comb-right, dot-comb-comb, dot-add-left}
 
 -- terms that agree below n give equal sums over pairs
@@ -26,11 +26,6 @@ module _ (O : Ops) (R : CRing O) where
 
   infixl 60 _⊕_
   infixl 70 _⊗_
-  -- a sum over pairs of zeros
-  pub pairs-is-nil : (n : ℕ) (f : ℕ → ℕ → Carrier) → ((i j : ℕ) → i < n → j < n → f i j ≡ nil) → pairs O n f ≡ nil
-  unfolding pairs
-  pairs-is-nil n f h = sum-is-nil O R n (λ i. sum O n (λ j. f i j)) (λ i l. sum-is-nil O R n (f i) (λ j m. h i j l m))
-
   -- a sum over pairs of sums
   pub pairs-add : (n : ℕ) (f g : ℕ → ℕ → Carrier) → pairs O n (λ i j. f i j ⊕ g i j) ≡ pairs O n f ⊕ pairs O n g
   unfolding pairs

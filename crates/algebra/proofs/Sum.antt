@@ -70,10 +70,6 @@ module _ (O : Ops) (R : CRing O) where
   sum-swap zero n f = sym (sum-nil n)
   sum-swap (suc m) n f = ap (λ s. s ⊕ sum O n (f m)) (sum-swap m n f) ∙ sym (sum-add n (λ j. sum O m (λ i. f i j)) (f m))
 
-  -- the product of two sums
-  pub sum-mul-sum : (m n : ℕ) (f g : ℕ → Carrier) → sum O m f ⊗ sum O n g ≡ sum O m (λ i. sum O n (λ j. f i ⊗ g j))
-  sum-mul-sum m n f g = sym (sum-mul-right m (sum O n g) f) ∙ sum-ext O m (λ i. f i ⊗ sum O n g) (λ i. sum O n (λ j. f i ⊗ g j)) (λ i l. sym (sum-mul-left n (f i) g))
-
   -- a sum split after its first m terms
   pub sum-split : (m n : ℕ) (f : ℕ → Carrier) → sum O (m + n) f ≡ sum O m f ⊕ sum O n (λ i. f (m + i))
   unfolding sum

@@ -1,21 +1,19 @@
 -- The norm of a difference of two vectors.
-use mathlib.Core.Path.{_≡_, sym, ap, ap₂, subst, _∙_}
-use mathlib.Core.List.{List, [], _∷_}
+use mathlib.Core.Path.{_≡_, sym, ap, _∙_}
+use mathlib.Core.List.{List}
 use Prim.Native.Nat.{ℕ, _+_, _*_, _≤_, _<_}
 use native.Mathlib.Omega.{arith}
-use lib.ListN.{length, getD}
-use Rattle.lists.specs.Table.{table}
+use lib.ListN.{length}
 use Rattle.lists.specs.Sum.{Σ}
 use Rattle.lists.proofs.Table.{table-getD}
-use Rattle.lists.proofs.Additive.{additive-table}
-use Rattle.lists.proofs.Sum.{Σ-ext, Σ-add, Σ-mul-left, Σ-le}
+use Rattle.lists.proofs.Sum.{Σ-add, Σ-mul-left, Σ-le}
 use Rattle.definitions.specs.Zq.{zsub}
 use Rattle.definitions.specs.Norm.{square, norm}
 use Rattle.definitions.specs.Rq.{Element, coeff, rsub}
 use Rattle.definitions.specs.Ring.{words}
 use Rattle.definitions.proofs.Bridge.{coeff-canonical, words-sub}
 use Rattle.protocol.specs.Formulas.{_⊕_, norm-of}
-use Rattle.protocol.proofs.Norms.{norm-table, norm-of-additive, norm-of-one}
+use Rattle.protocol.proofs.Norms.{norm-table, norm-of-table}
 use Rattle.protocol.proofs.Flat.{length-words}
 use Rattle.binding.specs.Openings.{nil, neg, entry, difference}
 use Rattle.binding.proofs.Size.{square-of-difference}
@@ -42,10 +40,6 @@ norm-of-entry x y =
       norm-of-words y,
       Σ-twice 64 (λ k. square (zsub (coeff (words x) k) (coeff (words y) k))) (λ k. square (coeff (words x) k)) (λ k. square (coeff (words y) k)) (λ k l. square-of-difference (coeff (words x) k) (coeff (words y) k) (coeff-canonical x k) (coeff-canonical y k)),
     )
-
--- the norm of a table of elements, over its entries
-pub norm-of-table : (n : ℕ) (f : ℕ → Element) → norm-of (table n f) ≡ Σ n (λ m. norm (words (f m)))
-norm-of-table n f = additive-table norm-of norm-of-additive n f ∙ Σ-ext n (λ m. norm-of (f m ∷ [])) (λ m. norm (words (f m))) (λ m l. norm-of-one (f m))
 
 -- the norm of a vector, over its entries
 norm-of-vector : (n : ℕ) (v : List Element) → length v ≡ n → norm-of v ≡ Σ n (λ m. norm (words (entry v m)))

@@ -1,10 +1,9 @@
 -- The challenges and z of the contracts are those of the public values and of the prover's formulas.
 use mathlib.Core.Path.{_≡_, refl, sym, ap, ap₂, _∙_}
 use mathlib.Core.List.{List}
-use Prim.Native.Nat.{ℕ, _+_, _*_, _≤_}
-use lib.ListN.{length}
+use Prim.Native.Nat.{ℕ, _+_, _*_}
 use Rattle.lists.specs.Table.{table}
-use Rattle.lists.specs.Part.{part, splice}
+use Rattle.lists.specs.Part.{part}
 use Rattle.lists.proofs.Table.{table-ext}
 use Rattle.algebra.proofs.Sum.{sum-ext}
 use Rattle.definitions.specs.Ring.{RqOps, words, element}
@@ -16,8 +15,8 @@ use Rattle.protocol.specs.Parameters.{Parameters}
 use Rattle.protocol.specs.Layout.{start, randomness-sections, witness-sections}
 use Rattle.protocol.specs.Views.{Public, public, witness}
 use Rattle.protocol.specs.Formulas as F
-use Rattle.protocol.specs.Formulas.{_⊗_, sum, flat}
-use Rattle.protocol.proofs.Region.{Elements, elements-stored}
+use Rattle.protocol.specs.Formulas.{_⊗_, sum}
+use Rattle.protocol.proofs.Region.{Elements}
 use Rattle.rq_matrix.specs.Region.{vector}
 
 -- a challenge's coefficients are the words of its element
@@ -35,11 +34,6 @@ module _ (J R : List ℕ) where
   -- the challenges of the randomness
   pub challenges-formula : table r (λ i. element (challenge (part R (start (randomness-sections P) 5 + 41 * i) 41) (part R (start (randomness-sections P) 6 + 63 * i) 63))) ≡ table r c
   challenges-formula = refl
-
-  -- the elements that `generate_challenges` stores are the challenges
-  pub challenges-stored : (l : List ℕ) (at : ℕ) → at + 64 * r ≤ length l
-      → Elements (splice l at (flat (table r (λ i. element (challenge (part R (start (randomness-sections P) 5 + 41 * i) 41) (part R (start (randomness-sections P) 6 + 63 * i) 63)))))) at r c
-  challenges-stored l at within = elements-stored l at r c within
 
   -- z of the witness and of the challenges that a slice holds
   pub z-formula : (W S : List ℕ) (c-at : ℕ) → Elements S c-at r c

@@ -8,7 +8,7 @@ use lib.ListN.{length, take, drop, take-append-drop}
 use lib.Seq.{take-add, drop-drop}
 use Rattle.lists.specs.Table.{table}
 use Rattle.lists.specs.Part.{part, splice}
-use Rattle.lists.proofs.Table.{length-table, table-ext, table-suc}
+use Rattle.lists.proofs.Table.{table-ext, table-suc}
 use Rattle.lists.proofs.Splice.{splice-eq, splice-again, length-part, getD-part, getD-splice-within}
 use Rattle.algebra.proofs.Ring.{nil-add}
 use Rattle.definitions.specs.Rq.{Element}
@@ -17,14 +17,10 @@ use Rattle.definitions.proofs.RqRing.{rq-ring}
 use Rattle.definitions.proofs.Bridge.{words-element}
 use Rattle.inner_product.specs.Run.{run}
 use Rattle.protocol.specs.Formulas.{_⊕_, flat}
-use Rattle.protocol.proofs.Flat.{length-flat, flat-canonical}
+use Rattle.protocol.proofs.Flat.{flat-canonical, length-flat-table}
 use Rattle.protocol.proofs.Stored.{flat-append, flat-one, stored-rest}
 use Rattle.protocol.proofs.Region.{elements-stored}
 use Rattle.commitments.specs.Cells.{CanonicalFrom}
-
--- 64 words for each element
-pub length-flat-table : (n : ℕ) (f : ℕ → Element) → length (flat (table n f)) ≡ 64 * n
-length-flat-table n f = length-flat (table n f) ∙ ap (λ n. 64 * n) (length-table n f)
 
 -- stored elements have canonical words
 pub stored-canonical : (l l′ : List ℕ) (at n : ℕ) (f : ℕ → Element) → at + 64 * n ≤ length l → l′ ≡ splice l at (flat (table n f)) → CanonicalFrom l′ at (64 * n)

@@ -11,12 +11,12 @@ use lib.ListN.{length, List·getD-eq-default}
 use Rattle.lists.specs.Table.{table}
 use Rattle.lists.specs.Sum.{Σ}
 use Rattle.lists.proofs.Table.{is-table, getD-table, table-ext}
-use Rattle.algebra.specs.Ops.{sum, dot}
-use Rattle.algebra.proofs.Sum.{sum-ext, sum-map, sum-add, sum-neg}
+use Rattle.algebra.specs.Ops.{sum}
+use Rattle.algebra.proofs.Sum.{sum-ext, sum-map}
 use Rattle.definitions.specs.Zq.{Q, Canonical, zadd, zsub, zneg, zmul}
 use Rattle.definitions.specs.Rq.{coeff, Element, rzero, radd, rsub, low, high, rmul, rscale, rconj}
 use Rattle.definitions.specs.Ring.{residue, canonical-mod, ZqOps, IsElement, words, table-element, element, RqOps, scale, conj}
-use Rattle.definitions.proofs.ZqRing.{zq-ring, residue-Σ, residue-zsub, residue-reduced}
+use Rattle.definitions.proofs.ZqRing.{residue-Σ, residue-reduced}
 use Rattle.definitions.proofs.RqRing.{words-path, coefficient, element-path, coefficient-element, coefficient-table, coefficient-radd, coefficient-rsub, coefficient-rzero, coefficient-neg, coefficient-rscale, coefficient-rmul, residue-low, residue-high}
 
 -- zero is an element
@@ -61,6 +61,11 @@ coeff-canonical a k = go (decLt k (length (words a)))
     go (yes h) = a .1 .1 k h
     go (no h) = rw (List·getD-eq-default (words a) 0 {n = k} (omega arith)) (omega arith)
 
+-- a coefficient of the element of a list
+pub coeff-element : (a : List ℕ) (j : ℕ) → j < 64 → coeff (words (element a)) j ≡ coeff a j % Q
+unfolding element
+coeff-element a j h = getD-table 64 (λ k. coeff a k % Q) j 0 h
+
 -- the words of the element of a list that has an element's words
 pub words-element : (l : List ℕ) → IsElement l → words (element l) ≡ l
 unfolding element
@@ -82,24 +87,9 @@ words-nil = words-element rzero rzero-element
 pub words-add : (a b : Element) → words (RqOps .add a b) ≡ radd (words a) (words b)
 words-add a b = words-element (radd (words a) (words b)) (radd-element (words a) (words b))
 
--- the words of a negative
-pub words-neg : (a : Element) → words (RqOps .neg a) ≡ rsub rzero (words a)
-words-neg a = words-element (rsub rzero (words a)) (rsub-element rzero (words a))
-
--- 0 − a has each coefficient negated
-pub rsub-rzero : (a : List ℕ) → rsub rzero a ≡ table 64 (λ k. zneg (coeff a k))
-unfolding rsub rzero
-rsub-rzero a =
-    table-ext 64 (λ k. zsub (coeff rzero k) (coeff a k)) (λ k. zneg (coeff a k)) (λ k h. ap (λ x. (x + (Q - coeff a k % Q)) % Q) (getD-table 64 (λ i. 0) k 0 h) ∙ ap (λ x. x % Q) (Nat.zero-add (Q - coeff a k % Q)))
-
 -- the words of a product
 pub words-mul : (a b : Element) → words (RqOps .mul a b) ≡ rmul (words a) (words b)
 words-mul a b = words-element (rmul (words a) (words b)) (rmul-element (words a) (words b))
-
--- the words of a multiple
-pub words-scale : (a : Element) (c : ℕ) → words (scale a c) ≡ rscale (words a) c
-unfolding scale
-words-scale a c = words-element (rscale (words a) c) (rscale-element (words a) c)
 
 -- the words of a conjugate
 pub words-conj : (a : Element) → words (conj a) ≡ rconj (words a)
@@ -160,23 +150,3 @@ coefficient-sum n f k h = sum-map RqOps ZqOps (λ a. coefficient a k) (coefficie
 pub words-sum : (n : ℕ) (f : ℕ → Element) → words (sum RqOps n f) ≡ table 64 (λ k. Σ n (λ i. coeff (words (f i)) k) % Q)
 words-sum n f = words-table (sum RqOps n f) (λ k. Σ n (λ i. coeff (words (f i)) k) % Q) (λ k. canonical-mod (Σ n (λ i. coeff (words (f i)) k)))
     (λ k h. coefficient-sum n f k h ∙ sym (residue-Σ n (λ i. coeff (words (f i)) k)) ∙ sym (residue-reduced (Σ n (λ i. coeff (words (f i)) k))))
-
--- the words of an inner product: both sums of each coefficient over the natural numbers, reduced once
-pub words-dot : (n : ℕ) (f g : ℕ → Element)
-    → words (dot RqOps n f g) ≡ table 64 (λ k. zsub (Σ n (λ i. low (words (f i)) (words (g i)) k)) (Σ n (λ i. high (words (f i)) (words (g i)) k)))
-unfolding dot
-words-dot n f g =
-    words-table (dot RqOps n f g) (λ k. zsub (lows k) (highs k)) (λ k. canonical-mod (lows k + (Q - highs k % Q))) (λ k h.
-    coefficient-sum n (λ i. RqOps .mul (f i) (g i)) k h
-    ∙ sum-ext ZqOps n (λ i. coefficient (RqOps .mul (f i) (g i)) k) (λ i. ZqOps .add (residue (low (words (f i)) (words (g i)) k)) (ZqOps .neg (residue (high (words (f i)) (words (g i)) k))))
-    (λ i l. coefficient-rmul (words (f i)) (words (g i)) k h)
-    ∙ sum-add ZqOps zq-ring n (λ i. residue (low (words (f i)) (words (g i)) k)) (λ i. ZqOps .neg (residue (high (words (f i)) (words (g i)) k)))
-    ∙ ap₂ (ZqOps .add) (sym (residue-Σ n (λ i. low (words (f i)) (words (g i)) k)))
-    (sum-neg ZqOps zq-ring n (λ i. residue (high (words (f i)) (words (g i)) k)) ∙ ap (ZqOps .neg) (sym (residue-Σ n (λ i. high (words (f i)) (words (g i)) k))))
-    ∙ sym (residue-zsub (lows k) (highs k)))
-  where
-    lows : ℕ → ℕ
-    lows k = Σ n (λ i. low (words (f i)) (words (g i)) k)
-
-    highs : ℕ → ℕ
-    highs k = Σ n (λ i. high (words (f i)) (words (g i)) k)

@@ -1,6 +1,6 @@
 -- Cases on tests.
-use mathlib.Core.Path.{_≡_, refl}
-use mathlib.Core.Bool.{Bool, true, false, decide}
+use mathlib.Core.Path.{_≡_, refl, sym, _∙_}
+use mathlib.Core.Bool.{Bool, true, false, _&&_, decide, false≢true}
 use Prim.Native.Nat.{ℕ, _≤_, _<_}
 use lib.Dec.{ltb}
 use borrow.Author.Tests.{ltb-true, ltb-false}
@@ -24,3 +24,12 @@ pub not-decided {ℓ} : {A : Type ℓ} (d : Dec A) → (A → ⊥) → decide d 
 unfolding decide
 not-decided (yes a) h = absurd (h a)
 not-decided (no n) h = refl
+
+-- nothing is both true and false
+pub no-both : {b : Bool} → b ≡ true → b ≡ false → ⊥
+no-both p q = false≢true (sym q ∙ p)
+
+-- each of two tests passes
+pub both-true : (a b : Bool) → a && b ≡ true → (a ≡ true) × (b ≡ true)
+both-true true b e = (refl, e)
+both-true false b e = absurd (false≢true e)

@@ -9,12 +9,12 @@ use Rattle.lists.specs.Sum.{Σ}
 use Rattle.algebra.specs.Ops.{sum, dot}
 use Rattle.algebra.proofs.Ring.{neg-neg, neg-dist, neg-mul, neg-nil}
 use Rattle.algebra.proofs.Sum.{sum-ext, sum-map}
-use Rattle.algebra.proofs.Antiperiodic.{Anti, extend, extend-anti, extend-below, conjF, conj-at, conj-mulF, constF}
+use Rattle.algebra.proofs.Antiperiodic.{Anti, extend, extend-anti, extend-below, conjF, conj-at, conj-mulF}
 use Rattle.definitions.specs.Zq.{Q, zneg}
 use Rattle.definitions.specs.Rq.{coeff, Element, rmul, rconj}
 use Rattle.definitions.specs.Ring.{Residue, residue, ZqOps, words, RqOps, scalar, scale, conj, constant}
 use Rattle.definitions.proofs.ZqRing.{zq-ring, residue-zneg}
-use Rattle.definitions.proofs.RqRing.{coefficient, element-path, coefficient-table, coefficient-radd, coefficient-rzero, coefficient-neg, coefficient-rscale, continued, carry, carry-below, carry-mul, AntiOps, carry-path, carry-add, carry-neg, carry-nil, coefficient-scalar, word-mod, residue-products}
+use Rattle.definitions.proofs.RqRing.{coefficient, element-path, coefficient-table, coefficient-radd, coefficient-rzero, coefficient-neg, coefficient-rscale, continued, carry, carry-below, carry-mul, AntiOps, carry-path, carry-add, carry-nil, word-mod, residue-products}
 use Rattle.definitions.proofs.Bridge.{words-mul, words-conj}
 use Rattle.definitions.proofs.Scalar.{continued-scale, coefficient-scalar-mul}
 
@@ -56,14 +56,6 @@ conj-add a b = element-path (conj (RqOps .add a b)) (RqOps .add (conj a) (conj b
     ∙ neg-dist ZqOps zq-ring (continued a (64 - k)) (continued b (64 - k))
     ∙ ap₂ (ZqOps .add) (sym (coefficient-conj a k h)) (sym (coefficient-conj b k h))
     ∙ sym (coefficient-radd (words (conj a)) (words (conj b)) k h))
-
--- the conjugate of a negative
-pub conj-neg : (a : Element) → conj (RqOps .neg a) ≡ RqOps .neg (conj a)
-unfolding conjF
-conj-neg a = element-path (conj (RqOps .neg a)) (RqOps .neg (conj a)) (λ k h.
-    coefficient-conj (RqOps .neg a) k h
-    ∙ ap (ZqOps .neg) (ap (λ (x : Anti ZqOps 64). x .0 (64 - k)) (carry-neg a) ∙ sym (coefficient-conj a k h))
-    ∙ sym (coefficient-neg (conj a) k h))
 
 -- the conjugate of zero
 pub conj-nil : conj (RqOps .nil) ≡ RqOps .nil
@@ -109,11 +101,6 @@ constant-scale a c = coefficient-rscale (words a) c 0 (lit< tt)
 pub constant-scalar-mul : (c : ℕ) (a : Element) → constant (RqOps .mul (scalar c) a) ≡ ZqOps .mul (residue c) (constant a)
 unfolding constant
 constant-scalar-mul c a = coefficient-scalar-mul c a 0 (lit< tt)
-
--- the constant coefficient of a number
-pub constant-scalar : (c : ℕ) → constant (scalar c) ≡ residue c
-unfolding constant constF
-constant-scalar c = coefficient-scalar c 0 (lit< tt)
 
 -- the constant coefficient of a finite sum
 pub constant-sum : (n : ℕ) (f : ℕ → Element) → constant (sum RqOps n f) ≡ sum ZqOps n (λ i. constant (f i))

@@ -1,6 +1,7 @@
 pub mod Fits
 pub mod Cases
 pub mod Suited
+pub mod Fine
 pub mod IsZero
 pub mod Modulo
 pub mod Centre

@@ -1,7 +1,7 @@
 -- Laws of the remainder by a modulus m: a factor, a term or a sum may be reduced first, and differences modulo m. The two parts of a number of two u64.
 use mathlib.Core.Path.{_≡_, sym, ap, _∙_}
 use Prim.Native.Nat.{ℕ, _+_, _-_, _*_, _/_, _%_, _^_, _<_}
-use native.Mathlib.Nat.{mod-add-mod, add-mod-mod, mod-add-div', add-mul-mod-self-right, mul-mod-left, mod-lt, mod-mod, add-assoc, add-right-comm, add-zero, mul-comm, mul-add-div-right, div-eq-of-lt, mul-add-mod-self-right, mod-eq-of-lt}
+use native.Mathlib.Nat.{mod-add-mod, add-mod-mod, mod-add-div', add-mul-mod-self-right, mul-mod-left, mod-lt, add-assoc, add-right-comm, add-zero, mul-comm, mul-add-div-right, div-eq-of-lt, mul-add-mod-self-right, mod-eq-of-lt}
 use native.Mathlib.Omega.{arith}
 
 -- a factor on the left reduced first
@@ -18,6 +18,15 @@ mul-mod-second m a b = ap (λ x. x % m) (mul-comm a (b % m)) ∙ mul-mod-first m
 -- both factors reduced first
 pub mul-mod-both : (m a b : ℕ) → (a % m * (b % m)) % m ≡ (a * b) % m
 mul-mod-both m a b = mul-mod-first m a (b % m) ∙ mul-mod-second m a b
+
+-- terms that agree modulo m give sums that agree modulo m
+pub add-mod : (m a b x y : ℕ) → a % m ≡ x % m → b % m ≡ y % m → (a + b) % m ≡ (x + y) % m
+add-mod m a b x y e f =
+    sym (mod-add-mod a m b) ∙ sym (add-mod-mod (a % m) b m) ∙ ap (λ u. (u + b % m) % m) e ∙ ap (λ u. (x % m + u) % m) f ∙ add-mod-mod (x % m) y m ∙ mod-add-mod x m y
+
+-- a number that is a remainder may stand for what it is the remainder of
+pub add-remainder : (m s p v : ℕ) → p % m ≡ v → (s + p) % m ≡ (s + v) % m
+add-remainder m s p v e = sym (add-mod-mod s p m) ∙ ap (λ u. (s + u) % m) e
 
 module _ (m : ℕ) (pos : 0 < m) where
   -- y and its negative sum to zero modulo m
@@ -43,10 +52,6 @@ module _ (m : ℕ) (pos : 0 < m) where
   pub add-cancel-mod : (x y z : ℕ) → (x + y) % m ≡ (z + y) % m → x % m ≡ z % m
   add-cancel-mod x y z e =
       sym (add-sub-mod x y) ∙ sym (mod-add-mod (x + y) m (m - y % m)) ∙ ap (λ k. (k + (m - y % m)) % m) e ∙ mod-add-mod (z + y) m (m - y % m) ∙ add-sub-mod z y
-
-  -- the negative of a reduced number is that of the number
-  pub neg-mod : (y : ℕ) → (m - y % m % m) % m ≡ (m - y % m) % m
-  neg-mod y = ap (λ k. (m - k) % m) (mod-mod y m)
 
 -- the upper part of hi · 2^64 + lo
 pub upper-part : (hi lo : ℕ) → lo < 2 ^ 64 → hi ≡ (hi * 2 ^ 64 + lo) / 2 ^ 64

@@ -3,8 +3,7 @@ use mathlib.Core.Path.{_≡_, refl, sym, ap, ap₂, _∙_}
 use Prim.Native.Nat.{ℕ, zero, suc, _+_, _*_, _%_, _<_}
 use lib.Dec.{lit<}
 use Rattle.algebra.specs.Ops.{sum}
-use Rattle.algebra.proofs.Ring.{double-cancel, add-mul, mul-nil, nil-mul}
-use Rattle.algebra.proofs.Sum.{sum-map}
+use Rattle.algebra.proofs.Ring.{double-cancel, mul-nil}
 use Rattle.algebra.proofs.Antiperiodic.{Anti, constF, const-mulF}
 use Rattle.definitions.specs.Zq.{Q, halfQ}
 use Rattle.definitions.specs.Rq.{Element}
@@ -69,10 +68,6 @@ scalar-mul c e = element-path (scalar (c * e)) (RqOps .mul (scalar c) (scalar e)
     each zero = residue-mul c e
     each (suc k) = sym (mul-nil ZqOps zq-ring (residue c))
 
--- a multiple of a sum
-pub scale-add : (a b : Element) (c : ℕ) → scale (RqOps .add a b) c ≡ RqOps .add (scale a c) (scale b c)
-scale-add a b c = scale-scalar (RqOps .add a b) c ∙ add-mul RqOps rq-ring a b (scalar c) ∙ sym (ap₂ (RqOps .add) (scale-scalar a c) (scale-scalar b c))
-
 -- a multiple by a sum of numbers
 pub scale-plus : (a : Element) (c e : ℕ) → scale a (c + e) ≡ RqOps .add (scale a c) (scale a e)
 scale-plus a c e =
@@ -95,22 +90,6 @@ scale-mul a b c = scale-scalar (RqOps .mul a b) c ∙ rq-ring .mul-assoc a b (sc
 pub scale-mod : (a : Element) (c e : ℕ) → c % Q ≡ e % Q → scale a c ≡ scale a e
 scale-mod a c e p = scale-scalar a c ∙ ap (RqOps .mul a) (scalar-mod c e p) ∙ sym (scale-scalar a e)
 
--- a multiple of a finite sum
-pub scale-sum : (n : ℕ) (f : ℕ → Element) (c : ℕ) → scale (sum RqOps n f) c ≡ sum RqOps n (λ i. scale (f i) c)
-scale-sum n f c = sum-map RqOps RqOps (λ a. scale a c) (scale-scalar (RqOps .nil) c ∙ nil-mul RqOps rq-ring (scalar c)) (λ a b. scale-add a b c) n f
-
--- once an element
-pub scale-one : (a : Element) → scale a 1 ≡ a
-scale-one a = scale-scalar a 1 ∙ rq-ring .mul-one a
-
--- twice an element
-pub scale-two : (a : Element) → scale a 2 ≡ RqOps .add a a
-scale-two a = scale-plus a 1 1 ∙ ap₂ (RqOps .add) (scale-one a) (scale-one a)
-
 -- 2 is cancelled: its inverse is (Q + 1)/2
 pub rq-double-cancel : (a b : Element) → RqOps .add a a ≡ RqOps .add b b → a ≡ b
 rq-double-cancel = double-cancel RqOps rq-ring (scalar (halfQ + 1)) (ap (RqOps .mul (scalar (halfQ + 1))) (sym (scalar-add 1 1)) ∙ sym (scalar-mul (halfQ + 1) 2) ∙ scalar-mod ((halfQ + 1) * 2) 1 half-inverse)
-
--- twice a equal to twice b gives a equal to b
-pub scale-two-cancel : (a b : Element) → scale a 2 ≡ scale b 2 → a ≡ b
-scale-two-cancel a b e = rq-double-cancel a b (sym (scale-two a) ∙ e ∙ scale-two b)

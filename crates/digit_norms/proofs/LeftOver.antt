@@ -9,8 +9,9 @@ use Rattle.definitions.specs.Digits.{leftover}
 use Rattle.definitions.specs.Rq.{coeff, isZero, leftRow}
 use Rattle.rq.specs.Words.{AtMostQ}
 use Rattle.definitions.specs.Ring.{words, element}
+use Rattle.definitions.proofs.Bridge.{coeff-element}
 use Rattle.protocol.specs.Formulas.{nothing-left, one-if-left}
-use Rattle.rq_vector.proofs.Rows.{of-word, coeff-element}
+use Rattle.rq_vector.proofs.Rows.{of-word}
 
 -- what is left of a word
 left-of-word : (b parts a : ℕ) → a ≤ Q → leftover b parts (a % Q) ≡ leftover b parts a

@@ -15,10 +15,11 @@ use Rattle.definitions.specs.Ring.{words, element}
 use Rattle.definitions.proofs.Centre.{size-le, size-signed}
 use Rattle.definitions.proofs.Digits.{sizeAfter-self}
 use Rattle.definitions.proofs.Rest.{size-rest}
+use Rattle.definitions.proofs.Bridge.{coeff-element}
 use Rattle.rq_digits.proofs.Sizes.{sizesAfter}
 use Rattle.protocol.specs.Conditions.{two-parts-norm}
 use Rattle.protocol.proofs.Norms.{norm-table}
-use Rattle.rq_vector.proofs.Rows.{of-word, coeff-element, row-of-words}
+use Rattle.rq_vector.proofs.Rows.{of-word, row-of-words}
 
 -- the square of a word's rest is that of the size that goes on
 rest-square : (b a : ℕ) → a ≤ Q → square (rest b (a % Q)) ≡ square (sizeAfter b 1 (size a))

@@ -1,7 +1,7 @@
 -- Squared norms of elements and of their digits, of any words.
 use mathlib.Core.Path.{_≡_, refl, sym, _∙_, ap}
-use mathlib.Core.List.{List, [], _∷_}
-use Prim.Native.Nat.{ℕ, zero, suc, _+_, _*_, _%_, _≤_, _<_, _^_}
+use mathlib.Core.List.{List}
+use Prim.Native.Nat.{ℕ, zero, suc, _+_, _*_, _%_, _≤_, _<_}
 use native.Mathlib.Nat.{mul-zero}
 use native.Mathlib.Omega.{arith}
 use lib.ListN.{length, getD}
@@ -10,17 +10,16 @@ use Rattle.lists.specs.Part.{part}
 use Rattle.lists.specs.Sum.{Σ}
 use Rattle.lists.proofs.Sum.{Σ-ext, Σ-split}
 use Rattle.lists.proofs.Splice.{getD-part}
-use Rattle.lists.proofs.Additive.{additive-table}
 use Rattle.definitions.specs.Zq.{Q}
 use Rattle.definitions.specs.Norm.{square, norm}
-use Rattle.definitions.specs.Rq.{Element, coeff, digitRow}
+use Rattle.definitions.specs.Rq.{coeff, digitRow}
 use Rattle.rq.specs.Words.{AtMostQ}
 use Rattle.definitions.specs.Ring.{words, element}
 use Rattle.inner_product.specs.Run.{run}
 use Rattle.norms.proofs.Part.{norm-part}
 use Rattle.protocol.specs.Formulas.{norm-of}
 use Rattle.protocol.specs.Conditions.{digits-norm}
-use Rattle.protocol.proofs.Norms.{norm-table, norm-of-additive, norm-of-one}
+use Rattle.protocol.proofs.Norms.{norm-table, norm-of-table}
 use Rattle.rq_vector.proofs.Rows.{of-word, row-of-words}
 
 -- a sum over n blocks of w terms each
@@ -47,11 +46,6 @@ norm-of-words a f =
 pub norm-settled : (a : List ℕ) → length a ≡ 64 → AtMostQ a → norm a ≡ norm (words (element a))
 unfolding norm
 norm-settled a n f = ap (λ k. Σ k (λ j. square (coeff a j))) n ∙ sym (norm-of-words a f)
-
--- the norm of a table of elements
-pub norm-of-table : (n : ℕ) (f : ℕ → Element) → norm-of (table n f) ≡ Σ n (λ m. norm (words (f m)))
-norm-of-table n f =
-    additive-table norm-of norm-of-additive n f ∙ Σ-ext n (λ m. norm-of (f m ∷ [])) (λ m. norm (words (f m))) (λ m h. norm-of-one (f m))
 
 -- the norm of the words of n elements is theirs
 pub norm-of-run : (l : List ℕ) (at n : ℕ) → at + 64 * n ≤ length l → ((i : ℕ) → i < length l → getD l i 0 ≤ Q) → norm (part l at (64 * n)) ≡ norm-of (table n (run l at 64))

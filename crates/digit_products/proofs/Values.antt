@@ -1,5 +1,5 @@
 -- The sums of products of words with digits of which half the base was added, and what the words lack of Q times it, are the ring product's coefficients.
-use mathlib.Core.Path.{_≡_, refl, sym, _∙_, ap, ap₂}
+use mathlib.Core.Path.{_≡_, sym, _∙_, ap}
 use mathlib.Core.List.{List}
 use Prim.Native.Nat.{ℕ, _+_, _-_, _*_, _/_, _%_, _≤_, _<_, _^_}
 use native.Mathlib.Nat.{mul-le-mul}
@@ -14,9 +14,10 @@ use Rattle.lists.proofs.Sum.{Σ-add, Σ-mul-left, Σ-mod-ext, Σ-bound}
 use Rattle.definitions.specs.Zq.{Q, zsub}
 use Rattle.digit_products.specs.Small.{timesQ, liftQ}
 use Rattle.definitions.specs.Rq.{coeff, low, high, rmul}
-use Rattle.definitions.specs.Ring.{RqOps, words, element}
+use Rattle.definitions.specs.Ring.{words, element}
 use Rattle.definitions.proofs.RqRing.{rq-ring}
 use Rattle.definitions.proofs.Bridge.{words-element, element-rmul, rmul-element}
+use Rattle.definitions.proofs.Modulo.{add-remainder}
 use Rattle.rq_product.specs.Product.{AllWords, extended, extendedCoeff, reversed}
 use Rattle.rq_product.specs.Sums.{Added}
 use Rattle.rq_product.proofs.Coefficient.{coefficient}
@@ -88,10 +89,7 @@ product-added sums a b x y result at half ex ey wa f e =
     let read : (k : ℕ) → k < 64 → getD result k 0 ≡ added k = λ k h. ap (λ r. getD r k 0) e ∙ getD-table 64 added k 0 h in record {
       value = λ k h.
           ap (λ v. v % Q) (read k h)
-          ∙ sums-mod (getD sums k 0) (complement x half + productsSum x y (at + k + 1)) (coeff (rmul b a) k)
+          ∙ add-remainder Q (getD sums k 0) (complement x half + productsSum x y (at + k + 1)) (coeff (rmul b a) k)
           (sum-at a b x y at half ex ey wa (f .words) (f .count) k h ∙ ap (λ r. coeff r k) (rmul-comm a b));
       bound = λ k h. omega (arith, read k h, sum-small x y at 128 (complement x half) (at + k + 1) f (omega arith) (omega arith), f .first);
     }
-  where
-    sums-mod : (s p v : ℕ) → p % Q ≡ v → (s + p) % Q ≡ (s + v) % Q
-    sums-mod s p v h = omega arith

@@ -21,8 +21,8 @@ use Rattle.protocol.specs.Formulas.{_⊗_, digits-of, times}
 use Rattle.protocol.specs.Prover.{whole, prove}
 use Rattle.protocol.specs.Conditions.{conditions}
 use Rattle.protocol.proofs.Alike.{upto, h-alike}
-use Rattle.protocol.proofs.ChecksAreConditions.{triangle-ext}
 use Rattle.protocol.proofs.Demand3.{demand-3}
+use Rattle.protocol.proofs.Region.{triangle-ext}
 use Rattle.binding.specs.Openings.{nil, Equal-u2}
 use Rattle.soundness.specs.Altered.{made-transcript}
 use Rattle.extraction.specs.Fork.{Branch, challenge-of, _⊖_, Node, base, first, second, mixed, Used, changed, c, x, y, challenges-at, Fork}

@@ -3,13 +3,13 @@ use mathlib.Core.Path.{_≡_, refl, sym, ap, ap₂, subst₂, _∙_}
 use mathlib.Core.List.{List}
 use mathlib.Core.Logic.{_≢_}
 use Prim.Native.Nat.{ℕ, _+_, _*_, _≤_, _<_}
-use native.Mathlib.Nat.{mul-le-mul-right}
 use native.Mathlib.Decide.{ℕ-discrete}
 use native.Mathlib.Omega.{arith}
 use lib.ListN.{length, getD, set, take, length-set}
 use lib.Seq.{getD-set-same, getD-set-other, take-set-le, ext-getD}
 use Rattle.lists.proofs.Prefix.{getD-alike, part-alike}
 use Rattle.lists.proofs.Splice.{length-part, getD-part, part-ext}
+use Rattle.lists.proofs.Rows.{index-below}
 use Rattle.definitions.specs.Ring.{element}
 use Rattle.definitions.specs.Projection.{entry}
 use Rattle.definitions.specs.Challenge.{challenge}
@@ -63,10 +63,6 @@ part-flipped R from n j h l =
     go i m (no d) =
         flipped-other (from + j) R (from + i) (λ e. d (omega arith))
         ∙ sym (flipped-other j (part R from n) i d ∙ getD-part 0 R from n i m)
-
--- an index of a table of a rows of b each
-pub index-below : (a b i j : ℕ) → i < a → j < b → i * b + j < a * b
-index-below a b i j hi hj = omega (arith, mul-le-mul-right b hi)
 
 -- randomness that begins alike
 module _ (J R R′ : List ℕ) (N : ℕ) (alike : take N R ≡ take N R′) where

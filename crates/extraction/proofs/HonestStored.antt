@@ -10,6 +10,7 @@ use lib.Dec.{ltb, eqb}
 use lib.ListN.{length, getD, set, take, length-set}
 use lib.Seq.{getD-set-same, getD-set-other}
 use Rattle.lists.proofs.Splice.{length-part, getD-part}
+use Rattle.lists.proofs.Rows.{index-below}
 use Rattle.definitions.specs.Zq.{Q}
 use Rattle.definitions.specs.Answer.{fine, refused, _then_}
 use Rattle.definitions.specs.Ring.{canonical-mod}
@@ -21,7 +22,7 @@ use Rattle.protocol.proofs.Fine.{then-both-fine, then-fine-left, then-fine-righ
 use Rattle.layout.specs.Laid.{nth, In}
 use Rattle.layout.proofs.Laid.{laid}
 use Rattle.extraction.specs.Honest.{other-sign, flipped, sign-place, raised, alpha-place, beta-place, psi-place, omega-place}
-use Rattle.extraction.proofs.HonestRandomness.{stored-elsewhere, index-below}
+use Rattle.extraction.proofs.HonestRandomness.{stored-elsewhere}
 
 module _ (p v : ℕ) (R : List ℕ) where
   -- a count is read where it was

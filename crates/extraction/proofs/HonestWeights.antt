@@ -6,6 +6,7 @@ use native.Mathlib.Nat.{le-refl}
 use native.Mathlib.Omega.{arith}
 use lib.ListN.{getD, take}
 use lib.Seq.{getD-set-other, take-set-le}
+use Rattle.lists.proofs.Rows.{index-below}
 use Rattle.definitions.specs.Zq.{Q}
 use Rattle.definitions.specs.Ring.{residue, ZqOps, RqOps, element}
 use Rattle.protocol.specs.Parameters.{Parameters, parameters}
@@ -16,7 +17,7 @@ use Rattle.extraction.specs.Fork.{Branch}
 use Rattle.extraction.specs.Tree.{Differ-at, Same-rows, At-alpha, At-beta, Same-projection, At-psi, At-omega}
 use Rattle.extraction.specs.Honest.{Made, raised, alpha-place, beta-place, psi-place, omega-place}
 use Rattle.extraction.proofs.Honest.{made-agrees, made-size}
-use Rattle.extraction.proofs.HonestRandomness.{stored-elsewhere, index-below, alike-Π, alike-psi, alike-omega, alike-alpha}
+use Rattle.extraction.proofs.HonestRandomness.{stored-elsewhere, alike-Π, alike-psi, alike-omega, alike-alpha}
 use Rattle.extraction.proofs.HonestRaised.{raised-words, raised-elements}
 
 module _ (J W : List ℕ) where

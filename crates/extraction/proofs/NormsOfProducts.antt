@@ -13,10 +13,10 @@ use Rattle.definitions.specs.Ring.{words, canonical-mod}
 use Rattle.definitions.proofs.Bridge.{coeff-canonical, words-mul}
 use Rattle.definitions.proofs.Challenge.{total}
 use Rattle.protocol.specs.Formulas.{_⊗_, norm-of}
-use Rattle.protocol.proofs.Norms.{norm-table}
+use Rattle.protocol.proofs.Norms.{norm-table, norm-of-table}
 use Rattle.protocol.proofs.Flat.{length-words}
 use Rattle.binding.proofs.Size.{twice-product}
-use Rattle.binding.proofs.Norm.{norm-of-words, norm-of-table}
+use Rattle.binding.proofs.Norm.{norm-of-words}
 use Rattle.extraction.proofs.NormsWithin.{Within, size-within, size-least, within-sub, within-mul, within-Σ}
 
 -- Cauchy and Schwarz with weights: (Σ w_i·x_i)² ≤ (Σ w_i)·(Σ w_i·x_i²)

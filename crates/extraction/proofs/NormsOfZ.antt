@@ -22,10 +22,10 @@ use Rattle.protocol.specs.Formulas.{norm-of, t-digits, g-digits, h-digits}
 use Rattle.protocol.specs.Conditions.{two-parts-norm}
 use Rattle.protocol.specs.Verifier.{verify, z-parts, check-23}
 use Rattle.protocol.proofs.Fine.{required, failed-not-fine}
-use Rattle.protocol.proofs.Norms.{norm-table, parts-of-table}
+use Rattle.protocol.proofs.Norms.{norm-table, parts-of-table, norm-of-table}
 use Rattle.protocol.proofs.Acceptance.{accepted-passes, base-at-least}
 use Rattle.binding.proofs.Size.{twice-product}
-use Rattle.binding.proofs.Norm.{norm-of-words, norm-of-table}
+use Rattle.binding.proofs.Norm.{norm-of-words}
 use Rattle.extraction.proofs.NormsWithin.{Within, within-itself, size-within, size-least, within-mod, within-add, within-mul}
 
 module _ (b : ℕ) (p : 0 < b) where

@@ -6,7 +6,7 @@ use native.Mathlib.Decide.{ℕ-discrete}
 use lib.Dec.{eqb}
 use borrow.Author.Tests.{eq-eqb, ne-eqb}
 use Rattle.algebra.specs.Ops.{Ops}
-use Rattle.algebra.proofs.Ring.{CRing, ring, add-left-comm, add-neg, add-nil, one-mul, eq-of-sub-nil}
+use Rattle.algebra.proofs.Ring.{CRing, ring, add-left-comm, mul-left-comm, add-neg, add-nil, one-mul, eq-of-sub-nil}
 use Rattle.extraction.proofs.Steps.{step, one-at}
 
 module _ (O : Ops) (R : CRing O) where
@@ -66,10 +66,7 @@ module _ (O : Ops) (R : CRing O) where
   -- z″ = z + d′·s where d′·(z′ − z) = d·(z″ − z)
   pub other-step : (d d′ f z z′ z″ : Carrier) → d ⊗ f ≡ one → d′ ⊗ (z′ ⊕ neg z) ≡ d ⊗ (z″ ⊕ neg z) → z″ ≡ z ⊕ d′ ⊗ (f ⊗ (z′ ⊕ neg z))
   other-step d d′ f z z′ z″ p e =
-      sym (ap (λ x. z ⊕ x) (order d′ f (z′ ⊕ neg z) ∙ ap (λ x. f ⊗ x) e ∙ order f d (z″ ⊕ neg z) ∙ divided d f (z″ ⊕ neg z) p) ∙ added z z″)
-    where
-      order : (a b c : Carrier) → a ⊗ (b ⊗ c) ≡ b ⊗ (a ⊗ c)
-      order a b c = simp (ring, R)
+      sym (ap (λ x. z ⊕ x) (mul-left-comm O R d′ f (z′ ⊕ neg z) ∙ ap (λ x. f ⊗ x) e ∙ mul-left-comm O R f d (z″ ⊕ neg z) ∙ divided d f (z″ ⊕ neg z) p) ∙ added z z″)
 
   -- z‴ = z + (z′ − z) + (z″ − z) where z‴ − z′ − z″ + z = 0
   pub both-steps : (z z′ z″ z‴ : Carrier) → z‴ ⊕ neg z′ ⊕ neg z″ ⊕ z ≡ nil → z‴ ≡ z ⊕ (z′ ⊕ neg z) ⊕ (z″ ⊕ neg z)

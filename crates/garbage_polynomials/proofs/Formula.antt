@@ -1,27 +1,17 @@
 -- The cells of the contracts are those of the prover's formulas.
 use mathlib.Core.Path.{_≡_, refl, ap₂}
 use mathlib.Core.List.{List}
-use Prim.Native.Nat.{ℕ, _+_, _<_}
-use native.Mathlib.Omega.{arith}
-use Rattle.lists.specs.Table.{table}
-use Rattle.lists.proofs.Table.{table-ext}
-use Rattle.lists.proofs.Cat.{cat-ext}
+use Prim.Native.Nat.{ℕ, _<_}
 use Rattle.algebra.proofs.Dot.{dot-ext}
-use Rattle.definitions.specs.Rq.{Element}
 use Rattle.definitions.specs.Ring.{RqOps}
 use Rattle.protocol.specs.Parameters.{Parameters}
 use Rattle.protocol.specs.Layout.{start, witness-sections}
 use Rattle.protocol.specs.Views.{Public, public, witness}
 use Rattle.protocol.specs.Formulas as F
 use Rattle.protocol.specs.Formulas.{_⊕_, dot, triangle}
-use Rattle.protocol.proofs.Region.{Vectors}
+use Rattle.protocol.proofs.Region.{Vectors, triangle-ext}
 use Rattle.rq_matrix.specs.Region.{vector, gram}
 use Rattle.garbage_polynomials.specs.Garbage.{h-of}
-
--- cells that agree below the diagonal and on it give equal triangles
-pub triangle-ext : (r : ℕ) (f g : ℕ → ℕ → Element) → ((i j : ℕ) → i < r → j < r → f i j ≡ g i j) → triangle r f ≡ triangle r g
-unfolding triangle
-triangle-ext r f g h = cat-ext r (λ i. table (i + 1) (f i)) (λ i. table (i + 1) (g i)) (λ i l. table-ext (i + 1) (f i) (g i) (λ j m. h i j l (omega arith)))
 
 module _ (J R W : List ℕ) where
   open Public (public J R) using (P)

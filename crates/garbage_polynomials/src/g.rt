@@ -10,8 +10,8 @@ ghost use Rattle.protocol.specs.Formulas.{flat, triangle};
 ghost use Rattle.rq_matrix.specs.Region.{gram};
 
 // Row i: columns 0 to i.
-pub fn g_row(s: &[u32], s_at: usize, r: usize, n: usize, i: usize, out: &mut [u32], out_at: usize)
-    requires { ⌜ («s_at» + 64 * (r * n) ≤ length (now s)) × («out_at» + 64 * (i + 1) ≤ length (now out)) × (i < r) × (r ≤ 64) × (n ≤ 64) ⌝ }
+pub fn g_row(s: &[u32], s_at: usize, n: usize, i: usize, out: &mut [u32], out_at: usize)
+    requires { ⌜ («s_at» + 64 * ((i + 1) * n) ≤ length (now s)) × («out_at» + 64 * (i + 1) ≤ length (now out)) × (i < 64) × (n ≤ 64) ⌝ }
     ensures { λ _. ⌜ now (out .exit) ≡ splice (now (out .entry)) «out_at» (flat (table (i + 1) (gram (now (s .entry)) «s_at» n i))) ⌝ }
 {
     let row = vector_at(s_at, n, i);
@@ -38,7 +38,7 @@ pub fn compute_g(s: &[u32], s_at: usize, r: usize, n: usize, out: &mut [u32], ou
     let mut place = out_at;
     let mut i = 0;
     while i < r {
-        g_row(s, s_at, r, n, i, out, place);
+        g_row(s, s_at, n, i, out, place);
         i += 1;
         place += 64 * i;
     }

@@ -33,14 +33,13 @@ pub fn h_cell(
 pub fn h_row(
     s: &[u32],
     s_at: usize,
-    r: usize,
     n: usize,
     i: usize,
     scratch: &mut [u32],
     phi_at: usize,
     out_at: usize,
 )
-    requires { ⌜ RowFits (now s) «s_at» r n i (now scratch) «phi_at» «out_at» ⌝ }
+    requires { ⌜ RowFits (now s) «s_at» n i (now scratch) «phi_at» «out_at» ⌝ }
     ensures { λ _. ⌜ now (scratch .exit) ≡ splice (now (scratch .entry)) «out_at» (flat (table (i + 1) (h-of (now (scratch .entry)) «phi_at» (now (s .entry)) «s_at» n i))) ⌝ }
 {
     let s_i = vector_at(s_at, n, i);
@@ -75,7 +74,7 @@ pub fn compute_h(
     let mut place = out_at;
     let mut i = 0;
     while i < r {
-        h_row(s, s_at, r, n, i, scratch, phi_at, place);
+        h_row(s, s_at, n, i, scratch, phi_at, place);
         i += 1;
         place += 64 * i;
     }

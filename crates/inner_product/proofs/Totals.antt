@@ -3,7 +3,7 @@ use mathlib.Core.Path.{_≡_, refl, sym, _∙_, ap}
 use mathlib.Core.List.{List}
 use Prim.Native.Nat.{ℕ, _+_, _*_, _%_, _≤_, _<_, _^_}
 use native.Mathlib.Omega.{arith}
-use lib.ListN.{length, getD, replicate, getD-replicate}
+use lib.ListN.{getD, replicate, getD-replicate}
 use Rattle.lists.specs.Table.{table}
 use Rattle.lists.specs.Part.{part}
 use Rattle.lists.specs.Sum.{Σ}
@@ -16,6 +16,7 @@ use Rattle.definitions.specs.Rq.{coeff, rmul, rscale}
 use Rattle.definitions.specs.Ring.{RqOps, IsElement, words, element, scale}
 use Rattle.definitions.proofs.Bridge.{words-sum, words-element, element-rmul, element-rscale, rmul-element, rscale-element}
 use Rattle.definitions.proofs.Suited.{suited, sums-fit}
+use Rattle.definitions.proofs.Modulo.{add-mod}
 use Rattle.rq_product.specs.Product.{growth}
 use Rattle.rq_product.specs.Sums.{SumsRoom, Added}
 use Rattle.inner_product.specs.Run.{run}
@@ -37,12 +38,9 @@ totals-none growth f = record {
 pub totals-next : (growth : ℕ) (totals next : List ℕ) (m : ℕ) (f : ℕ → List ℕ) → Totals growth totals m f → Added growth totals (f m) next → Totals growth next (m + 1) f
 totals-next growth totals next m f t a = record {
   value = λ k h.
-      a .value k h ∙ step (getD totals k 0) (Σ m (λ i. coeff (f i) k)) (coeff (f m) k) (t .value k h) ∙ ap (λ v. v % Q) (sym (Σ-suc m (λ i. coeff (f i) k)));
+      a .value k h ∙ add-mod Q (getD totals k 0) (coeff (f m) k) (Σ m (λ i. coeff (f i) k)) (coeff (f m) k) (t .value k h) refl ∙ ap (λ v. v % Q) (sym (Σ-suc m (λ i. coeff (f i) k)));
   bound = λ k h. omega (arith, a .bound k h, t .bound k h);
 }
-  where
-    step : (x y z : ℕ) → x % Q ≡ y % Q → (x + z) % Q ≡ (y + z) % Q
-    step x y z e = omega arith
 
 -- there is room while they are few, since Q lacks little of 2^32
 pub totals-room : (totals : List ℕ) (m : ℕ) (f : ℕ → List ℕ) → Totals growth totals m f → m ≤ 2 ^ 18 → SumsRoom totals

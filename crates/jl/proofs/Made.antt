@@ -3,17 +3,14 @@ use mathlib.Core.Path.{_≡_, refl, sym, ap, ap₂, _∙_}
 use mathlib.Core.Bool.{cond}
 use mathlib.Core.List.{List}
 use Prim.Native.Nat.{ℕ, _+_, _-_, _*_, _/_, _%_, _≤_, _<_}
-use native.Mathlib.Nat.{zero-add, mul-le-mul-right}
+use native.Mathlib.Nat.{mul-le-mul-right}
 use native.Mathlib.Omega.{arith}
 use lib.Dec.{ltb}
-use lib.ListN.{length, getD, set, replicate, length-replicate, getD-replicate}
+use lib.ListN.{length, getD, replicate, length-replicate, getD-replicate}
 use Rattle.lists.specs.Sum.{Σ}
 use Rattle.lists.specs.Table.{table}
-use Rattle.lists.specs.Part.{splice}
 use Rattle.lists.proofs.Sum.{Σ-suc, Σ-ext, Σ-bound, Σ-mod-ext}
 use Rattle.lists.proofs.Table.{length-table, getD-table, table-ext, is-table}
-use Rattle.lists.proofs.Splice.{length-splice, getD-splice-after}
-use Rattle.lists.proofs.Fill.{splice-table-next, getD-splice-table}
 use Rattle.definitions.specs.Zq.{Q}
 use Rattle.definitions.proofs.Cases.{ltb-cases}
 use Rattle.jl.specs.Rows.{flipped, is-negative, flipQ, flipped-row, row-added, SumsRoom, row-sum}
@@ -81,23 +78,6 @@ pub row-small : (R : List ℕ) (at : ℕ) (W : List ℕ) (wt count : ℕ) → Wo
 unfolding flipped-row
 row-small R at W wt count u =
     Σ-bound count 8589934590 (each R at W wt) (λ m h. omega (arith, flipped-le (getD R (at + m) 0) (getD W (wt + m) 0) (u (wt + m)), negative-le (getD R (at + m) 0)))
-
--- sum k with something added is entry k of a table that the sums are filled with
-pub fill : (l sums : List ℕ) (k : ℕ) (f : ℕ → ℕ) (x : ℕ) → sums ≡ splice l 0 (table k f) → f k ≡ getD l k 0 + x → set sums k (getD sums k 0 + x) ≡ splice l 0 (table (k + 1) f)
-fill l sums k f x e v =
-    ap (λ s. set s k (getD s k 0 + x)) e
-    ∙ ap₂ (λ p y. set (splice l 0 (table k f)) p (y + x)) (sym (zero-add k)) (getD-splice-after l 0 (table k f) k 0 (omega (arith, length-table k f)))
-    ∙ splice-table-next l 0 k f (getD l k 0 + x) (sym v)
-
--- a sum that the table has not reached is as it was
-pub unfilled : (l sums : List ℕ) (k i : ℕ) (f : ℕ → ℕ) → sums ≡ splice l 0 (table k f) → k ≤ i → getD sums i 0 ≡ getD l i 0
-unfilled l sums k i f e h = ap (λ s. getD s i 0) e ∙ getD-splice-after l 0 (table k f) i 0 (omega (arith, length-table k f))
-
--- a table over the whole list
-pub filled : (l sums : List ℕ) (n : ℕ) (f : ℕ → ℕ) → length l ≡ n → sums ≡ splice l 0 (table n f) → sums ≡ table n f
-filled l sums n f h e =
-    is-table n sums f 0 (ap length e ∙ length-splice l 0 (table n f) ∙ h)
-    (λ i u. ap (λ s. getD s i 0) e ∙ ap (λ p. getD (splice l 0 (table n f)) p 0) (sym (zero-add i)) ∙ getD-splice-table l 0 n f i 0 u (omega (arith, h)))
 
 module _ (R : List ℕ) (pi : ℕ) (W : List ℕ) (s n first : ℕ) where
   -- no vector

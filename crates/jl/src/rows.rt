@@ -19,20 +19,20 @@ const MODULUS: u64 = Zq::Q as u64;
 const FLIP: u64 = (MODULUS - (modulus::LACK as u64 - 1)) % MODULUS;
 
 // Sums of the lower and of the upper halves of flipped words, and the number of those whose entry is −1.
-pub struct Halves {
+pub struct FlippedHalves {
     pub low: u32,
     pub high: u32,
     pub negatives: u32,
 }
 
 // One more word.
-fn add(h: Halves, code: u32, word: u32) -> Halves
+fn add(h: FlippedHalves, code: u32, word: u32) -> FlippedHalves
     requires { ⌜ (h .low ≤ 4294836225) × (h .high ≤ 4294836225) × (h .negatives ≤ 65535) ⌝ }
     ensures { λ r. ⌜ (r .low ≡ h .low + flipped code word % 65536) × (r .high ≡ h .high + flipped code word / 65536) × (r .negatives ≡ h .negatives + is-negative code) ⌝ }
 {
     let t = projection::flipped(code, word);
     let negative = projection::is_negative(code);
-    Halves {
+    FlippedHalves {
         low: h.low + t % 65536,
         high: h.high + t / 65536,
         negatives: h.negatives + negative,
@@ -40,7 +40,7 @@ fn add(h: Halves, code: u32, word: u32) -> Halves
 }
 
 // The sum of the words, with what the negatives lack.
-fn join(h: Halves) -> u64
+fn join(h: FlippedHalves) -> u64
     requires { ⌜ h .negatives ≤ 65536 ⌝ }
     ensures { λ r. ⌜ r ≡ h .high * 65536 + h .low + h .negatives * flipQ ⌝ }
 {
@@ -48,7 +48,7 @@ fn join(h: Halves) -> u64
 }
 
 // The sums of four rows.
-pub struct Sums {
+pub struct RowSums {
     pub a: u64,
     pub b: u64,
     pub c: u64,
@@ -56,7 +56,7 @@ pub struct Sums {
 }
 
 // The sums of four rows of `count` words, one after the other from `at` on, with the words from `wt` on.
-fn four(randomness: &[u32], at: usize, witness: &[u32], wt: usize, count: usize) -> Sums
+fn four(randomness: &[u32], at: usize, witness: &[u32], wt: usize, count: usize) -> RowSums
     requires { ⌜ (at + 4 * count ≤ length (now randomness)) × (wt + count ≤ length (now witness)) × (count ≤ 65536) ⌝ }
     ensures { λ r. ⌜ r .a ≡ flipped-row (now (randomness .entry)) at (now (witness .entry)) wt count ⌝ }
     ensures { λ r. ⌜ r .b ≡ flipped-row (now (randomness .entry)) (at + count) (now (witness .entry)) wt count ⌝ }
@@ -66,22 +66,22 @@ fn four(randomness: &[u32], at: usize, witness: &[u32], wt: usize, count: usize)
     let second = at + count;
     let third = at + 2 * count;
     let fourth = at + 3 * count;
-    let mut a = Halves {
+    let mut a = FlippedHalves {
         low: 0,
         high: 0,
         negatives: 0,
     };
-    let mut b = Halves {
+    let mut b = FlippedHalves {
         low: 0,
         high: 0,
         negatives: 0,
     };
-    let mut c = Halves {
+    let mut c = FlippedHalves {
         low: 0,
         high: 0,
         negatives: 0,
     };
-    let mut d = Halves {
+    let mut d = FlippedHalves {
         low: 0,
         high: 0,
         negatives: 0,
@@ -95,7 +95,7 @@ fn four(randomness: &[u32], at: usize, witness: &[u32], wt: usize, count: usize)
         d = add(d, randomness[fourth + m], word);
         m += 1;
     }
-    Sums {
+    RowSums {
         a: join(a),
         b: join(b),
         c: join(c),

@@ -15,12 +15,12 @@ use Rattle.lists.proofs.Table.{getD-table}
 use Rattle.definitions.specs.Zq.{Q, zneg}
 use Rattle.definitions.specs.Projection.{entry}
 use Rattle.definitions.proofs.Cases.{ltb-cases}
+use Rattle.definitions.proofs.Modulo.{add-mod}
 use Rattle.zq.proofs.Words.{lowered-le, lowered-mod}
 use Rattle.jl.specs.Rows.{term}
 use Rattle.jl_omega.specs.Omega.{carried, omega-element}
 use Rattle.jl_pairs.specs.Pairs.{pair-number, pair-sum, pair-entry, pair-table, lowered-sum, four-entry, four-place, tables-entry, row-tables, row-term, biased, Added}
 use Rattle.jl_fours.specs.Fours.{Summed, summed-element}
-use Rattle.jl.proofs.Places.{add-mod}
 use Rattle.jl.proofs.Terms.{term-le, term-mod}
 use Rattle.jl_omega.proofs.Columns.{carried-word, carried-mod, conjugated-columns}
 

@@ -1,35 +1,19 @@
 -- Runs of words that are stored some way apart.
 use mathlib.Core.Path.{_≡_, refl, sym, ap, ap₂, _∙_}
-use mathlib.Core.List.{List, [], _∷_, _++_}
-use mathlib.Core.Logic.{_≢_}
+use mathlib.Core.List.{List, _++_}
 use Prim.Native.Nat.{ℕ, zero, suc, _+_, _*_, _≤_, _<_}
 use native.Mathlib.Nat.{mul-le-mul-right}
 use native.Mathlib.Numerals.{add-one}
 use native.Mathlib.Omega.{arith}
-use lib.ListN.{length, set}
-use lib.Seq.{set-comm}
+use lib.ListN.{length}
 use Rattle.lists.specs.Table.{cat}
 use Rattle.lists.specs.Part.{splice}
-use Rattle.lists.proofs.Splice.{length-splice, splice-append}
+use Rattle.lists.proofs.Splice.{length-splice, splice-append, splice-swap}
 use Rattle.definitions.specs.Rq.{Element}
 use Rattle.protocol.specs.Formulas.{flat}
 use Rattle.protocol.proofs.Region.{length-lists}
 use Rattle.protocol.proofs.Stored.{lists-none, lists-next}
 use Rattle.jl_fours.specs.Fours.{spread}
-
--- a store before a run and the run, in either order
-set-splice : (l : List ℕ) (p : ℕ) (x : List ℕ) (i v : ℕ) → i < p → set (splice l p x) i v ≡ splice (set l i v) p x
-unfolding splice
-set-splice l p [] i v h = refl
-set-splice l p (a ∷ x) i v h =
-    let ne : p ≢ i = λ e. omega arith in
-    set-splice (set l p a) (suc p) x i v (omega arith) ∙ ap (λ m. splice m (suc p) x) (set-comm l p i a v ne)
-
--- a run before another and that one, in either order
-splice-swap : (l : List ℕ) (p : ℕ) (x : List ℕ) (i : ℕ) (y : List ℕ) → i + length y ≤ p → splice (splice l p x) i y ≡ splice (splice l i y) p x
-unfolding splice
-splice-swap l p x i [] h = refl
-splice-swap l p x i (v ∷ y) h = ap (λ m. splice m (suc i) y) (set-splice l p x i v (omega arith)) ∙ splice-swap (set l i v) p x (suc i) y (omega arith)
 
 module _ (at step : ℕ) where
   pub spread-none : (l : List ℕ) (f : ℕ → List ℕ) → l ≡ spread l at step 0 f

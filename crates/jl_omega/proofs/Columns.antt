@@ -26,12 +26,12 @@ use Rattle.definitions.proofs.ZqRing.{residue-mod}
 use Rattle.definitions.proofs.RqRing.{coefficient, element-path, coefficient-table, coefficient-rscale, residue-products}
 use Rattle.definitions.proofs.Bridge.{words-conj, coefficient-sum}
 use Rattle.definitions.proofs.Conjugate.{conj-sum, conj-scale}
+use Rattle.definitions.proofs.Modulo.{add-mod}
 use Rattle.protocol.specs.Views.{element-at}
 use Rattle.protocol.specs.Formulas.{flat}
 use Rattle.protocol.proofs.Flat.{length-flat}
 use Rattle.jl.specs.Rows.{term}
 use Rattle.jl_omega.specs.Omega.{row-element, omega-element, carried, added}
-use Rattle.jl.proofs.Places.{add-mod}
 use Rattle.jl.proofs.Terms.{term-mod}
 
 -- a carried sum is the sum modulo Q

@@ -9,9 +9,8 @@ use Rattle.lists.specs.Table.{table}
 use Rattle.lists.specs.Part.{splice}
 use Rattle.lists.proofs.Table.{length-table, getD-table}
 use Rattle.lists.proofs.Splice.{getD-splice-after}
-use Rattle.lists.proofs.Fill.{getD-splice-table}
+use Rattle.lists.proofs.Fill.{getD-splice-table, table-more, entry-stored}
 use Rattle.definitions.specs.Zq.{Q}
-use Rattle.jl_pairs.proofs.Column.{table-more, entry-stored}
 use Rattle.jl_pairs.specs.Pairs.{biased, four-place, row-term, Added}
 use Rattle.jl_tables.specs.Tables.{terms-added, place-entry, Places, table-term, column-added, block-added}
 use Rattle.jl_tables.proofs.Terms.{terms-ext, terms-mod}

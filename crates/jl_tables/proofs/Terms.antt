@@ -9,8 +9,8 @@ use borrow.Author.Tests.{lt-ltb, le-ltb}
 use lib.Dec.{ltb}
 use Rattle.lists.specs.Sum.{Σ}
 use Rattle.definitions.specs.Zq.{Q, lackQ}
+use Rattle.definitions.proofs.Modulo.{add-mod}
 use Rattle.zq.proofs.Words.{lowered-same}
-use Rattle.jl.proofs.Places.{add-mod}
 use Rattle.jl_omega.specs.Omega.{carried}
 use Rattle.jl_omega.proofs.Columns.{carried-word, carried-mod}
 use Rattle.jl_pairs.specs.Pairs.{biased}

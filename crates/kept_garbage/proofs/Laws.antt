@@ -11,10 +11,10 @@ use Rattle.lists.proofs.Table.{table-ext}
 use Rattle.lists.proofs.Splice.{length-splice, length-part, getD-part}
 use Rattle.definitions.specs.Rq.{Element}
 use Rattle.protocol.specs.Formulas.{dot, flat, triangle}
+use Rattle.protocol.proofs.Region.{triangle-ext}
 use Rattle.inner_product.specs.Run.{run}
 use Rattle.rq_matrix.specs.Region.{vector, gram}
 use Rattle.rq_matrix.proofs.Place.{rows-within, dot-vectors}
-use Rattle.garbage_polynomials.proofs.Formula.{triangle-ext}
 use Rattle.kept_vectors.specs.Keeps.{Keeps, AllValues, kept-dot, kept-row}
 use Rattle.kept_vectors.proofs.Laws.{dot-same, same-before, same-copied, keeps-vector, kept-dot-is}
 use Rattle.kept_garbage.specs.KeptGarbage.{kept-gram}

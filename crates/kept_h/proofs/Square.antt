@@ -13,10 +13,10 @@ use Rattle.definitions.specs.Rq.{Element, radd}
 use Rattle.definitions.specs.Ring.{words, element}
 use Rattle.protocol.specs.Formulas.{_⊕_, flat, rows, triangle}
 use Rattle.protocol.proofs.Flat.{length-flat, element-of-flat, length-rows, row-cell, row-cell-within}
+use Rattle.protocol.proofs.Region.{triangle-ext}
 use Rattle.rq_matrix.specs.Region.{vector}
 use Rattle.rq_matrix.proofs.Place.{vector-apart}
 use Rattle.rq_matrix.proofs.Word.{words-of-sum}
-use Rattle.garbage_polynomials.proofs.Formula.{triangle-ext}
 use Rattle.kept_h.specs.KeptLines.{both-ways}
 
 -- the words of a cell and its mirror image together, from the places of both

@@ -1,24 +1,20 @@
 -- What a layout and ranges that are refused nothing say of the words.
-use mathlib.Core.Path.{_≡_, refl, sym, ap, subst, _∙_}
-use mathlib.Core.Bool.{Bool, true, false, cond}
+use mathlib.Core.Path.{_≡_, subst, _∙_}
+use mathlib.Core.Bool.{cond}
 use mathlib.Core.List.{List, [], _∷_}
 use Prim.Native.Nat.{ℕ, zero, suc, _+_, _≤_, _<_}
 use native.Mathlib.Decide.{decLe}
 use native.Mathlib.Omega.{arith}
 use borrow.Author.Tests.{ltb-true}
 use lib.Dec.{ltb, eqb}
-use lib.ListN.{length, getD, take, drop, length-take, length-drop}
+use lib.ListN.{length, getD, drop, length-take, length-drop}
 use lib.Seq.{getD-take, getD-drop}
-use Rattle.definitions.specs.Answer.{Answer, fine, refused, below, _then_}
+use Rattle.definitions.specs.Answer.{fine, refused, below, _then_}
+use Rattle.definitions.proofs.Fine.{cond-fine}
 use Rattle.protocol.specs.Checks.{require}
 use Rattle.protocol.specs.Layout.{Range, free, under, Section, part, span, start, counted, layout, ranged, in-range}
 use Rattle.protocol.proofs.Fine.{required, refused-not-fine, then-fine-left, then-fine-right}
 use Rattle.layout.specs.Laid.{nth, In, Laid}
-
--- the first of two answers is taken where the second is refused
-cond-fine : (b : Bool) (a : Answer) (number place : ℕ) → cond b a (refused number place) ≡ fine → (b ≡ true) × (a ≡ fine)
-cond-fine true a number place e = (refl, e)
-cond-fine false a number place e = absurd (refused-not-fine number place e)
 
 module _ (number : ℕ) (words : List ℕ) where
   -- a count that is refused nothing: its words are there, and the rest is refused nothing

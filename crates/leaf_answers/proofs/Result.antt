@@ -1,10 +1,9 @@
 -- The result of a leaf call by the number of its status.
 use mathlib.Core.Path.{_≡_, refl, sym, _∙_, ap}
-use Prim.Native.Nat.{ℕ}
 use native.Mathlib.Omega.{arith}
 use Rattle.definitions.specs.declared.answers.Operands.{Operands}
 use Rattle.definitions.specs.declared.answers.Operands.the-variants as O
-use Rattle.definitions.specs.Answer.{Answer, fine, accepted, refused, failed, number, result, _then_, ofOperands}
+use Rattle.definitions.specs.Answer.{Answer, fine, number, result, _then_, ofOperands}
 use Rattle.leaf_answers.specs.declared.answers.Status.{Status}
 use Rattle.leaf_answers.specs.Answers.{statusOf}
 
@@ -44,10 +43,3 @@ refused-first o s later e z = by o (λ h. z (ap (λ t. t .number) e ∙ h))
     by (O.Word p) h = refl
     by (O.SignWord p) h = refl
     by (O.BaseOrParts p) h = refl
-
--- an answer comes before a fine one
-pub then-fine : (a : Answer) → a ≡ a then fine
-then-fine fine = refl
-then-fine (accepted cells) = refl
-then-fine (refused n p) = refl
-then-fine (failed n vs) = refl

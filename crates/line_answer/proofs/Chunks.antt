@@ -139,10 +139,6 @@ pub fed-output : (input : List ℕ) → answers start input ++ last (after start
 unfolding steps
 fed-output input = whole [] input
 
--- an input has at most 56 bytes written for each of its own, and 56 for its end
-pub length-output : (input : List ℕ) → length (output input) ≤ 56 * length input + 56
-length-output input = rw (← fed-output input, length-append) (omega (arith, length-answers start input, length-last (after start input)))
-
 -- what is written for an input in chunks from a state on
 unfoldable pub chunked : State → List (List ℕ) → List ℕ
 chunked s [] = last s

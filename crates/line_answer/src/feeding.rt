@@ -1,8 +1,7 @@
 // An input in chunks of any size: each chunk is fed to the state, and the answers to the lines that it ends are written into a lent slice.
 ghost use mathlib.Core.Path.{_≡_};
 ghost use Prim.Native.Nat.{_+_, _*_, _≤_};
-ghost use lib.ListN.{length, take, drop};
-ghost use Rattle.line_answer.specs.Output.{output};
+ghost use lib.ListN.{length};
 ghost use Rattle.line_reading.specs.Reading.{Bounded, written, next, after, answers, last};
 ghost use Rattle.line_writing.specs.Written.{Written};
 use line_reading::reading::State;
@@ -66,17 +65,4 @@ pub fn finish(s: State, out: &mut [u8], at: usize) -> usize
     } else {
         put_answer(out, at, s)
     }
-}
-
-// The answers to all lines of an input.
-pub fn answer_input(input: &[u8], out: &mut [u8]) -> usize
-    requires { ⌜ 56 * length (now input) + 56 ≤ length (now out) ⌝ }
-    ensures { λ r. ⌜ take r (now (out .exit)) ≡ output (now (input .entry)) ⌝ }
-    ensures { λ r. ⌜ drop r (now (out .exit)) ≡ drop r (now (out .entry)) ⌝ }
-{
-    let fresh = start();
-    let f = feed(fresh, input, out);
-    let state = f.state;
-    let at = f.at;
-    finish(state, out, at)
 }

@@ -8,10 +8,10 @@ use native.Mathlib.Omega.{arith}
 use lib.Dec.{ltb, leb, eqb}
 use lib.ListN.{length}
 use borrow.Author.Tests.{leb-true}
+use Rattle.definitions.proofs.Cases.{both-true}
 use Rattle.line_reading.specs.Text.{allDigits, valueAfter, value, decimalIn, decimal}
 use Rattle.line_reading.specs.Line.{beforeSpace, afterSpace, oneToTen, isWord, pair, parse}
 use Rattle.line_reading.specs.declared.reading.Parsed.the-variants.{Refused}
-use Rattle.line_reading.proofs.Small.{and-true}
 
 -- a line is what stands before its first space, the space, and what stands after it
 length-parts : (l : List ℕ) → length l ≤ length (beforeSpace l) + 1 + length (afterSpace l)
@@ -26,8 +26,8 @@ length-parts (b ∷ bs) = by (eqb b 32) (length-parts bs)
 -- a word has at most ten bytes
 word-length : (w : List ℕ) → isWord w ≡ true → length w ≤ 10
 word-length w h =
-    let p = and-true (oneToTen (length w)) (allDigits w) h in
-    leb-true (length w) 10 (and-true (leb 1 (length w)) (leb (length w) 10) (p .0) .1)
+    let p = both-true (oneToTen (length w)) (allDigits w) h in
+    leb-true (length w) 10 (both-true (leb 1 (length w)) (leb (length w) 10) (p .0) .1)
 
 -- a line of more than 21 bytes is refused whatever it holds
 pub long-refused : (line : List ℕ) → 21 < length line → parse line ≡ Refused

@@ -1,6 +1,6 @@
 -- The words of a state stay small.
 use mathlib.Core.Path.{_≡_, refl}
-use mathlib.Core.Bool.{Bool, true, false, cond, _&&_, false≢true}
+use mathlib.Core.Bool.{Bool, true, false, cond}
 use mathlib.Core.List.{List, [], _∷_}
 use Prim.Native.Nat.{ℕ, _≤_, _<_}
 use native.Mathlib.Nat.{lt-of-lt-of-le, pow-suc, pow-le-pow-right}
@@ -9,6 +9,7 @@ use native.Mathlib.Omega.{arith}
 use lib.Dec.{leb, ltb, eqb}
 use borrow.Author.Tests.{leb-true, ltb-true}
 use Rattle.definitions.specs.Zq.{Q}
+use Rattle.definitions.proofs.Cases.{both-true}
 use Rattle.line_reading.specs.Text.{isDigit}
 use Rattle.line_reading.specs.Reading.{none, start, pushed, extended, with, stepped, parsed, next, after, Small, Bounded, FirstCanonical}
 use Rattle.line_reading.specs.declared.reading.Word.{Word}
@@ -16,15 +17,10 @@ use Rattle.line_reading.specs.declared.reading.State.{State}
 use Rattle.line_reading.specs.declared.reading.State.the-variants.{First, Second, Bad}
 use Rattle.line_reading.specs.declared.reading.Parsed.the-variants.{Pair, Refused}
 
--- both halves of a conjunction
-pub and-true : (a b : Bool) → a && b ≡ true → (a ≡ true) × (b ≡ true)
-and-true true b h = (refl, h)
-and-true false b h = absurd (false≢true h)
-
 -- a digit is a byte from 48 to 57
 pub digit-range : (b : ℕ) → isDigit b ≡ true → (48 ≤ b) × (b ≤ 57)
 digit-range b h =
-    let p = and-true (leb 48 b) (leb b 57) h in
+    let p = both-true (leb 48 b) (leb b 57) h in
     (leb-true 48 b (p .0), leb-true b 57 (p .1))
 
 -- a word that takes one more digit is below 10^9

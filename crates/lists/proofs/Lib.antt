@@ -4,6 +4,7 @@ pub mod Sum
 pub mod Part
 pub mod Splice
 pub mod Cat
+pub mod Rows
 pub mod Prefix
 pub mod Additive
 pub mod Fill

@@ -8,7 +8,7 @@ use native.Mathlib.Decide.{decLt, decLe}
 use native.Mathlib.Numerals.{add-one}
 use native.Mathlib.Omega.{arith}
 use lib.ListN.{length, getD, set, take, drop, replicate, length-set, length-take, length-drop, length-replicate, replicate-append-replicate}
-use lib.Seq.{sets, sets-eq, length-sets, ext-getD, getD-take, getD-drop, getD-set-same, getD-set-other, take-length, length-take-le, take-suc}
+use lib.Seq.{sets, sets-eq, length-sets, ext-getD, set-comm, getD-take, getD-drop, getD-set-same, getD-set-other, take-length, length-take-le, take-suc}
 use Rattle.lists.specs.Table.{table}
 use Rattle.lists.specs.Part.{part, splice}
 use Rattle.lists.proofs.Table.{is-table}
@@ -41,6 +41,21 @@ module _ {ℓ} {A : Type ℓ} where
   pub splice-next : (l : List A) (at : ℕ) (new : List A) (x : A) → set (splice l at new) (at + length new) x ≡ splice l at (new ++ (x ∷ []))
   unfolding splice
   splice-next l at new x = splice-append l at new (x ∷ [])
+
+  -- a store before a run and the run, in either order
+  set-splice : (l : List A) (at : ℕ) (new : List A) (i : ℕ) (v : A) → i < at → set (splice l at new) i v ≡ splice (set l i v) at new
+  unfolding splice
+  set-splice l at [] i v h = refl
+  set-splice l at (x ∷ new) i v h =
+      let ne : at ≢ i = λ e. omega arith in
+      set-splice (set l at x) (suc at) new i v (omega arith) ∙ ap (λ m. sets m (suc at) new) (set-comm l at i x v ne)
+
+  -- a run before another and that one, in either order
+  pub splice-swap : (l : List A) (at : ℕ) (new : List A) (to : ℕ) (more : List A) → to + length more ≤ at → splice (splice l at new) to more ≡ splice (splice l to more) at new
+  unfolding splice
+  splice-swap l at new to [] h = refl
+  splice-swap l at new to (x ∷ more) h =
+      ap (λ m. sets m (suc to) more) (set-splice l at new to x (omega arith)) ∙ splice-swap (set l to x) at new (suc to) more (omega arith)
 
   -- an element before the run
   pub getD-splice-before : (l : List A) (at : ℕ) (new : List A) (i : ℕ) (d : A) → i < at → getD (splice l at new) i d ≡ getD l i d

@@ -13,8 +13,8 @@ ghost use Rattle.load_sums.specs.Sums.{Placed, Reduced, terms, plus};
 ghost use Rattle.load_constraints.specs.Terms.{plus-both, weight-of, rows-of, left-of};
 
 // What cell (i, j) of a triangle is multiplied with, j at most i: ⟨s_i, s_j⟩, twice off the diagonal.
-fn weight(s: &[u32], s_at: usize, r: usize, n: usize, i: usize, j: usize) -> Rq
-    requires { ⌜ («s_at» + 64 * (r * n) ≤ length (now s)) × (i < r) × (j ≤ i) × (r ≤ 64) × (n ≤ 64) ⌝ }
+fn weight(s: &[u32], s_at: usize, n: usize, i: usize, j: usize) -> Rq
+    requires { ⌜ («s_at» + 64 * ((i + 1) * n) ≤ length (now s)) × (i < 64) × (j ≤ i) × (n ≤ 64) ⌝ }
     ensures { λ e. ⌜ e .coeffs ≡ words (weight-of (now (s .entry)) «s_at» n i j) ⌝ }
 {
     let s_i = vector_at(s_at, n, i);
@@ -32,17 +32,16 @@ fn add_row(
     m: usize,
     s: &[u32],
     s_at: usize,
-    r: usize,
     n: usize,
     i: usize,
     row: usize,
 )
-    requires { ⌜ Placed (now job) t base0 base m × Reduced (now job) t × (row + (i + 1) ≤ m) × («s_at» + 64 * (r * n) ≤ length (now s)) × (i < r) × (r ≤ 64) × (n ≤ 64) ⌝ }
+    requires { ⌜ Placed (now job) t base0 base m × Reduced (now job) t × (row + (i + 1) ≤ m) × («s_at» + 64 * ((i + 1) * n) ≤ length (now s)) × (i < 64) × (n ≤ 64) ⌝ }
     ensures { λ _. ⌜ now (job .exit) ≡ plus-both (now (job .entry)) t base0 base (λ at. terms (now (job .entry)) at m row (i + 1) (weight-of (now (s .entry)) «s_at» n i)) ⌝ }
 {
     let mut j = 0;
     while j <= i {
-        let w = weight(s, s_at, r, n, i, j);
+        let w = weight(s, s_at, n, i, j);
         load_sums::add_term(job, t, base0, base, m, row + j, w);
         j += 1;
     }
@@ -66,7 +65,7 @@ fn add_triangle(
     let mut row = 0;
     let mut i = 0;
     while i < r {
-        add_row(job, t, base0, base, m, s, s_at, r, n, i, row);
+        add_row(job, t, base0, base, m, s, s_at, n, i, row);
         i += 1;
         row += i;
     }

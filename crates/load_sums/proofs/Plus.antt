@@ -4,13 +4,13 @@ use mathlib.Core.List.{List, [], _∷_, _++_, flatMap}
 use Prim.Native.Nat.{ℕ, zero, suc, _+_, _*_, _%_, _≤_, _<_}
 use native.Mathlib.Nat.{mod-eq-of-lt}
 use native.Mathlib.Omega.{arith}
-use lib.ListN.{length, getD, set, take, drop}
-use lib.Seq.{sets, set-comm, take-add, drop-drop}
+use lib.ListN.{length, getD, take, drop}
+use lib.Seq.{take-add, drop-drop}
 use Rattle.lists.specs.Table.{table}
 use Rattle.lists.specs.Part.{part, splice}
 use Rattle.lists.proofs.Table.{length-table, getD-table, table-ext, table-suc}
 use Rattle.lists.proofs.Fill.{getD-splice-table, splice-table-same}
-use Rattle.lists.proofs.Splice.{length-splice, splice-again, getD-splice-before, getD-splice-within, part-splice-before, part-splice-after, part-splice-same, part-table, length-part, getD-part}
+use Rattle.lists.proofs.Splice.{length-splice, splice-swap, splice-again, getD-splice-before, getD-splice-within, part-splice-before, part-splice-after, part-splice-same, part-table, length-part, getD-part}
 use Rattle.definitions.specs.Zq.{Q, zadd}
 use Rattle.definitions.specs.Rq.{Element, coeff, rzero, radd}
 use Rattle.definitions.specs.Ring.{RqOps, words, element, canonical-mod}
@@ -22,21 +22,6 @@ use Rattle.protocol.proofs.Flat.{length-flat, flat-canonical, element-of-flat}
 use Rattle.protocol.proofs.Stored.{flat-append, flat-one}
 use Rattle.load_sums.specs.declared.Target.{Target}
 use Rattle.load_sums.specs.Sums.{plus, Placed, Reduced}
-
--- a store before a run of stores
-set-sets : (l : List ℕ) (at : ℕ) (new : List ℕ) (i v : ℕ) → i < at → set (sets l at new) i v ≡ sets (set l i v) at new
-set-sets l at [] i v h = refl
-set-sets l at (x ∷ new) i v h =
-    set-sets (set l at x) (suc at) new i v (omega arith) ∙ ap (λ k. sets k (suc at) new) (set-comm l at i x v (λ e. omega arith))
-
--- two runs that are apart, in either order
-swapped : (l : List ℕ) (at : ℕ) (new : List ℕ) (to : ℕ) (more : List ℕ) → to + length more ≤ at → sets (sets l at new) to more ≡ sets (sets l to more) at new
-swapped l at new to [] h = refl
-swapped l at new to (x ∷ more) h = ap (λ k. sets k (suc to) more) (set-sets l at new to x (omega arith)) ∙ swapped (set l to x) at new (suc to) more (omega arith)
-
-splice-swap : (l : List ℕ) (at : ℕ) (new : List ℕ) (to : ℕ) (more : List ℕ) → to + length more ≤ at → splice (splice l at new) to more ≡ splice (splice l to more) at new
-unfolding splice
-splice-swap l at new to more h = swapped l at new to more h
 
 -- elements read from canonical words are those words
 flat-read : (J : List ℕ) (at n : ℕ) → at + 64 * n ≤ length J → ((x : ℕ) → x < 64 * n → getD J (at + x) 0 < Q) → flat (table n (element-at J at)) ≡ part J at (64 * n)

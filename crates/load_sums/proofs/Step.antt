@@ -2,12 +2,11 @@
 use mathlib.Core.Path.{_≡_, refl, sym, ap, ap₂, _∙_}
 use mathlib.Core.Bool.{Bool, true, false, cond}
 use mathlib.Core.List.{List}
-use Prim.Native.Nat.{ℕ, zero, suc, _+_, _-_, _*_, _%_, _≤_, _<_}
+use Prim.Native.Nat.{ℕ, _+_, _-_, _*_, _%_, _≤_, _<_}
 use native.Mathlib.Omega.{arith}
 use borrow.Author.Tests.{eqb-false}
 use lib.Dec.{eqb}
 use lib.ListN.{length, getD, set}
-use Rattle.lists.specs.Sum.{Σ}
 use Rattle.lists.specs.Table.{table}
 use Rattle.lists.specs.Part.{part, splice}
 use Rattle.lists.proofs.Sum.{Σ-ext, Σ-mod-ext}
@@ -19,7 +18,7 @@ use Rattle.definitions.specs.Rq.{Element, coeff, conjCoeff, rconj, radd, rmul}
 use Rattle.definitions.specs.Ring.{words, element, conj}
 use Rattle.definitions.proofs.Modulo.{mul-mod-both}
 use Rattle.definitions.proofs.RqRing.{rq-ring}
-use Rattle.definitions.proofs.Bridge.{words-mul, words-conj}
+use Rattle.definitions.proofs.Bridge.{words-mul, words-conj, coeff-element}
 use Rattle.definitions.proofs.Conjugate.{conj-conj, conj-mul-word}
 use Rattle.protocol.specs.Views.{element-at}
 use Rattle.protocol.specs.Formulas.{_⊕_, _⊗_, flat}
@@ -29,11 +28,6 @@ use Rattle.rq_matrix.proofs.Word.{stands-for, words-of-sum, words-of-product}
 use Rattle.rq_matrix.proofs.Fill.{fill-next}
 use Rattle.load_sums.specs.declared.Target.{Target}
 use Rattle.load_sums.specs.Sums.{dot-at, term, plus, Placed}
-
--- a coefficient of the element of a list is reduced
-element-coeff : (l : List ℕ) (i : ℕ) → i < 64 → coeff (words (element l)) i ≡ coeff l i % Q
-unfolding element
-element-coeff l i h = getD-table 64 (λ k. coeff l k % Q) i 0 h
 
 -- reduced again
 reduced-again : (x : ℕ) → x % Q % Q ≡ x % Q
@@ -52,8 +46,8 @@ conj-coeff l i h =
     below n = omega arith
 
     go : (b : Bool) → eqb i 0 ≡ b → cond b (coeff (words (element l)) 0) (zneg (coeff (words (element l)) (64 - i))) % Q ≡ cond b (coeff l 0) (zneg (coeff l (64 - i))) % Q
-    go true e = ap (λ w. w % Q) (element-coeff l 0 (omega arith)) ∙ reduced-again (coeff l 0)
-    go false e = ap (λ w. zneg w % Q) (element-coeff l (64 - i) (below (eqb-false i 0 e))) ∙ ap (λ w. w % Q) (negative-again (coeff l (64 - i)))
+    go true e = ap (λ w. w % Q) (coeff-element l 0 (omega arith)) ∙ reduced-again (coeff l 0)
+    go false e = ap (λ w. zneg w % Q) (coeff-element l (64 - i) (below (eqb-false i 0 e))) ∙ ap (λ w. w % Q) (negative-again (coeff l (64 - i)))
 
 -- the constant coefficient of a product: the products of the conjugate's coefficients with the other's, added up
 pub constant-product : (J : List ℕ) (p : ℕ) (w : List ℕ) → dot-at (rconj w) J p ≡ coeff (words (element (part J p 64) ⊗ element w)) 0
@@ -65,7 +59,7 @@ constant-product J p w =
     sym (mul-mod-both Q (coeff (rconj w) i) (getD J (p + i) 0))
     ∙ ap₂ (λ x y. (x * y) % Q)
     (sym (conj-coeff w i h) ∙ ap (λ l. coeff l i % Q) (sym (words-conj a)))
-    (ap (λ x. x % Q) (sym (getD-part 0 J p 64 i h)) ∙ sym (reduced-again (coeff (part J p 64) i)) ∙ ap (λ x. x % Q) (sym (element-coeff (part J p 64) i h)))
+    (ap (λ x. x % Q) (sym (getD-part 0 J p 64 i h)) ∙ sym (reduced-again (coeff (part J p 64) i)) ∙ ap (λ x. x % Q) (sym (coeff-element (part J p 64) i h)))
     ∙ mul-mod-both Q (coeff (words (conj a)) i) (coeff (words b) i))
     ∙ sym (conj-mul-word (conj a) b)
     ∙ ap (λ l. coeff (rmul l (words b)) 0) (sym (words-conj (conj a)) ∙ ap words (conj-conj a))

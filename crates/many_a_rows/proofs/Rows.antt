@@ -53,13 +53,12 @@ product-is J X values S start ρ row-at e few h kv kz =
     ∙ ap (λ f. dot (P .n) f (run X (z-at P) 64)) (run-vector J (job-at P 6) (P .n) ρ row-at e)
     ∙ sym (row-of-a J X ρ h)
 
--- stored values, by the job's parameters and the transcript
-pub z-stored : (P Q : Parameters) (X Y S S′ : List ℕ) (at start : ℕ) → Q ≡ P → Y ≡ X → at ≡ z-at Q → S′ ≡ splice S start (kept-words Y at (Q .n)) → Keeps S′ start Y at (Q .n)
+-- stored values, by the parameters and the transcript
+pub z-stored : (P : Parameters) (X Y S S′ : List ℕ) (at start : ℕ) → Y ≡ X → at ≡ z-at P → S′ ≡ splice S start (kept-words Y at (P .n)) → Keeps S′ start Y at (P .n)
     → (S′ ≡ splice S start (kept-words X (z-at P) (P .n))) × Keeps S′ start X (z-at P) (P .n)
-z-stored P Q X Y S S′ at start same lent place e k =
-    subst (λ Q. (S′ ≡ splice S start (kept-words X (z-at Q) (Q .n))) × Keeps S′ start X (z-at Q) (Q .n)) same
-    (subst (λ X. (S′ ≡ splice S start (kept-words X (z-at Q) (Q .n))) × Keeps S′ start X (z-at Q) (Q .n)) lent
-    (subst (λ a. (S′ ≡ splice S start (kept-words Y a (Q .n))) × Keeps S′ start Y a (Q .n)) place (e, k)))
+z-stored P X Y S S′ at start lent place e k =
+    subst (λ X. (S′ ≡ splice S start (kept-words X (z-at P) (P .n))) × Keeps S′ start X (z-at P) (P .n)) lent
+    (subst (λ a. (S′ ≡ splice S start (kept-words Y a (P .n))) × Keeps S′ start Y a (P .n)) place (e, k))
 
 -- row k of A ends within the job
 pub row-end : (J : List ℕ) (p : EnvironmentParameters) (at k : ℕ) → parametersOf p ≡ parameters J → Laid J 31 (job-sections (parameters J)) → at ≡ job-at (parametersOf p) 6 → k < p .kappa
@@ -84,7 +83,7 @@ module _ (J T₀ : List ℕ) (count : ℕ) (passes : ℕ → Bool) where
 
   -- z of the transcripts before m is kept, and no row is done
   pub record Begun (S : List ℕ) (m : ℕ) : Type 0 where
-    pub z : (i : ℕ) → i < m → i < count → passes i ≡ true → Keeps-z J T₀ count i (i * need) S
+    pub z : (i : ℕ) → i < m → i < count → passes i ≡ true → Keeps-z (parameters J) T₀ count i (i * need) S
     pub none : All-rows-done J count passes T₀ S 0
 
   pub begun-none : (S : List ℕ) → All-rows-done J count passes T₀ S 0 → Begun S 0
@@ -94,39 +93,41 @@ module _ (J T₀ : List ℕ) (count : ℕ) (passes : ℕ → Bool) where
     size : length (values-of m) ≡ 192 * parameters J .n
     size = length-kept (transcript-part (parameters J) count T₀ m) (z-at (parameters J)) (parameters J .n)
 
-    next : (pass : Bool) → pass ≡ passes m → S′ ≡ z-for J T₀ count m start pass S → (pass ≡ true → Keeps-z J T₀ count m start S′) → Begun S m → Begun S′ (m + 1)
+    next : (pass : Bool) → pass ≡ passes m → S′ ≡ z-for (parameters J) T₀ count m start pass S → (pass ≡ true → Keeps-z (parameters J) T₀ count m start S′) → Begun S m → Begun S′ (m + 1)
     next true t e k b = record {
       z = λ i l c u. go i l c u (decLt i m);
       none = rows-stay J T₀ count passes 0 S S′ m start (values-of m) room at (omega (arith, size, z-fits (parameters J) within)) e (b .none);
     }
       where
-        go : (i : ℕ) → i < m + 1 → i < count → passes i ≡ true → Dec (i < m) → Keeps-z J T₀ count i (i * need) S′
+        go : (i : ℕ) → i < m + 1 → i < count → passes i ≡ true → Dec (i < m) → Keeps-z (parameters J) T₀ count i (i * need) S′
         go i l c u (yes less) =
             keeps-before S (i * need) (transcript-part (parameters J) count T₀ i) (z-at (parameters J)) S′ start (values-of m) (parameters J .n) e
             (omega (arith, at, z-fits (parameters J) within, rows-within i m need less)) (b .z i less c u)
         go i l c u (no more) =
             let same : m ≡ i = omega arith in
-            subst (λ i. Keeps-z J T₀ count i (i * need) S′) same (subst (λ a. Keeps-z J T₀ count m a S′) at (k refl))
+            subst (λ i. Keeps-z (parameters J) T₀ count i (i * need) S′) same (subst (λ a. Keeps-z (parameters J) T₀ count m a S′) at (k refl))
     next false t e k b = record {
       z = λ i l c u. go i l c u (decLt i m);
       none = subst (λ s. All-rows-done J count passes T₀ s 0) (sym e) (b .none);
     }
       where
-        go : (i : ℕ) → i < m + 1 → i < count → passes i ≡ true → Dec (i < m) → Keeps-z J T₀ count i (i * need) S′
-        go i l c u (yes less) = subst (λ s. Keeps-z J T₀ count i (i * need) s) (sym e) (b .z i less c u)
+        go : (i : ℕ) → i < m + 1 → i < count → passes i ≡ true → Dec (i < m) → Keeps-z (parameters J) T₀ count i (i * need) S′
+        go i l c u (yes less) = subst (λ s. Keeps-z (parameters J) T₀ count i (i * need) s) (sym e) (b .z i less c u)
         go i l c u (no more) =
             let k : i ≡ m = omega arith in
             let z : _≡_ {A = ℕ} 0 1 = cc in
             absurd (omega arith)
 
-    kept-next : (pass : Bool) → S′ ≡ z-for J T₀ count m start pass S → Kept (many-need (parameters J) count) S₀ S → Kept (many-need (parameters J) count) S₀ S′
+    kept-next : (pass : Bool) → S′ ≡ z-for (parameters J) T₀ count m start pass S → Kept (many-need (parameters J) count) S₀ S → Kept (many-need (parameters J) count) S₀ S′
     kept-next true e k = kept-stored (many-need (parameters J) count) S₀ S S′ start (values-of m) k e (omega (arith, at, size, z-fits (parameters J) within, rows-within m count need h))
     kept-next false e k = subst (λ s. Kept (many-need (parameters J) count) S₀ s) (sym e) k
 
     -- z of transcript m kept too, where it passes
-    pub begun-next : (pass : Bool) → pass ≡ passes m → S′ ≡ z-for J T₀ count m start pass S → (pass ≡ true → Keeps-z J T₀ count m start S′) → Begun S m × Kept (many-need (parameters J) count) S₀ S
-        → Begun S′ (m + 1) × Kept (many-need (parameters J) count) S₀ S′
-    begun-next pass t e z (b, k) = (next pass t e z b, kept-next pass e k)
+    pub begun-next : (P : Parameters) → P ≡ parameters J → (pass : Bool) → pass ≡ passes m → S′ ≡ z-for P T₀ count m start pass S → (pass ≡ true → Keeps-z P T₀ count m start S′)
+        → Begun S m × Kept (many-need (parameters J) count) S₀ S → Begun S′ (m + 1) × Kept (many-need (parameters J) count) S₀ S′
+    begun-next P same pass t stored keeps (b, k) =
+        let e : S′ ≡ z-for (parameters J) T₀ count m start pass S = stored ∙ ap (λ P. z-for P T₀ count m start pass S) same in
+        (next pass t e (λ u. subst (λ P. Keeps-z P T₀ count m start S′) same (keeps u)) b, kept-next pass e k)
 
 -- a product stored leaves the values at the start of every window
 module _ (P : Parameters) (S S′ new : List ℕ) (m ρ place : ℕ) (few : ρ < 64) (at : place ≡ m * scratch-need P + (scratch-need P - 4096) + 64 * ρ) (size : length new ≡ 64) (fits : 192 * P .n ≤ products-at P)
@@ -172,13 +173,14 @@ module _ (J : List ℕ) (count : ℕ) (passes : ℕ → Bool) (ρ : ℕ) (S₀ :
     stored-is T₀ true t e z =
         e
         ∙ ap (λ x. splice S place (words x))
-        (product-is J (transcript-part P count T₀ m) values S start ρ row-at row-is (within .n .1) inside (subst (λ k. Keeps values 0 J row-at k) width row-kept) (subst (λ a. Keeps-z J T₀ count m a S) (sym start-is) (z m h (sym t))))
+        (product-is J (transcript-part P count T₀ m) values S start ρ row-at row-is (within .n .1) inside (subst (λ k. Keeps values 0 J row-at k) width row-kept)
+        (subst (λ a. Keeps-z P T₀ count m a S) (sym start-is) (z m h (sym t))))
     stored-is T₀ false t e z = e
 
     z-next : (T₀ : List ℕ) (pass : Bool) → S′ ≡ product-for values (P .n) start place pass S → All-z J count passes T₀ S → All-z J count passes T₀ S′
     z-next T₀ true e z i c u =
         z-stays P S S′ (words (kept-dot values 0 S start (P .n))) m ρ place few place-is (length-words (kept-dot values 0 S start (P .n))) (z-fits P within) e i (transcript-part P count T₀ i) (z-at P) (z i c u)
-    z-next T₀ false e z i c u = subst (λ s. Keeps-z J T₀ count i (i * scratch-need P) s) (sym e) (z i c u)
+    z-next T₀ false e z i c u = subst (λ s. Keeps-z (parameters J) T₀ count i (i * scratch-need P) s) (sym e) (z i c u)
 
     values-next : (pass : Bool) → S′ ≡ product-for values (P .n) start place pass S → (i : ℕ) → AllValues S (i * scratch-need P) (P .n) → AllValues S′ (i * scratch-need P) (P .n)
     values-next true e i v =

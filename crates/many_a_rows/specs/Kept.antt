@@ -24,16 +24,16 @@ abbrev pub z-at : Parameters → ℕ
 z-at P = start (transcript-sections P) 4
 
 -- the scratch after the values of z are stored for transcript m, where it passes
-abbrev pub z-for : (J T : List ℕ) (count m start : ℕ) → (pass : Bool) → List ℕ → List ℕ
-z-for J T count m start pass S = cond pass (splice S start (kept-words (transcript-part (parameters J) count T m) (z-at (parameters J)) (parameters J .n))) S
+abbrev pub z-for : Parameters → (T : List ℕ) (count m start : ℕ) → (pass : Bool) → List ℕ → List ℕ
+z-for P T count m start pass S = cond pass (splice S start (kept-words (transcript-part P count T m) (z-at P) (P .n))) S
 
 -- a slice keeps z of transcript m from a place on
-abbrev pub Keeps-z : (J T : List ℕ) (count m start : ℕ) → List ℕ → Type 0
-Keeps-z J T count m start S = Keeps S start (transcript-part (parameters J) count T m) (z-at (parameters J)) (parameters J .n)
+abbrev pub Keeps-z : Parameters → (T : List ℕ) (count m start : ℕ) → List ℕ → Type 0
+Keeps-z P T count m start S = Keeps S start (transcript-part P count T m) (z-at P) (P .n)
 
 -- z of every transcript that passes is kept at the start of its window
 abbrev pub All-z : (J : List ℕ) → (count : ℕ) → (passes : ℕ → Bool) → (T S : List ℕ) → Type 0
-All-z J count passes T S = (m : ℕ) → m < count → passes m ≡ true → Keeps-z J T count m (m * scratch-need (parameters J)) S
+All-z J count passes T S = (m : ℕ) → m < count → passes m ≡ true → Keeps-z (parameters J) T count m (m * scratch-need (parameters J)) S
 
 -- the scratch after the product of a kept row with the values in one window, where its transcript passes
 abbrev pub product-for : (values : List ℕ) (n start place : ℕ) → (pass : Bool) → List ℕ → List ℕ

@@ -17,7 +17,7 @@ ghost use Rattle.protocol.specs.Many.{many-need, transcript-part, All-rows-done
 ghost use Rattle.relation.specs.Parameters.{parametersOf};
 ghost use Rattle.ntt.specs.Roots.{twiddleTable};
 ghost use Rattle.kept_vectors.specs.Keeps.{AllValues};
-ghost use Rattle.verifier_common.specs.Work.{Posed};
+ghost use Rattle.verifier_common.specs.Work.{Received};
 ghost use Rattle.many_windows.specs.Rowable.{Rowable};
 ghost use Rattle.many_a_rows.specs.Kept.{shares, z-for, Keeps-z, All-z, product-for, Valued, Row-made};
 
@@ -36,7 +36,6 @@ pub fn shared(p: EnvironmentParameters, count: usize) -> bool
 
 // The values of z of transcript m, where it passes.
 fn keep_one(
-    job: &[u32],
     p: EnvironmentParameters,
     count: usize,
     m: usize,
@@ -47,9 +46,9 @@ fn keep_one(
     start: usize,
 )
     requires { ⌜ (now w ≡ twiddleTable) × (m < count) × (count ≤ 8) × (start + 192 * p .rank ≤ length (now scratch)) ⌝ }
-    requires { ⌜ (pass ≡ true → Posed (now job) (transcript-part (parameters (now job)) count (now transcripts) m) p) ⌝ }
-    ensures { λ _. ⌜ now (scratch .exit) ≡ z-for (now (job .entry)) (now (transcripts .entry)) count m start pass (now (scratch .entry)) ⌝ }
-    ensures { λ _. ⌜ (pass ≡ true → Keeps-z (now (job .entry)) (now (transcripts .entry)) count m start (now (scratch .exit))) ⌝ }
+    requires { ⌜ (pass ≡ true → Received (transcript-part (parametersOf p) count (now transcripts) m) p) ⌝ }
+    ensures { λ _. ⌜ now (scratch .exit) ≡ z-for (parametersOf p) (now (transcripts .entry)) count m start pass (now (scratch .entry)) ⌝ }
+    ensures { λ _. ⌜ (pass ≡ true → Keeps-z (parametersOf p) (now (transcripts .entry)) count m start (now (scratch .exit))) ⌝ }
 {
     if pass {
         let z_at = offsets::of_transcript(p, 4);
@@ -81,7 +80,7 @@ fn keep_all(
     let mut start = 0;
     while m < count {
         let pass = passes[m];
-        keep_one(job, p, count, m, pass, transcripts, w, scratch, start);
+        keep_one(p, count, m, pass, transcripts, w, scratch, start);
         start += need;
         m += 1;
     }

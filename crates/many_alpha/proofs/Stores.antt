@@ -18,10 +18,9 @@ use Rattle.definitions.specs.Rq.{Element}
 use Rattle.definitions.specs.Ring.{RqOps, words, element}
 use Rattle.inner_product.specs.Run.{run}
 use Rattle.protocol.specs.Formulas.{flat}
-use Rattle.protocol.proofs.Flat.{length-words}
+use Rattle.protocol.proofs.Flat.{length-words, length-flat-table}
 use Rattle.protocol.proofs.Stored.{flat-append, flat-one}
 use Rattle.rq_matrix.proofs.Place.{rows-within}
-use Rattle.commitments.proofs.Added.{length-flat-table}
 use Rattle.workspace.specs.Holds.{Holds, Kept}
 use Rattle.workspace.proofs.Kept.{kept-refl, kept-trans, kept-stored}
 use Rattle.kept_vectors.specs.Keeps.{Keeps, AllValues, kept-words, kept-dot}

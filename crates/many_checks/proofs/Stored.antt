@@ -22,11 +22,10 @@ use Rattle.protocol.specs.Layout.{scratch-need}
 use Rattle.protocol.specs.Views.{message}
 use Rattle.protocol.specs.Formulas.{_⊕_, dot, flat, u₁-of, u₂-of}
 use Rattle.protocol.specs.Verifier.{same, check-28, check-29}
-use Rattle.protocol.proofs.Flat.{length-words}
+use Rattle.protocol.proofs.Flat.{length-words, length-flat-table}
 use Rattle.protocol.specs.Many.{row-count, row-product, products-at, Rows-done}
 use Rattle.rq_matrix.proofs.Word.{stands-for, words-of-sum}
 use Rattle.commitments.specs.Cells.{CanonicalFrom}
-use Rattle.commitments.proofs.Added.{length-flat-table}
 use Rattle.relation.specs.declared.env_params.EnvironmentParameters.{EnvironmentParameters}
 use Rattle.relation.specs.Parameters.{parametersOf}
 use Rattle.verifier_common.specs.Work.{Posed, equal}

@@ -146,7 +146,7 @@ module _ (J T₀ : List ℕ) (count : ℕ) (passes : ℕ → Bool) (ρ : ℕ) wh
     m-within : m * need + need ≤ length S
     m-within = omega (arith, rows-within m count need h)
 
-    next : (pass : Bool) → pass ≡ passes m → S′ ≡ digits-for J T₀ count m start pass S → Begun S m → Begun S′ (m + 1)
+    next : (pass : Bool) → pass ≡ passes m → S′ ≡ digits-for (parameters J) T₀ count m start pass S → Begun S m → Begun S′ (m + 1)
     next true t e b = record {
       digits = λ i l c u. go i l c u (decLt i m);
       done = rows-stay J T₀ count passes ρ S S′ m start (words-of m) room at (omega (arith, size m, fitting)) e (b .done);
@@ -172,11 +172,13 @@ module _ (J T₀ : List ℕ) (count : ℕ) (passes : ℕ → Bool) (ρ : ℕ) wh
             let z : _≡_ {A = ℕ} 0 1 = cc in
             absurd (omega arith)
 
-    kept-next : (pass : Bool) → S′ ≡ digits-for J T₀ count m start pass S → Kept (many-need (parameters J) count) S₀ S → Kept (many-need (parameters J) count) S₀ S′
+    kept-next : (pass : Bool) → S′ ≡ digits-for (parameters J) T₀ count m start pass S → Kept (many-need (parameters J) count) S₀ S → Kept (many-need (parameters J) count) S₀ S′
     kept-next true e k = kept-stored (many-need (parameters J) count) S₀ S S′ start (words-of m) k e (omega (arith, at, size m, fitting, rows-within m count need h))
     kept-next false e k = subst (λ s. Kept (many-need (parameters J) count) S₀ s) (sym e) k
 
     -- the digits of transcript m stored too, where it passes
-    pub begun-next : (pass : Bool) → pass ≡ passes m → S′ ≡ digits-for J T₀ count m start pass S → Begun S m × Kept (many-need (parameters J) count) S₀ S
-        → Begun S′ (m + 1) × Kept (many-need (parameters J) count) S₀ S′
-    begun-next pass t e (b, k) = (next pass t e b, kept-next pass e k)
+    pub begun-next : (P : Parameters) → P ≡ parameters J → (pass : Bool) → pass ≡ passes m → S′ ≡ digits-for P T₀ count m start pass S
+        → Begun S m × Kept (many-need (parameters J) count) S₀ S → Begun S′ (m + 1) × Kept (many-need (parameters J) count) S₀ S′
+    begun-next P same pass t stored (b, k) =
+        let e : S′ ≡ digits-for (parameters J) T₀ count m start pass S = stored ∙ ap (λ P. digits-for P T₀ count m start pass S) same in
+        (next pass t e b, kept-next pass e k)

@@ -17,10 +17,9 @@ use Rattle.protocol.specs.Parameters.{parameters}
 use Rattle.protocol.specs.Layout.{scratch-need}
 use Rattle.protocol.specs.Formulas.{flat}
 use Rattle.protocol.specs.Many.{many-need, transcript-part, row-product, Rows-done, window, All-rows-done}
-use Rattle.protocol.proofs.Flat.{length-words}
+use Rattle.protocol.proofs.Flat.{length-words, length-flat-table}
 use Rattle.protocol.proofs.Stored.{flat-append, flat-one}
 use Rattle.rq_matrix.proofs.Place.{rows-within}
-use Rattle.commitments.proofs.Added.{length-flat-table}
 use Rattle.workspace.specs.Holds.{Holds, Kept}
 use Rattle.workspace.proofs.Holds.{holds-first, holds-second}
 use Rattle.workspace.proofs.Kept.{kept-stored}

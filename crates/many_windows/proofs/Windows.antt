@@ -19,7 +19,8 @@ use Rattle.relation.specs.declared.env_params.EnvironmentParameters.{Environmen
 use Rattle.relation.specs.Parameters.{parametersOf}
 use Rattle.sizes.specs.Sizes.{Sized}
 use Rattle.sizes.proofs.Sized.{sized}
-use Rattle.verifier_common.specs.Work.{Posed}
+use Rattle.verifier_common.specs.Work.{Posed, Received}
+use Rattle.verifier_common.proofs.Sent.{received}
 use Rattle.many_windows.specs.Rowable.{Rowable}
 
 -- the products of so many rows, and zeros for the others
@@ -62,6 +63,10 @@ module _ (J T : List ℕ) (count : ℕ) (passes : ℕ → Bool) (scratch : ℕ) 
   -- a transcript that passes is posed
   pub posed : (m : ℕ) → m < count → passes m ≡ true → Posed J (transcript-part (parameters J) count T m) p
   posed m h t = record { same = r .same; sound = r .sound; job = r .job; transcript = r .laid m h t }
+
+  -- and received, by the code's parameters
+  pub part-received : (m : ℕ) → m < count → passes m ≡ true → Received (transcript-part (parametersOf p) count T m) p
+  part-received m h t = subst (λ P. Received (transcript-part P count T m) p) (sym (r .same)) (received (posed m h t))
 
   -- the rows are few
   pub few-rows : row-count (parametersOf p) ≤ 64

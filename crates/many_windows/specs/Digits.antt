@@ -25,8 +25,8 @@ abbrev pub window-digits : Parameters → List ℕ → List ℕ
 window-digits P X = flat (digits-t P X) ++ (flat (digits-g P X) ++ flat (digits-h P X))
 
 -- the scratch after they are stored for transcript m, where it passes
-abbrev pub digits-for : (J T : List ℕ) (count m start : ℕ) → (pass : Bool) → List ℕ → List ℕ
-digits-for J T count m start pass S = cond pass (splice S start (window-digits (parameters J) (transcript-part (parameters J) count T m))) S
+abbrev pub digits-for : Parameters → (T : List ℕ) (count m start : ℕ) → (pass : Bool) → List ℕ → List ℕ
+digits-for P T count m start pass S = cond pass (splice S start (window-digits P (transcript-part P count T m))) S
 
 -- their places in the window that starts at a place
 pub record Places (P : Parameters) (start : ℕ) (flag : Bool) (at : Held) : Type 0 where

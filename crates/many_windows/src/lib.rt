@@ -19,7 +19,7 @@ ghost use Rattle.protocol.specs.Many.{many-need, transcript-part, products-at, 
 ghost use Rattle.relation.specs.Parameters.{parametersOf};
 ghost use Rattle.commitments.specs.Cells.{Room};
 ghost use Rattle.sizes.specs.Sizes.{Sized};
-ghost use Rattle.verifier_common.specs.Work.{Posed, Received};
+ghost use Rattle.verifier_common.specs.Work.{Received};
 ghost use Rattle.many_windows.specs.Rowable.{Rowable};
 ghost use Rattle.many_windows.specs.Digits.{digit-count, Fitting, window-digits, digits-for, Places, All-digits};
 
@@ -78,7 +78,6 @@ fn store_window(transcript: &[u32], p: EnvironmentParameters, scratch: &mut [u32
 
 // The digits of transcript m, where it passes.
 fn digits_of_one(
-    job: &[u32],
     p: EnvironmentParameters,
     count: usize,
     m: usize,
@@ -88,8 +87,8 @@ fn digits_of_one(
     start: usize,
 )
     requires { ⌜ (m < count) × (count ≤ 8) × Room (now scratch) start (digit-count (parametersOf p)) ⌝ }
-    requires { ⌜ (pass ≡ true → Posed (now job) (transcript-part (parameters (now job)) count (now transcripts) m) p) ⌝ }
-    ensures { λ _. ⌜ now (scratch .exit) ≡ digits-for (now (job .entry)) (now (transcripts .entry)) count m start pass (now (scratch .entry)) ⌝ }
+    requires { ⌜ (pass ≡ true → Received (transcript-part (parametersOf p) count (now transcripts) m) p) ⌝ }
+    ensures { λ _. ⌜ now (scratch .exit) ≡ digits-for (parametersOf p) (now (transcripts .entry)) count m start pass (now (scratch .entry)) ⌝ }
 {
     if pass {
         let b = many_parts::transcript_bounds(transcripts.len(), p, count, m);
@@ -119,7 +118,7 @@ pub fn digits_of_all(
     let mut start = 0;
     while m < count {
         let pass = passes[m];
-        digits_of_one(job, p, count, m, pass, transcripts, scratch, start);
+        digits_of_one(p, count, m, pass, transcripts, scratch, start);
         start += need;
         m += 1;
     }

@@ -1,18 +1,14 @@
 -- An entry put among entries in order: it and they are there, in order.
-use mathlib.Core.Path.{_≡_, refl, sym, ap, _∙_}
+use mathlib.Core.Path.{_≡_, refl, ap, _∙_}
 use mathlib.Core.Bool.{Bool, true, false, cond}
 use mathlib.Core.Logic.{_⊎_, inl, inr}
 use mathlib.Core.List.{List, [], _∷_, List·Memᴰ, List·Memᴰ·head, List·Memᴰ·tail, List·Memᴰ·cases-cons, List·Memᴰ·not-nil}
-use Prim.Native.Nat.{ℕ, suc}
-use native.Mathlib.Omega.{arith}
+use Prim.Native.Nat.{suc}
 use lib.ListN.{length}
+use Rattle.definitions.proofs.Cases.{no-both}
 use Rattle.protocol.specs.Mistyped.{Entry, comes-before, Ordered}
 use Rattle.protocol.proofs.MistypedList.{before-trans}
 use Rattle.mistyped_list.specs.Insert.{later-of, insert}
-
--- nothing is both true and false
-no-both : {b : Bool} → b ≡ true → b ≡ false → ⊥
-no-both p q = let z : _≡_ {A = ℕ} 0 1 = cc in omega arith
 
 -- one entry more
 pub length-insert : (e : Entry) (es : List Entry) → length (insert e es) ≡ suc (length es)

@@ -1,7 +1,7 @@
 -- What an acceptance says: nothing is refused before the work, each check passes, and the acceptance has its number (document 02, Item 5). A refusal and a check are no acceptance.
 use mathlib.Core.Path.{_≡_, refl, sym, ap₂}
 use mathlib.Core.Bool.{Bool, true, false, cond}
-use mathlib.Core.List.{List, [], _∷_}
+use mathlib.Core.List.{List, []}
 use Prim.Native.Nat.{ℕ, zero, suc, _*_, _≤_, _<_}
 use native.Mathlib.Decide.{decLe, ℕ-discrete}
 use native.Mathlib.Omega.{arith}
@@ -148,9 +148,6 @@ module _ (X : Public) (M : Message) where
   -- 21 to 23
   told-norms : Told (check-21 X M then check-22 X M then check-23 X M)
   told-norms = then-no (check-21 X M then check-22 X M) (check-23 X M) (then-no (check-21 X M) (check-22 X M) no-21 no-22) no-23
-
-  pub norms-no : Unaccepted (check-21 X M then check-22 X M then check-23 X M)
-  norms-no = told-norms .unaccepted
 
   -- all checks, in order
   abbrev pub up-to-27 : Answer

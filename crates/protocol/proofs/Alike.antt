@@ -2,12 +2,12 @@
 use mathlib.Core.Path.{_≡_, refl, ap, ap₂}
 use mathlib.Core.List.{List}
 use Prim.Native.Nat.{ℕ, _+_, _*_, _%_, _≤_, _<_}
-use native.Mathlib.Nat.{mul-le-mul-right}
 use native.Mathlib.Omega.{arith}
 use lib.ListN.{getD, take}
 use Rattle.lists.proofs.Table.{table-ext}
 use Rattle.lists.proofs.Sum.{Σ-ext}
 use Rattle.lists.proofs.Prefix.{getD-alike, part-alike}
+use Rattle.lists.proofs.Rows.{index-below}
 use Rattle.algebra.proofs.Sum.{sum-ext}
 use Rattle.algebra.proofs.Dot.{dot-ext}
 use Rattle.algebra.proofs.Form.{form-ext}
@@ -26,10 +26,6 @@ use Rattle.protocol.specs.Formulas.{_⊕_, _⊗_, coefficient}
 abbrev pub upto : Parameters → ℕ → ℕ
 upto P m = span (take m (randomness-sections P))
 
--- an index of a table of a rows of b each
-index-bound : (a b i j : ℕ) → i < a → j < b → i * b + j < a * b
-index-bound a b i j hi hj = omega (arith, mul-le-mul-right b hi)
-
 module _ (P : Parameters) (R R′ : List ℕ) (N : ℕ) (alike : take N R ≡ take N R′) where
   open Parameters P using (n, r, K, l, L)
 
@@ -39,19 +35,19 @@ module _ (P : Parameters) (R R′ : List ℕ) (N : ℕ) (alike : take N R ≡ ta
   unfolding span start
   Π-word within i j m hi hj hm =
       getD-alike N R R′ alike (start (randomness-sections P) 0 + ((i * 256 + j) * (64 * n) + m)) 0
-      (omega (arith, index-bound (r * 256) (64 * n) (i * 256 + j) m (index-bound r 256 i j hi hj) hm))
+      (omega (arith, index-below (r * 256) (64 * n) (i * 256 + j) m (index-below r 256 i j hi hj) hm))
 
   -- psi's words
   psi-word : upto P 3 ≤ N → (k x : ℕ) → k < L → x < l
       → getD R (start (randomness-sections P) 1 + (k * l + x)) 0 ≡ getD R′ (start (randomness-sections P) 1 + (k * l + x)) 0
   unfolding span start
-  psi-word within k x hk hx = getD-alike N R R′ alike (start (randomness-sections P) 1 + (k * l + x)) 0 (omega (arith, index-bound L l k x hk hx))
+  psi-word within k x hk hx = getD-alike N R R′ alike (start (randomness-sections P) 1 + (k * l + x)) 0 (omega (arith, index-below L l k x hk hx))
 
   -- omega's words
   omega-word : upto P 3 ≤ N → (k j : ℕ) → k < L → j < 256
       → getD R (start (randomness-sections P) 2 + (k * 256 + j)) 0 ≡ getD R′ (start (randomness-sections P) 2 + (k * 256 + j)) 0
   unfolding span start
-  omega-word within k j hk hj = getD-alike N R R′ alike (start (randomness-sections P) 2 + (k * 256 + j)) 0 (omega (arith, index-bound L 256 k j hk hj))
+  omega-word within k j hk hj = getD-alike N R R′ alike (start (randomness-sections P) 2 + (k * 256 + j)) 0 (omega (arith, index-below L 256 k j hk hj))
 
   -- alpha's words
   alpha-words : upto P 5 ≤ N → (k : ℕ) → k < K → part R (start (randomness-sections P) 3 + 64 * k) 64 ≡ part R′ (start (randomness-sections P) 3 + 64 * k) 64

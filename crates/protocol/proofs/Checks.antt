@@ -2,15 +2,9 @@
 use mathlib.Core.Path.{_≡_, refl, ap₂}
 use Prim.Native.Nat.{ℕ, zero, suc, _<_}
 use native.Mathlib.Omega.{arith}
-use Rattle.definitions.specs.Answer.{Answer, fine, accepted, refused, failed, _then_}
+use Rattle.definitions.specs.Answer.{Answer, fine, _then_}
 use Rattle.protocol.specs.Checks.{require, first}
-
--- what is fine after any answer leaves the answer
-pub then-fine : (a : Answer) → a then fine ≡ a
-then-fine fine = refl
-then-fine (accepted cells) = refl
-then-fine (refused n p) = refl
-then-fine (failed n vs) = refl
+pub use Rattle.definitions.proofs.Fine.{then-fine}
 
 -- tests of equivalent facts with equal answers are equal
 pub require-iff {ℓ κ} : {A : Type ℓ} {B : Type κ} (d : Dec A) (e : Dec B) (answer other : Answer) → (A → B) → (B → A) → answer ≡ other → require d answer ≡ require e other

@@ -3,11 +3,9 @@ use mathlib.Core.Path.{_≡_, refl, sym, ap, ap₂, _∙_}
 use mathlib.Core.List.{[], _∷_, flatMap, List-discrete}
 use Prim.Native.Nat.{ℕ, _+_, _*_, _%_, _<_}
 use native.Mathlib.Decide.{decLe, ℕ-discrete}
-use native.Mathlib.Omega.{arith}
 use Rattle.lists.specs.Table.{table}
 use Rattle.lists.specs.Sum.{Σ}
 use Rattle.lists.proofs.Table.{table-ext}
-use Rattle.lists.proofs.Cat.{cat-ext}
 use Rattle.lists.proofs.Sum.{Σ-ext}
 use Rattle.definitions.specs.Zq.{Q}
 use Rattle.definitions.specs.Norm.{square, norm}
@@ -29,16 +27,7 @@ use Rattle.protocol.proofs.PsiRows.{psi-row-met}
 use Rattle.protocol.proofs.Norms.{norm-table, parts-of-table, digits-of-rows, digits-of-triangle}
 use Rattle.protocol.proofs.CellsLeft.{cells-left-by-formulas, counted-cells}
 use Rattle.protocol.proofs.Relations.{check-24-fine, check-25-fine, check-26-fine, aggregated-relation}
-
--- rows of cells that agree
-pub rows-ext : (r m : ℕ) (f g : ℕ → ℕ → Element) → ((i k : ℕ) → i < r → k < m → f i k ≡ g i k) → rows r m f ≡ rows r m g
-unfolding rows
-rows-ext r m f g h = cat-ext r (λ i. table m (f i)) (λ i. table m (g i)) (λ i l. table-ext m (f i) (g i) (λ k e. h i k l e))
-
--- triangles of cells that agree
-pub triangle-ext : (r : ℕ) (f g : ℕ → ℕ → Element) → ((i j : ℕ) → i < r → j < r → f i j ≡ g i j) → triangle r f ≡ triangle r g
-unfolding triangle
-triangle-ext r f g h = cat-ext r (λ i. table (i + 1) (f i)) (λ i. table (i + 1) (g i)) (λ i l. table-ext (i + 1) (f i) (g i) (λ j e. h i j l (omega arith)))
+use Rattle.protocol.proofs.Region.{rows-ext, triangle-ext}
 
 -- tests of limits of equal numbers
 limit-same : (number a b limit : ℕ) → a ≡ b → require (decLe a limit) (failed number (a ∷ limit ∷ [])) ≡ require (decLe b limit) (failed number (b ∷ limit ∷ []))

@@ -1,10 +1,11 @@
 -- When an answer is fine.
-use mathlib.Core.Path.{_≡_, refl, ap, _∙_}
+use mathlib.Core.Path.{_≡_, refl, ap}
 use mathlib.Core.List.{List}
 use Prim.Native.Nat.{ℕ}
 use native.Mathlib.Omega.{arith}
 use Rattle.definitions.specs.Answer.{Answer, fine, accepted, refused, failed, _then_}
 use Rattle.protocol.specs.Checks.{require}
+pub use Rattle.definitions.proofs.Fine.{accepted-not-fine, refused-not-fine, failed-not-fine, then-both-fine, then-fine-left, then-fine-right, cond-fine, cond-not-fine}
 
 -- a fact that holds is not complained of
 pub require-holds {ℓ} : {A : Type ℓ} (d : Dec A) (answer : Answer) → A → require d answer ≡ fine
@@ -20,18 +21,6 @@ require-fails (no n) answer h = refl
 pub required {ℓ} : {A : Type ℓ} (d : Dec A) (answer : Answer) → (answer ≡ fine → ⊥) → require d answer ≡ fine → A
 required (yes a) answer bad e = a
 required (no n) answer bad e = absurd (bad e)
-
--- an acceptance is not fine
-pub accepted-not-fine : (cells : ℕ) → accepted cells ≡ fine → ⊥
-accepted-not-fine cells e = let z : _≡_ {A = ℕ} 0 1 = cc in omega arith
-
--- a refusal is not fine
-pub refused-not-fine : (number place : ℕ) → refused number place ≡ fine → ⊥
-refused-not-fine number place e = let z : _≡_ {A = ℕ} 0 1 = cc in omega arith
-
--- a failed check is not fine
-pub failed-not-fine : (number : ℕ) (values : List ℕ) → failed number values ≡ fine → ⊥
-failed-not-fine number values e = let z : _≡_ {A = ℕ} 0 1 = cc in omega arith
 
 -- a failed check is not a refusal
 pub failed-not-refused : (number : ℕ) (values : List ℕ) (number′ place : ℕ) → failed number values ≡ refused number′ place → ⊥
@@ -54,24 +43,6 @@ held (failed n vs) = 0
 
 pub accepted-same : (cells cells′ : ℕ) → accepted cells ≡ accepted cells′ → cells ≡ cells′
 accepted-same cells cells′ e = ap held e
-
--- two fine answers
-pub then-both-fine : {a b : Answer} → a ≡ fine → b ≡ fine → a then b ≡ fine
-then-both-fine {b = b} e f = ap (λ x. x then b) e ∙ f
-
--- the first of two answers that are fine together
-pub then-fine-left : (a b : Answer) → a then b ≡ fine → a ≡ fine
-then-fine-left fine b e = refl
-then-fine-left (accepted cells) b e = e
-then-fine-left (refused n p) b e = e
-then-fine-left (failed n vs) b e = e
-
--- the second of two answers that are fine together
-pub then-fine-right : (a b : Answer) → a then b ≡ fine → b ≡ fine
-then-fine-right fine b e = e
-then-fine-right (accepted cells) b e = absurd (accepted-not-fine cells e)
-then-fine-right (refused n p) b e = absurd (refused-not-fine n p e)
-then-fine-right (failed n vs) b e = absurd (failed-not-fine n vs e)
 
 -- five answers that are fine together
 pub then-fine-each : (a b c d e : Answer) → a then b then c then d then e ≡ fine → (a ≡ fine) × (b ≡ fine) × (c ≡ fine) × (d ≡ fine) × (e ≡ fine)

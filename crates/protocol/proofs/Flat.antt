@@ -7,6 +7,8 @@ use native.Mathlib.Decide.{decLe, decLt}
 use native.Mathlib.Omega.{arith}
 use lib.ListN.{length, getD, length-append, List·getD-append}
 use lib.Seq.{getD-append-add}
+use Rattle.lists.specs.Table.{table}
+use Rattle.lists.proofs.Table.{length-table}
 use Rattle.lists.proofs.Sum.{Σ-const, Σ-triangle}
 use Rattle.lists.proofs.Part.{part-of-part, length-flatMap, part-flatMap}
 use Rattle.lists.proofs.Cat.{length-cat-table, cat-table-within, getD-cat-table}
@@ -27,6 +29,10 @@ length-words e = e .1 .0
 pub length-flat : (es : List Element) → length (flat es) ≡ 64 * length es
 unfolding flat
 length-flat es = length-flatMap words 64 length-words es
+
+-- of a table of n elements
+pub length-flat-table : (n : ℕ) (f : ℕ → Element) → length (flat (table n f)) ≡ 64 * n
+length-flat-table n f = length-flat (table n f) ∙ ap (λ k. 64 * k) (length-table n f)
 
 -- a word of two lists joined is canonical where those of both are
 canonical-append : (a b : List ℕ) → AllCanonical a → AllCanonical b → AllCanonical (a ++ b)

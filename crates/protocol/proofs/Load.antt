@@ -1,35 +1,24 @@
 -- The prover makes a transcript of every load, and the verifier accepts it.
-use mathlib.Core.Path.{_≡_, refl, ap, _∙_}
-use mathlib.Core.Bool.{Bool, true, false, cond}
+use mathlib.Core.Path.{_≡_, refl, _∙_}
 use mathlib.Core.List.{List}
 use Prim.Native.Nat.{ℕ, _≤_, _<_, _^_}
 use native.Mathlib.Decide.{decLe}
-use native.Mathlib.Omega.{arith}
-use borrow.Author.Tests.{ltb-false}
-use lib.Dec.{ltb}
 use lib.ListN.{length, take}
 use Rattle.definitions.specs.Zq.{topQ}
-use Rattle.definitions.specs.Answer.{Answer, fine, accepted, refused, _then_}
+use Rattle.definitions.specs.Answer.{fine, accepted, refused, _then_}
 use Rattle.definitions.specs.Leaf.{limited}
-use Rattle.protocol.specs.Parameters.{Parameters, parameters, some-constraint, limits, enough-aggregations}
-use Rattle.protocol.specs.Layout.{span, sections, transcript-sections, scratch-need, job-refusal, randomness-refusal, witness-refusal}
+use Rattle.definitions.proofs.Leaf.{limited-fine}
+use Rattle.protocol.specs.Parameters.{parameters, some-constraint, limits, enough-aggregations}
+use Rattle.protocol.specs.Layout.{span, sections, transcript-sections, scratch-need, randomness-refusal}
 use Rattle.protocol.specs.Views.{public, witness}
-use Rattle.protocol.specs.Prover.{whole, prove-refusal, work-refusal, prove, prove-output}
+use Rattle.protocol.specs.Prover.{whole, prove-refusal, prove, prove-output}
 use Rattle.protocol.specs.Verifier.{verify}
 use Rattle.protocol.specs.Conditions.{cells-left, conditions}
 use Rattle.protocol.specs.Load.{Given, load-parameters, needs-refusal, load-witness, load-randomness, load-job, load-vectors}
-use Rattle.protocol.proofs.Fine.{require-holds, refused-not-fine, then-both-fine, then-fine-left, then-fine-right}
+use Rattle.protocol.proofs.Fine.{require-holds, then-both-fine, then-fine-left, then-fine-right}
 use Rattle.protocol.proofs.LoadJob.{load-job-fine, load-randomness-fine, load-witness-fine, load-constant-met, load-ring-met}
 use Rattle.protocol.proofs.LoadNorms.{Ample, work-fine, conditions-accepted}
 use Rattle.protocol.proofs.Demand3.{demand-3}
-
--- a value that is not refused is at most its greatest
-cond-false : (b : Bool) (a : Answer) (number place : ℕ) → cond b (refused number place) a ≡ fine → (b ≡ false) × (a ≡ fine)
-cond-false true a number place e = absurd (refused-not-fine number place e)
-cond-false false a number place e = (refl, e)
-
-most : (least greatest place x : ℕ) → limited least greatest place x ≡ fine → x ≤ greatest
-most least greatest place x e = ltb-false greatest x (cond-false (ltb greatest x) fine 4 place (cond-false (ltb x least) (cond (ltb greatest x) (refused 4 place) fine) 4 place e .1) .0)
 
 -- the parameters of a load within their limits
 ample : (G : Given) → limits (load-parameters G) ≡ fine → Ample (load-parameters G)
@@ -59,11 +48,11 @@ ample G e =
     let e3 : l3 ≡ fine = then-fine-left l3 (limited 1 16 4 (P .κ₁)) e4 in
     let e2 : l2 ≡ fine = then-fine-left l2 (limited 1 16 3 (P .κ)) e3 in
     record {
-      n = most 1 64 1 (P .n) (then-fine-left l1 (limited 1 16 2 (P .r)) e2);
-      r = most 1 16 2 (P .r) (then-fine-right l1 (limited 1 16 2 (P .r)) e2);
-      κ = most 1 16 3 (P .κ) (then-fine-right l2 (limited 1 16 3 (P .κ)) e3);
-      t₁ = most 1 32 10 (P .t₁) (then-fine-right l9 (limited 1 32 10 (P .t₁)) e10);
-      t₂ = most 1 32 11 (P .t₂) (then-fine-right l10 (limited 1 32 11 (P .t₂)) e11);
+      n = limited-fine 4 1 64 1 (P .n) (then-fine-left l1 (limited 1 16 2 (P .r)) e2) .1;
+      r = limited-fine 4 1 16 2 (P .r) (then-fine-right l1 (limited 1 16 2 (P .r)) e2) .1;
+      κ = limited-fine 4 1 16 3 (P .κ) (then-fine-right l2 (limited 1 16 3 (P .κ)) e3) .1;
+      t₁ = limited-fine 4 1 32 10 (P .t₁) (then-fine-right l9 (limited 1 32 10 (P .t₁)) e10) .1;
+      t₂ = limited-fine 4 1 32 11 (P .t₂) (then-fine-right l10 (limited 1 32 11 (P .t₂)) e11) .1;
       beta-sq = refl;
       beta-prime-sq = refl;
       bound-A = refl;

@@ -10,12 +10,8 @@ use borrow.Author.Tests.{ltb-true, ltb-false, lt-ltb, eqb-true, eqb-false, eq-eq
 use lib.Dec.{ltb, eqb}
 use Rattle.definitions.specs.Zq.{size}
 use Rattle.protocol.specs.Views.{Public, Message}
-use Rattle.protocol.specs.Mistyped.{Entry, by-number, sign-rank, of-equal-size, comes-before, Ordered, Listed, Smallest}
+use Rattle.protocol.specs.Mistyped.{Entry, by-number, sign-rank, of-equal-size, comes-before, Ordered, Listed}
 use Rattle.protocol.proofs.Mistyped.{smallest-unique}
-
--- nothing is both true and false
-no-both : {b : Bool} → b ≡ true → b ≡ false → ⊥
-no-both p q = let z : _≡_ {A = ℕ} 0 1 = cc in omega arith
 
 -- a number that is at least another and not equal is above it
 above : (a b : ℕ) → b ≤ a → (a ≡ b → ⊥) → b < a

@@ -46,6 +46,10 @@ pub norm-of-one : (e : Element) → norm-of (e ∷ []) ≡ norm (words e)
 unfolding flat flatMap
 norm-of-one e = ap norm (append-nil (words e))
 
+-- the norm of a table of elements
+pub norm-of-table : (n : ℕ) (f : ℕ → Element) → norm-of (table n f) ≡ Σ n (λ m. norm (words (f m)))
+norm-of-table n f = additive-table norm-of norm-of-additive n f ∙ Σ-ext n (λ m. norm-of (f m ∷ [])) (λ m. norm (words (f m))) (λ m h. norm-of-one (f m))
+
 -- the words of a digit of an element
 pub words-digit : (b : ℕ) (e : Element) (k : ℕ) → words (digit-element b e k) ≡ digitRow b (words e) k
 unfolding digitRow

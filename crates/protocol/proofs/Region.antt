@@ -10,26 +10,18 @@ use Rattle.lists.specs.Part.{part, splice}
 use Rattle.lists.proofs.Sum.{Σ-ext, Σ-const, Σ-triangle}
 use Rattle.lists.proofs.Table.{length-table, getD-table, table-ext}
 use Rattle.lists.proofs.Cat.{length-cat, getD-cat, cat-ext, cat-runs}
-use Rattle.lists.proofs.Splice.{part-splice-before, part-splice-after, part-splice-same}
+use Rattle.lists.proofs.Splice.{part-splice-before, part-splice-same}
 use Rattle.definitions.specs.Rq.{Element}
 use Rattle.definitions.specs.Ring.{element}
 use Rattle.protocol.specs.Parameters.{triangular}
-use Rattle.protocol.specs.Views.{element-at, cell}
+use Rattle.protocol.specs.Views.{cell}
 use Rattle.protocol.specs.Formulas.{flat, rows, triangle}
 pub use Rattle.protocol.specs.Region.{Elements, Triangle, Vectors}
-use Rattle.protocol.proofs.Flat.{length-flat, element-of-flat, length-rows, row-cell, row-cell-within, cell-within, cell-lower, length-triangle}
-
--- equal elements
-pub elements-ext : (words : List ℕ) (at n : ℕ) (f g : ℕ → Element) → ((m : ℕ) → m < n → f m ≡ g m) → Elements words at n f → Elements words at n g
-elements-ext words at n f g e h m l = h m l ∙ e m l
+use Rattle.protocol.proofs.Flat.{length-flat, element-of-flat, length-rows, row-cell-within, cell-within, cell-lower, length-triangle}
 
 -- what stands before a store
 pub elements-before : (l : List ℕ) (at n : ℕ) (f : ℕ → Element) (to : ℕ) (new : List ℕ) → at + 64 * n ≤ to → Elements l at n f → Elements (splice l to new) at n f
 elements-before l at n f to new a h m k = ap element (part-splice-before 0 l to new (at + 64 * m) 64 (omega arith)) ∙ h m k
-
--- what stands after a store
-pub elements-after : (l : List ℕ) (at n : ℕ) (f : ℕ → Element) (to : ℕ) (new : List ℕ) → to + length new ≤ at → Elements l at n f → Elements (splice l to new) at n f
-elements-after l at n f to new a h m k = ap element (part-splice-after 0 l to new (at + 64 * m) 64 (omega arith)) ∙ h m k
 
 -- elements that are stored
 pub elements-stored : (l : List ℕ) (at n : ℕ) (f : ℕ → Element) → at + 64 * n ≤ length l → Elements (splice l at (flat (table n f))) at n f
@@ -38,20 +30,9 @@ elements-stored l at n f a m k =
     (part-splice-same 0 l at (flat (table n f)) (omega (arith, length-flat (table n f), length-table n f))) (omega (arith, length-table n f))
     ∙ getD-table n f m (f 0) k
 
--- r vectors of n elements that are stored
-pub vectors-stored : (l : List ℕ) (at r n : ℕ) (f : ℕ → ℕ → Element) → at + 64 * (r * n) ≤ length l → Vectors (splice l at (flat (rows r n f))) at r n f
-vectors-stored l at r n f a i m h k =
-    element-of-flat (splice l at (flat (rows r n f))) at (rows r n f) (i * n + m) (f 0 0)
-    (part-splice-same 0 l at (flat (rows r n f)) (omega (arith, length-flat (rows r n f), length-rows r f n))) (row-cell-within r f n i m h k)
-    ∙ row-cell r f n i m (f 0 0) h k
-
 -- element m after k rows of n
 row-place : (at k n m : ℕ) → at + 64 * (k * n) + 64 * m ≡ at + 64 * (k * n + m)
 row-place at k n m = omega arith
-
--- row i of rows that are stored
-pub elements-row : (l : List ℕ) (at r n : ℕ) (f : ℕ → ℕ → Element) → at + 64 * (r * n) ≤ length l → (i : ℕ) → i < r → Elements (splice l at (flat (rows r n f))) (at + 64 * (i * n)) n (f i)
-elements-row l at r n f a i h m k = ap (λ place. element (part (splice l at (flat (rows r n f))) place 64)) (row-place at i n m) ∙ vectors-stored l at r n f a i m h k
 
 -- the elements of lists of n each, joined
 pub length-lists : (r n : ℕ) (f : ℕ → List Element) → ((k : ℕ) → length (f k) ≡ n) → length (cat r f) ≡ r * n
@@ -79,6 +60,11 @@ vectors-of words at r n F f h e i m k l = h (i * n + m) (omega (arith, row-cell-
 pub rows-ext : (r n : ℕ) (f g : ℕ → ℕ → Element) → ((i m : ℕ) → i < r → m < n → f i m ≡ g i m) → rows r n f ≡ rows r n g
 unfolding rows
 rows-ext r n f g e = cat-ext r (λ i. table n (f i)) (λ i. table n (g i)) (λ i h. table-ext n (f i) (g i) (λ m k. e i m h k))
+
+-- a triangle of equal elements
+pub triangle-ext : (r : ℕ) (f g : ℕ → ℕ → Element) → ((i j : ℕ) → i < r → j < r → f i j ≡ g i j) → triangle r f ≡ triangle r g
+unfolding triangle
+triangle-ext r f g e = cat-ext r (λ i. table (i + 1) (f i)) (λ i. table (i + 1) (g i)) (λ i h. table-ext (i + 1) (f i) (g i) (λ j l. e i j h (omega arith)))
 
 -- a triangle of r rows of the elements f 0, f 1, … is all of them
 pub triangle-table : (r : ℕ) (f : ℕ → Element) → triangle r (λ i j. f (cell i j)) ≡ table (triangular r) f

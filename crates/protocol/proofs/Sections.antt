@@ -10,7 +10,7 @@ use lib.Dec.{ltb, eqb}
 use lib.ListN.{length, getD, take, drop, length-append, length-drop}
 use lib.Seq.{take-at, take-append-seam, drop-append-add, drop-at, drop-drop, getD-drop, getD-take}
 use Rattle.definitions.specs.Answer.{fine, refused}
-use Rattle.protocol.specs.Layout.{Range, free, under, Section, part, span, start, sections, counted, layout, in-range, ranged}
+use Rattle.protocol.specs.Layout.{Range, free, under, Section, canonical, part, span, start, sections, counted, layout, in-range, ranged}
 use Rattle.definitions.proofs.Leaf.{below-fine}
 use Rattle.protocol.proofs.Fine.{require-holds, then-both-fine}
 
@@ -37,6 +37,11 @@ filled-drop none zero = none
 filled-drop none (suc m) = none
 filled-drop (more e r f) zero = more e r f
 filled-drop (more e r f) (suc m) = filled-drop f m
+
+-- the words of one section, its count included
+pub one-span : (n : ℕ) → 1 + n ≡ span (canonical n ∷ [])
+unfolding span
+one-span n = omega arith
 
 -- words in range are not refused
 in-range-fine : (range : Range) (number place : ℕ) (ws : List ℕ) → InRange range ws → in-range range number place ws ≡ fine

@@ -17,8 +17,8 @@ use Rattle.protocol.proofs.Fine.{required, accepted-not-fine, refused-n
 use Rattle.protocol.proofs.Accepted.{admitted, length-made}
 
 -- a buffer that is left
-kept-left : (need : ℕ) (buffer : List ℕ) → Kept need buffer buffer
-kept-left need buffer = record { size = refl; beyond = refl }
+pub kept-refl : (need : ℕ) (buffer : List ℕ) → Kept need buffer buffer
+kept-refl need buffer = record { size = refl; beyond = refl }
 
 -- a buffer whose needed part is written
 kept-written : (need : ℕ) (new buffer : List ℕ) → length new ≡ need → need ≤ length buffer → Kept need buffer (new ++ drop need buffer)
@@ -52,7 +52,7 @@ module _ (a : Answer) (need : ℕ) (buffer : List ℕ) where
   zeroed-kept fits =
       result-cases (Kept need buffer) a (zeroed need buffer) buffer
       (λ e. kept-written need (replicate need 0) buffer (length-replicate need 0) (fits e))
-      (λ bad. kept-left need buffer)
+      (λ bad. kept-refl need buffer)
 
   -- its needed part is zero where the answer is fine
   zeroed-fine : a ≡ fine → take need (result a (zeroed need buffer) buffer) ≡ replicate need 0
@@ -74,7 +74,7 @@ module _ (call : Call) (J R W scratch output : List ℕ) where
       result-cases (Kept need output) (work-refusal X call s) (made X call s ++ drop need output) (zeroed need output)
       (λ f. kept-written need (made X call s) output (length-made call X s) fits)
       (λ bad. kept-written need (replicate need 0) output (length-replicate need 0) fits))
-      (λ bad. kept-left need output)
+      (λ bad. kept-refl need output)
 
   -- the scratch
   pub scratch-kept : Kept (scratch-need (parameters J)) scratch (prove-scratch call J R W scratch output)

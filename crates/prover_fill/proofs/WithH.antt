@@ -17,11 +17,11 @@ use Rattle.workspace.specs.Ready.{Ready, Drawn}
 use Rattle.workspace.specs.Holds.{Holds, Kept}
 use Rattle.workspace.specs.Aggregated.{a″-words, φ″-words, φ-words}
 use Rattle.workspace.proofs.Kept.{kept-stored, kept-trans}
-use Rattle.workspace.proofs.Ready.{drawn-fewer, ready-changed, φ″-end, a″-end, φ-end, a-end, g-end, c-end, length-φ″, length-a″, length-φ}
+use Rattle.workspace.proofs.Ready.{drawn-fewer, φ″-end, a″-end, φ-end, a-end, g-end, c-end, length-φ″, length-a″, length-φ}
 use Rattle.prover_commit.specs.Words.{t-words, g-words, b″-words, h-words}
 use Rattle.prover_commit.specs.Refusals.{h-refusal, h-check}
-use Rattle.prover_commit.specs.Work.{Work-given, Where-made, Committed, Weighed, Aggregated, AllMade, Ready-for-h, with-h}
-use Rattle.prover_commit.proofs.Commitments.{from-made, held-stored, held-before, held-after, given-changed, a-room, ready-for-h, given-h, kept-h, stands-h, held-h, h-checked}
+use Rattle.prover_commit.specs.Work.{Work-given, Where-made, Committed, Weighed, Aggregated, AllMade, with-h}
+use Rattle.prover_commit.proofs.Commitments.{from-made, held-stored, held-before, held-after, given-changed, a-room, given-h, kept-h, stands-h, held-h, h-checked}
 use Rattle.prover_commit.proofs.Lengths.{length-h}
 use Rattle.prover_phi_and_b.specs.Stored.{with-φ, weighed-scratch}
 use Rattle.prover_fill.proofs.Scratch as Scratch
@@ -84,12 +84,6 @@ module _ (J R W : List ℕ) (p : EnvironmentParameters) (q : Regions) (S : List 
 
       -- then φ
       module _ (S₃ : List ℕ) (e₃ : S₃ ≡ splice S₂ (q .phi) (φ-words J R)) where
-        size₃ : length S₃ ≡ length S
-        size₃ = ap length e₃ ∙ length-splice S₂ (q .phi) (φ-words J R) ∙ size₂
-
-        pub φ-given : Work-given J W p q S₃
-        φ-given = given-changed J W p q S h S₃ size₃
-
         pub φ-held : Holds S₃ (q .phi) (φ-words J R)
         φ-held = held-stored S₂ S₃ (q .phi) (φ-words J R) e₃ (omega (arith, φ-stop, h-room, h .ready .room, size₂))
 
@@ -152,9 +146,6 @@ module _ (J R W : List ℕ) (p : EnvironmentParameters) (q : Regions) (S : List 
 
     b-given : Work-given J W p q S₂
     b-given = given-changed J W p q S h S₂ (b-kept .size)
-
-    pub h-needs : Ready-for-h W p q S₂
-    h-needs = ready-for-h J W p q S₂ b-given
 
     φ-stands : Holds S₂ (q .phi) (φ-words J R)
     φ-stands = stays (q .phi) (φ-words J R) φ-place (k .phi)

@@ -1,6 +1,6 @@
 -- The transcript's sections: sections after sections, and a section stored as its count and its words.
-use mathlib.Core.Path.{_≡_, refl, sym, ap, ap₂, _∙_}
-use mathlib.Core.List.{List, [], _∷_, _++_, append-nil, append-assoc}
+use mathlib.Core.Path.{_≡_, sym, ap, ap₂, _∙_}
+use mathlib.Core.List.{List, [], _∷_, _++_, append-nil}
 use Prim.Native.Nat.{ℕ, suc, _+_, _≤_}
 use native.Mathlib.Numerals.{add-one}
 use native.Mathlib.Omega.{arith}
@@ -9,13 +9,8 @@ use lib.Seq.{sets}
 use Rattle.lists.specs.Part.{part, splice}
 use Rattle.lists.proofs.Splice.{length-splice, splice-append}
 use Rattle.protocol.specs.Layout.{sections}
+use Rattle.protocol.proofs.Prefix.{sections-append}
 use Rattle.prover_p_and_b.specs.Sections.{SectionsRoom, Put}
-
--- sections after sections
-pub sections-append : (xs ys : List (List ℕ)) → sections (xs ++ ys) ≡ sections xs ++ sections ys
-unfolding sections
-sections-append [] ys = refl
-sections-append (x ∷ xs) ys = ap (λ l. (length x ∷ x) ++ l) (sections-append xs ys) ∙ sym (append-assoc (length x ∷ x) (sections xs) (sections ys))
 
 -- their words, counts included
 pub length-sections-append : (xs ys : List (List ℕ)) → length (sections (xs ++ ys)) ≡ length (sections xs) + length (sections ys)

@@ -1,17 +1,18 @@
 -- The ends of a range: what is picked lies in it, and its size is the smallest or the largest.
-use mathlib.Core.Path.{_≡_, refl, sym, ap, _∙_, subst}
+use mathlib.Core.Path.{_≡_, refl, sym, ap, subst}
 use mathlib.Core.Bool.{Bool, true, false, not, cond}
-use Prim.Native.Nat.{ℕ, zero, suc, _+_, _-_, _≤_, _<_, _^_}
-use native.Mathlib.Nat.{zero-add, le-refl}
+use Prim.Native.Nat.{ℕ, zero, suc, _-_, _≤_, _<_}
+use native.Mathlib.Nat.{zero-add}
 use native.Mathlib.Omega.{arith}
 use borrow.Author.Tests.{ltb-true, ltb-false}
 use lib.IntN.{ℤ, pos, negsuc, natAbs, _-ℤ_}
-use lib.Signed.{ltZ, leZ, mag, nonNeg, _≤ℤ_, ≤ℤ-refl, ltZ-no}
-use lib.Dec.{T, ltb, leb, leb→le, le→leb}
+use lib.Signed.{ltZ, nonNeg, _≤ℤ_, ≤ℤ-refl, ltZ-no}
+use lib.Dec.{T, ltb, leb→le}
 use mir.Syntax.{w64}
 use mir.Val.{SFits}
 use Rattle.definitions.specs.Zq.{halfQ}
-use Rattle.range_norms.specs.Ends.{Centred, nearest, farthest}
+use Rattle.definitions.proofs.Cases.{no-both}
+use Rattle.range_norms.specs.Ends.{nearest, farthest}
 
 -- a number below zero taken from zero is its size
 pub zero-less : (x : ℤ) → ltZ x (pos 0) ≡ true → pos 0 -ℤ x ≡ pos (natAbs x)
@@ -26,10 +27,6 @@ not-below-zero (negsuc n) h = let z : _≡_ {A = Bool} true false = h in absurd 
 -- a size is an i64
 pub size-fits : (n : ℕ) → n ≤ halfQ → SFits w64 (pos n)
 size-fits n h = record { sfits = omega arith }
-
--- nothing is both true and false
-no-both : {b : Bool} → b ≡ true → b ≡ false → ⊥
-no-both p q = let z : _≡_ {A = Bool} true false = sym p ∙ q in subst (λ b. T b) z tt
 
 -- a number above zero has the smallest size from it on
 above-zero : (l x : ℤ) → ltZ (pos 0) l ≡ true → l ≤ℤ x → natAbs l ≤ natAbs x

@@ -6,14 +6,13 @@ use native.Mathlib.Omega.{arith}
 use lib.ListN.{length}
 use Rattle.lists.specs.Table.{table}
 use Rattle.lists.specs.Part.{splice}
-use Rattle.lists.proofs.Splice.{length-splice, part-splice-same}
+use Rattle.lists.proofs.Splice.{length-splice}
 use Rattle.definitions.specs.Rq.{Element}
-use Rattle.definitions.specs.Ring.{RqOps, words}
+use Rattle.definitions.specs.Ring.{words}
 use Rattle.protocol.specs.Parameters.{triangular}
 use Rattle.protocol.specs.Formulas.{flat, triangle}
-use Rattle.protocol.proofs.Flat.{length-flat, length-triangle, element-of-flat, cell-within, triangle-cell}
+use Rattle.protocol.proofs.Flat.{length-flat, length-triangle}
 use Rattle.protocol.proofs.Stored.{stored-next, lists-none, lists-next}
-use Rattle.protocol.proofs.Region.{Triangle}
 use Rattle.rq_matrix.specs.Region.{Apart}
 use Rattle.rq_matrix.proofs.Place.{apart-part}
 
@@ -38,13 +37,6 @@ module _ (start : List ℕ) (at : ℕ) where
   unfolding triangle
   triangle-next out next i place f e p h =
       h ∙ ap (λ k. splice out k (flat (table (i + 1) (f i)))) p ∙ lists-next start out at i (triangular i) (λ k. table (k + 1) (f k)) e (length-triangle i f)
-
-  -- a triangle of what is the same mirrored, read back
-  pub triangle-stored : (r : ℕ) (f : ℕ → ℕ → Element) → ((i j : ℕ) → f i j ≡ f j i) → at + 64 * triangular r ≤ length start → Triangle (splice start at (flat (triangle r f))) at r f
-  triangle-stored r f mirrored within i j h l =
-      element-of-flat (splice start at (flat (triangle r f))) at (triangle r f) _ (RqOps .nil)
-      (part-splice-same 0 start at (flat (triangle r f)) (omega (arith, length-flat (triangle r f), length-triangle r f))) (cell-within r f i j h l)
-      ∙ triangle-cell r f mirrored (RqOps .nil) i j h l
 
 -- a region that is apart from another is apart from the elements that fill a part of it
 pub apart-filled : (at count place size : ℕ) (es : List Element) → Apart at count place size → 64 * length es ≤ size → Apart at count place (length (flat es))

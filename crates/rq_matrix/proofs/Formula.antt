@@ -1,7 +1,7 @@
 -- The sums of the contracts are those of the verifier's checks, where the scratch S holds the challenges, φ and a.
 use mathlib.Core.Path.{_≡_, refl, ap, ap₂, _∙_}
 use mathlib.Core.List.{List}
-use Prim.Native.Nat.{ℕ, _+_}
+use Prim.Native.Nat.{ℕ}
 use Rattle.algebra.proofs.Sum.{sum-ext}
 use Rattle.algebra.proofs.Dot.{dot-ext}
 use Rattle.algebra.proofs.Form.{pairs-ext}
@@ -9,7 +9,7 @@ use Rattle.definitions.specs.Rq.{Element}
 use Rattle.definitions.specs.Ring.{RqOps}
 use Rattle.inner_product.specs.Run.{run}
 use Rattle.protocol.specs.Parameters.{Parameters}
-use Rattle.protocol.specs.Layout.{start, job-sections, transcript-sections}
+use Rattle.protocol.specs.Layout.{start, transcript-sections}
 use Rattle.protocol.specs.Views.{Public, Message, public, message}
 use Rattle.protocol.specs.Formulas as F
 use Rattle.protocol.specs.Formulas.{_⊗_, sum, dot, pairs}
@@ -30,10 +30,6 @@ module _ (J R X : List ℕ) where
   open Public (public J R) using (P, A, c)
   open Parameters P using (n, r, κ)
   open Message (message P X) using (z, t, g, h)
-
-  -- check 24, left: row k of A·z
-  pub row-of-A : (k : ℕ) → dot n (vector J (31 + start (job-sections P) 6) n k) (run X (start (transcript-sections P) 4) 64) ≡ dot n (A k) z
-  row-of-A k = refl
 
   module _ (S : List ℕ) (c-at : ℕ) (holds : Elements S c-at r c) where
     -- check 24, right: Σ t_ik·c_i
@@ -62,7 +58,3 @@ module _ (J R X : List ℕ) where
   sum-of-a S a-at holds =
       pairs-ext RqOps r (λ i j. triangle-at S a-at i j ⊗ g i j) (λ i j. F.a-sum (public J R) i j ⊗ g i j)
       (λ i j l m. ap (λ e. e ⊗ g i j) (holds i j l m))
-
-  -- check 27: Σ h_ii
-  pub sum-of-diagonal : sum r (λ i. triangle-at X (start (transcript-sections P) 7) i i) ≡ sum r (λ i. h i i)
-  sum-of-diagonal = refl

@@ -3,21 +3,18 @@ use mathlib.Core.Path.{_≡_, ap, ap₂, _∙_, fun-ext}
 use mathlib.Core.Logic.{inl, inr}
 use mathlib.Core.List.{List}
 use Prim.Native.Nat.{ℕ, _+_, _*_, _≤_, _<_, _^_}
-use native.Mathlib.Nat.{mul-le-mul, mul-le-mul-right, max-comm, min-comm}
+use native.Mathlib.Nat.{mul-le-mul, max-comm, min-comm}
 use native.Mathlib.Omega.{arith}
 use lib.ListN.{length}
 use Rattle.lists.specs.Part.{part, splice}
 use Rattle.lists.proofs.Splice.{part-splice-before, part-splice-after}
+pub use Rattle.lists.proofs.Rows.{rows-within}
 use Rattle.definitions.specs.Ring.{element}
 use Rattle.inner_product.specs.Run.{Run, run}
 use Rattle.protocol.specs.Parameters.{triangular}
 use Rattle.protocol.specs.Views.{cell}
 use Rattle.protocol.specs.Formulas.{dot}
 use Rattle.rq_matrix.specs.Region.{vector, Apart}
-
--- row i of r rows of n elements ends within them
-pub rows-within : (i r n : ℕ) → i < r → i * n + n ≤ r * n
-rows-within i r n h = omega (arith, mul-le-mul-right n h)
 
 -- one more row of a triangle
 pub triangular-suc : (i : ℕ) → triangular (i + 1) ≡ triangular i + (i + 1)

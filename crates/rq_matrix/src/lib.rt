@@ -13,7 +13,7 @@ ghost use Rattle.protocol.specs.Views.{cell as place-of};
 ghost use Rattle.protocol.specs.Formulas.{_⊗_, sum, dot, pairs, flat};
 ghost use Rattle.rq_matrix.specs.Region.{vector, triangle-at, mirrored-row};
 
-// The index of cell (i, j) among a triangle's cells, mirrored above the diagonal.
+// The index of cell (i, j) among a triangle's cells, mirrored above the diagonal. Port only: nothing calls it.
 pub fn cell(i: usize, j: usize) -> usize
     requires { ⌜ (i ≤ 64) × (j ≤ 64) ⌝ }
     ensures { λ r. ⌜ r ≡ place-of i j ⌝ }

@@ -5,20 +5,16 @@ use Prim.Native.Nat.{ℕ, _%_, _≤_, _<_}
 use native.Mathlib.Nat.{zero-add, mod-eq-of-lt}
 use native.Mathlib.Decide.{decLt}
 use native.Mathlib.Omega.{arith}
-use Rattle.lists.proofs.Table.{table-ext, getD-table}
+use Rattle.lists.proofs.Table.{table-ext}
 use Rattle.definitions.specs.Zq.{Q, Canonical, size}
 use Rattle.definitions.specs.Digits.{sizeAfter, digit}
 use Rattle.definitions.specs.Rq.{coeff, digitRow}
 use Rattle.rq.specs.Words.{AtMostQ}
 use Rattle.definitions.specs.Ring.{words, element}
 use Rattle.definitions.proofs.Digits.{stays-zero, digit-zero}
+use Rattle.definitions.proofs.Bridge.{coeff-element}
 use Rattle.protocol.specs.Formulas.{digit-element}
 use Rattle.protocol.proofs.Norms.{words-digit}
-
--- a coefficient of the element of a list
-pub coeff-element : (a : List ℕ) (j : ℕ) → j < 64 → coeff (words (element a)) j ≡ coeff a j % Q
-unfolding element
-coeff-element a j h = getD-table 64 (λ k. coeff a k % Q) j 0 h
 
 -- what holds of canonical words, and of Q where 0 is put for it, holds of all up to Q
 pub of-word : (P : ℕ → ℕ → Type 0) (a : ℕ) → a ≤ Q → ((b : ℕ) → Canonical b → P b b) → P 0 Q → P (a % Q) a

@@ -1,6 +1,6 @@
 -- The refusals of the calls on runs, test after test, as the code finds them.
 use mathlib.Core.Path.{_≡_, sym, ap, subst, _∙_}
-use mathlib.Core.List.{List, [], _∷_}
+use mathlib.Core.List.{List}
 use Prim.Native.Nat.{ℕ, _+_, _*_, _≤_, _<_}
 use native.Mathlib.Decide.{decLe, decLt}
 use native.Mathlib.Nat.{mul-le-mul}
@@ -9,8 +9,9 @@ use Rattle.definitions.specs.declared.answers.Refusal.{Refusal}
 use Rattle.definitions.specs.Answer.{Answer, fine, refused, ofRefusal, _then_}
 use Rattle.protocol.specs.Checks.{require}
 use Rattle.protocol.specs.Parameters.{Parameters, parameters}
-use Rattle.protocol.specs.Layout.{Section, canonical, span, layout, ranged, job-refusal, scratch-refusal, scratch-need}
+use Rattle.protocol.specs.Layout.{Section, span, layout, ranged, job-refusal, scratch-refusal, scratch-need}
 use Rattle.protocol.proofs.Fine.{require-holds, require-fails, required, refused-not-fine, then-fine-left, then-fine-right}
+use Rattle.protocol.proofs.Sections.{one-span}
 use Rattle.layout.specs.Laid.{Laid}
 use Rattle.layout.proofs.Laid.{laid}
 use Rattle.layout.proofs.Then.{stops, goes-on}
@@ -156,9 +157,6 @@ module _ (J : List ℕ) (x : Run) (S : List ℕ) (scratch output : ℕ) where
         ∙ ap (λ Q. lent Q (64 * (size x * Q .n)) S scratch (1 + 64 * (size x * Q .κ)) output) (h .same)
         ∙ ap (λ n. lent P (64 * (size x * P .n)) S scratch n output) need
         ∙ ap (λ a. a then lent-refusal P x S scratch (rows-section P x) output) j
-      where
-        one-span : (n : ℕ) → 1 + n ≡ span (canonical n ∷ [])
-        one-span n = unfold span in omega arith
 
     pub rows-runnable : fine ≡ rows-refusal J x S scratch output → Runnable J x S scratch (rows-section (parameters J) x) output p
     unfolding rows-refusal

@@ -16,6 +16,8 @@ use Rattle.protocol.specs.Views.{witness}
 use Rattle.protocol.specs.Formulas as F
 use Rattle.protocol.specs.Formulas.{norm-of}
 use Rattle.protocol.specs.Prover.{zeroed}
+use Rattle.protocol.proofs.Sections.{one-span}
+use Rattle.protocol.proofs.Checks.{first-ext}
 use Rattle.rq_matrix.specs.Region.{vector}
 use Rattle.commitments.specs.Cells.{commitments-of, vector-norm}
 use Rattle.relation.specs.declared.env_params.EnvironmentParameters.{EnvironmentParameters}
@@ -25,7 +27,6 @@ use Rattle.call_answers.specs.declared.verdicts.LabradorAnswer.{LabradorAnswer}
 use Rattle.call_answers.specs.Calls.{labradorAnswer}
 use Rattle.runs.specs.Runs.{Run, size, rows-section, stored, run-rows, run-norm, rows-made}
 use Rattle.runs.proofs.Stored.{section-put, zeros-put}
-use Rattle.runs.proofs.WholeT.{first-ext}
 use Rattle.runs.proofs.Calls.{length-run-rows}
 use Rattle.run_admission.specs.Admitted.{Run-given}
 use Rattle.run_admission.proofs.Order.{run-sized, few}
@@ -83,9 +84,6 @@ module _ (J : List ℕ) (x : Run) (S O : List ℕ) (p : EnvironmentParameters) (
 
   pub need-is : 1 + 64 * (size x * p .kappa) ≡ span (rows-section (parameters J) x)
   need-is = ap (λ k. 1 + 64 * (size x * k)) κ-is ∙ one-span (64 * (size x * parameters J .κ))
-    where
-      one-span : (n : ℕ) → 1 + n ≡ span (canonical n ∷ [])
-      one-span n = unfold span in omega arith
 
   pub rows-room : 1 + 64 * (size x * p .kappa) ≤ length O
   rows-room = subst (λ n. n ≤ length O) (sym need-is) (h .output-fits)

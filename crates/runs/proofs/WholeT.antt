@@ -1,7 +1,7 @@
 -- "For t the runs' rows, laid next to each other by rising index, are the whole t."
-use mathlib.Core.Path.{_≡_, refl, sym, ap, ap₂, _∙_}
+use mathlib.Core.Path.{_≡_, sym, ap, ap₂, _∙_}
 use mathlib.Core.List.{List, [], _∷_, _++_, append-nil, append-assoc, flatMap}
-use Prim.Native.Nat.{ℕ, zero, suc, _+_, _-_, _<_, _≤_}
+use Prim.Native.Nat.{ℕ, zero, suc, _+_, _-_, _≤_}
 use native.Mathlib.Decide.{decLe}
 use native.Mathlib.Nat.{add-zero, add-suc}
 use native.Mathlib.Omega.{arith}
@@ -19,6 +19,7 @@ use Rattle.protocol.specs.Formulas.{flat, rows, norm-of}
 use Rattle.protocol.specs.Prover.{transcript, witness-norm}
 use Rattle.protocol.proofs.Stored.{flat-append}
 use Rattle.protocol.proofs.Then.{then-assoc}
+use Rattle.protocol.proofs.Checks.{then-fine, first-ext}
 use Rattle.runs.specs.Runs.{Run, size, run-norm}
 use Rattle.runs.specs.Split.{Splits, Rising, vectors-of, joined-rows, joined-norms}
 use Rattle.runs.proofs.Cut.{element-is, run-rows-is}
@@ -33,19 +34,8 @@ cat-split m (suc n) f = ap (λ k. cat k f) (add-suc m n) ∙ ap (λ l. l ++ f (m
 -- the first answer that is not fine, parted after the first m
 first-split : (m n : ℕ) (f : ℕ → Answer) → first (m + n) f ≡ first m f then first n (λ i. f (m + i))
 unfolding first
-first-split m zero f = ap (λ k. first k f) (add-zero m) ∙ then-fine (first m f)
-  where
-    then-fine : (a : Answer) → a ≡ a then fine
-    then-fine fine = refl
-    then-fine (Answer.accepted c) = refl
-    then-fine (refused n p) = refl
-    then-fine (Answer.failed n vs) = refl
+first-split m zero f = ap (λ k. first k f) (add-zero m) ∙ sym (then-fine (first m f))
 first-split m (suc n) f = ap (λ k. first k f) (add-suc m n) ∙ ap (λ a. a then f (m + n)) (first-split m n f) ∙ then-assoc (first m f) (first n (λ i. f (m + i))) (f (m + n))
-
-pub first-ext : (n : ℕ) (f g : ℕ → Answer) → ((i : ℕ) → i < n → f i ≡ g i) → first n f ≡ first n g
-unfolding first
-first-ext zero f g h = refl
-first-ext (suc n) f g h = ap₂ _then_ (first-ext n f g (λ i l. h i (omega arith))) (h n (omega arith))
 
 module _ (J R W : List ℕ) where
   -- the rows of t from one index up to another

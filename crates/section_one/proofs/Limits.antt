@@ -1,16 +1,16 @@
 -- The limits of the parameters, one by one, and what a section one that is refused nothing says.
-use mathlib.Core.Path.{_≡_, refl, sym, ap, subst, _∙_}
-use mathlib.Core.Bool.{Bool, true, false, cond}
+use mathlib.Core.Path.{_≡_, sym, ap, subst, _∙_}
+use mathlib.Core.Bool.{cond}
 use mathlib.Core.List.{List, [], _∷_}
 use Prim.Native.Nat.{ℕ, _+_, _≤_, _<_}
 use native.Mathlib.Decide.{decLe}
 use native.Mathlib.Omega.{arith}
-use borrow.Author.Tests.{lt-ltb, le-ltb, ltb-false}
-use lib.Dec.{ltb}
-use lib.ListN.{length, getD}
+use borrow.Author.Tests.{lt-ltb, le-ltb}
+use lib.ListN.{getD}
 use Rattle.definitions.specs.Zq.{topQ}
-use Rattle.definitions.specs.Answer.{Answer, fine, refused, _then_}
+use Rattle.definitions.specs.Answer.{fine, refused, _then_}
 use Rattle.definitions.specs.Leaf.{limited}
+use Rattle.definitions.proofs.Leaf.{within-fine, limited-fine}
 use Rattle.protocol.specs.Checks.{require, first}
 use Rattle.protocol.specs.Parameters.{Parameters, parameters, rounded-up, some-constraint, limits, enough-aggregations}
 use Rattle.protocol.specs.Layout.{span, counted, first-section}
@@ -29,21 +29,6 @@ limited-low least greatest place x h = rw (lt-ltb x least h)
 -- a value above its greatest
 pub limited-high : (least greatest place x : ℕ) → least ≤ x → greatest < x → refused 4 place ≡ limited least greatest place x
 limited-high least greatest place x h g = rw (le-ltb x least h, lt-ltb greatest x g)
-
--- a value within
-pub limited-within : (least greatest place x : ℕ) → least ≤ x → x ≤ greatest → limited least greatest place x ≡ fine
-limited-within least greatest place x h g = rw (le-ltb x least h, le-ltb greatest x g)
-
--- the second of two answers is taken where the first is refused
-cond-no : (b : Bool) (a : Answer) (number place : ℕ) → cond b (refused number place) a ≡ fine → (b ≡ false) × (a ≡ fine)
-cond-no true a number place e = absurd (refused-not-fine number place e)
-cond-no false a number place e = (refl, e)
-
--- what is refused nothing is within
-limited-fine : (least greatest place x : ℕ) → limited least greatest place x ≡ fine → (least ≤ x) × (x ≤ greatest)
-limited-fine least greatest place x e =
-    let low = cond-no (ltb x least) (cond (ltb greatest x) (refused 4 place) fine) 4 place e in
-    (ltb-false x least (low .0), ltb-false greatest x (cond-no (ltb greatest x) fine 4 place (low .1) .0))
 
 -- the least and the greatest values by place, of a least l; the count is 30
 abbrev pub least : ℕ → List ℕ
@@ -67,7 +52,7 @@ l-limited K l = go (decLe 1 K) (decLe 1 l)
     go (no k) (no h) =
         ap (λ t. limited (cond t 0 1) 64 7 l) (le-ltb 0 K (omega arith))
         ∙ sym (limited-low 1 64 7 l (omega arith))
-        ∙ sym (ap (λ a. a then require (decLe 1 (K + l)) (refused 4 7)) (limited-within 0 64 7 l (omega arith) (omega arith)) ∙ require-fails (decLe 1 (K + l)) (refused 4 7) (λ both. omega arith))
+        ∙ sym (ap (λ a. a then require (decLe 1 (K + l)) (refused 4 7)) (within-fine 4 0 64 7 l (omega arith) (omega arith)) ∙ require-fails (decLe 1 (K + l)) (refused 4 7) (λ both. omega arith))
 
 -- the limits one after the other are those of the lists
 pub limits-first : (J : List ℕ) → first 12 (limit-at (least (least-l (getD J 6 0))) greatest J) ≡ limits (parameters J)
@@ -89,18 +74,18 @@ module _ (J : List ℕ) (e : limits (parameters J) ≡ fine) where
   -- parameters whose limits are refused nothing are within them
   pub within : Within (parameters J)
   within = record {
-    n = limited-fine 1 64 1 (getD J 1 0) (one 0 (omega arith));
-    r = limited-fine 1 16 2 (getD J 2 0) (one 1 (omega arith));
-    κ = limited-fine 1 16 3 (getD J 3 0) (one 2 (omega arith));
-    κ₁ = limited-fine 1 16 4 (getD J 4 0) (one 3 (omega arith));
-    κ₂ = limited-fine 1 16 5 (getD J 5 0) (one 4 (omega arith));
-    K = limited-fine 0 64 6 (getD J 6 0) (one 5 (omega arith));
-    l = (omega arith, limited-fine (least-l (getD J 6 0)) 64 7 (getD J 7 0) (one 6 (omega arith)) .1);
-    log-q = limited-fine 16 32 8 (getD J 8 0) (one 7 (omega arith));
-    b = limited-fine 2 topQ 9 (getD J 9 0) (one 8 (omega arith));
-    t₁ = limited-fine 1 32 10 (getD J 10 0) (one 9 (omega arith));
-    t₂ = limited-fine 1 32 11 (getD J 11 0) (one 10 (omega arith));
-    L = limited-fine 1 32 12 (getD J 12 0) (one 11 (omega arith));
+    n = limited-fine 4 1 64 1 (getD J 1 0) (one 0 (omega arith));
+    r = limited-fine 4 1 16 2 (getD J 2 0) (one 1 (omega arith));
+    κ = limited-fine 4 1 16 3 (getD J 3 0) (one 2 (omega arith));
+    κ₁ = limited-fine 4 1 16 4 (getD J 4 0) (one 3 (omega arith));
+    κ₂ = limited-fine 4 1 16 5 (getD J 5 0) (one 4 (omega arith));
+    K = limited-fine 4 0 64 6 (getD J 6 0) (one 5 (omega arith));
+    l = (omega arith, limited-fine 4 (least-l (getD J 6 0)) 64 7 (getD J 7 0) (one 6 (omega arith)) .1);
+    log-q = limited-fine 4 16 32 8 (getD J 8 0) (one 7 (omega arith));
+    b = limited-fine 4 2 topQ 9 (getD J 9 0) (one 8 (omega arith));
+    t₁ = limited-fine 4 1 32 10 (getD J 10 0) (one 9 (omega arith));
+    t₂ = limited-fine 4 1 32 11 (getD J 11 0) (one 10 (omega arith));
+    L = limited-fine 4 1 32 12 (getD J 12 0) (one 11 (omega arith));
   }
 
 -- L against its least, of parameters that are those of a record

@@ -1,6 +1,6 @@
 -- Sections that stand one after the other are read back, and the position behind them is their span.
 use mathlib.Core.Path.{_≡_, refl, sym, ap, ap₂, _∙_}
-use mathlib.Core.Bool.{Bool, true, false, cond}
+use mathlib.Core.Bool.{cond}
 use mathlib.Core.List.{List, [], _∷_, _++_, append-assoc}
 use Prim.Native.Nat.{ℕ, zero, suc, _+_, _≤_}
 use native.Mathlib.Nat.{le-refl}
@@ -11,7 +11,8 @@ use lib.Dec.{ltb, eqb}
 use lib.ListN.{length, getD, take, length-append}
 use lib.Seq.{take-length, append-snoc, getD-append-seam}
 use Rattle.lists.proofs.Part.{part-between}
-use Rattle.definitions.specs.Answer.{Answer, fine, refused, _then_}
+use Rattle.definitions.specs.Answer.{fine, refused, _then_}
+use Rattle.definitions.proofs.Fine.{cond-fine}
 use Rattle.protocol.specs.Checks.{require}
 use Rattle.protocol.specs.Layout as L
 use Rattle.protocol.specs.Layout.{part, span, sections, counted}
@@ -80,11 +81,6 @@ behind-span {wss = wss} f m h = omega (arith, behind-after [] wss m h, length-se
 pub read-done : (wss : List (List ℕ)) → readAt (sections wss) (behindAll (length wss) (sections wss) 0) ≡ End
 read-done wss = read-end (sections wss) _ (omega (arith, behind-after [] wss (length wss) (le-refl (length wss)), ap (λ l. length (sections l)) (take-length wss)))
 
--- where the second of two answers is a refusal and the choice is fine, the first is taken
-first-fine : (b : Bool) (a : Answer) (number place : ℕ) → cond b a (refused number place) ≡ fine → (b ≡ true) × (a ≡ fine)
-first-fine true a number place e = (refl, e)
-first-fine false a number place e = absurd (refused-not-fine number place e)
-
 module _ (number : ℕ) (words : List ℕ) where
   -- a count that is refused nothing is read, and the rest is refused nothing
   pub read-counted : (place : ℕ) (s : L.Section) (ss : List L.Section) → counted number words place (s ∷ ss) ≡ fine
@@ -94,8 +90,8 @@ module _ (number : ℕ) (words : List ℕ) where
       let fits = require (decLe (place + 1 + s .count) (length words)) (refused number (length words)) in
       let rest = counted number words (place + 1 + s .count) ss in
       let right = cond (eqb (getD words place 0) (s .count)) (fits then rest) (refused number place) in
-      let there = first-fine (ltb place (length words)) right number (length words) e in
-      let both = first-fine (eqb (getD words place 0) (s .count)) (fits then rest) number place (there .1) in
+      let there = cond-fine (ltb place (length words)) right number (length words) e in
+      let both = cond-fine (eqb (getD words place 0) (s .count)) (fits then rest) number place (there .1) in
       let inside = required (decLe (place + 1 + s .count) (length words)) (refused number (length words)) (refused-not-fine number (length words)) (then-fine-left fits rest (both .1)) in (
         read-section words place (s .count) (sym (eqb-true (getD words place 0) (s .count) (both .0))) (omega arith) (omega arith),
         then-fine-right fits rest (both .1),

@@ -1,3 +1,3 @@
 mod Products
-mod Tables
+pub mod Tables
 pub mod Sized

@@ -13,16 +13,8 @@ ghost use Rattle.protocol.specs.Formulas.{_⊗_, sum, dot, pairs};
 ghost use Rattle.rq_matrix.specs.Region.{vector, gram, triangle-at, mirrored-row};
 
 // The terms of row i left of the diagonal, of a's row from `row` on.
-fn left_of_diagonal(
-    a: &[u32],
-    row: usize,
-    s: &[u32],
-    s_at: usize,
-    r: usize,
-    n: usize,
-    i: usize,
-) -> Rq
-    requires { ⌜ (row + 64 * (i + 1) ≤ length (now a)) × («s_at» + 64 * (r * n) ≤ length (now s)) × (i < r) × (r ≤ 64) × (n ≤ 64) ⌝ }
+fn left_of_diagonal(a: &[u32], row: usize, s: &[u32], s_at: usize, n: usize, i: usize) -> Rq
+    requires { ⌜ (row + 64 * (i + 1) ≤ length (now a)) × («s_at» + 64 * ((i + 1) * n) ≤ length (now s)) × (i < 64) × (n ≤ 64) ⌝ }
     ensures { λ e. ⌜ e .coeffs ≡ words (dot i (run (now (a .entry)) row 64) (gram (now (s .entry)) «s_at» n i)) ⌝ }
 {
     let s_i = vector_at(s_at, n, i);
@@ -42,11 +34,11 @@ fn left_of_diagonal(
 }
 
 // Row i: each term left of the diagonal twice, the diagonal's once.
-fn constraint_row(a: &[u32], row: usize, s: &[u32], s_at: usize, r: usize, n: usize, i: usize) -> Rq
-    requires { ⌜ (row + 64 * (i + 1) ≤ length (now a)) × («s_at» + 64 * (r * n) ≤ length (now s)) × (i < r) × (r ≤ 64) × (n ≤ 64) ⌝ }
+fn constraint_row(a: &[u32], row: usize, s: &[u32], s_at: usize, n: usize, i: usize) -> Rq
+    requires { ⌜ (row + 64 * (i + 1) ≤ length (now a)) × («s_at» + 64 * ((i + 1) * n) ≤ length (now s)) × (i < 64) × (n ≤ 64) ⌝ }
     ensures { λ e. ⌜ e .coeffs ≡ words (mirrored-row i (run (now (a .entry)) row 64) (gram (now (s .entry)) «s_at» n i)) ⌝ }
 {
-    let left = left_of_diagonal(a, row, s, s_at, r, n, i);
+    let left = left_of_diagonal(a, row, s, s_at, n, i);
     let s_i = vector_at(s_at, n, i);
     let norm = inner_product::inner_product(s, s_i, 64, s, s_i, 64, n);
     let diagonal = words::load(a, row + 64 * i).mul(norm);
@@ -62,7 +54,7 @@ pub fn quadratic(a: &[u32], a_at: usize, s: &[u32], s_at: usize, r: usize, n: us
     let mut row = a_at;
     let mut i = 0;
     while i < r {
-        let next = total.add(constraint_row(a, row, s, s_at, r, n, i));
+        let next = total.add(constraint_row(a, row, s, s_at, n, i));
         total = next;
         i += 1;
         row += 64 * i;
@@ -78,6 +70,7 @@ pub fn line(phi: &[u32], phi_at: usize, s: &[u32], s_at: usize, r: usize, n: usi
     inner_product::inner_product(phi, phi_at, 64, s, s_at, 64, r * n)
 }
 
+// The left side of a constraint. Port only: nothing calls it.
 pub fn calculate_b_constraint(
     s: &[u32],
     s_at: usize,

@@ -14,7 +14,7 @@ use Rattle.definitions.specs.Zq.{Q}
 use Rattle.definitions.specs.Rq.{coeff}
 use Rattle.definitions.specs.Ring.{words}
 use Rattle.definitions.specs.Answer.{Answer, failed}
-use Rattle.rq_vector.proofs.Rows.{coeff-element}
+use Rattle.definitions.proofs.Bridge.{coeff-element}
 use Rattle.rq_matrix.proofs.Place.{rows-within}
 use Rattle.protocol.specs.Checks.{require, first}
 use Rattle.protocol.specs.Parameters.{Parameters, parameters}

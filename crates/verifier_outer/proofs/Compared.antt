@@ -20,9 +20,10 @@ use Rattle.protocol.specs.Formulas.{flat}
 use Rattle.protocol.specs.Verifier.{same}
 use Rattle.protocol.proofs.Fine.{require-holds, require-fails}
 use Rattle.protocol.proofs.Stored.{flat-append, flat-one}
+use Rattle.protocol.proofs.Flat.{length-flat-table}
 use Rattle.inner_product.specs.Run.{run}
 use Rattle.commitments.specs.Cells.{CanonicalFrom}
-use Rattle.commitments.proofs.Added.{length-flat-table, flat-run}
+use Rattle.commitments.proofs.Added.{flat-run}
 use Rattle.verifier_common.specs.Work.{equal}
 use Rattle.verifier_common.proofs.Runs.{require-equal}
 

@@ -18,13 +18,13 @@ use Rattle.protocol.specs.Layout.{start, job-sections, scratch-need}
 use Rattle.protocol.specs.Views.{public, message}
 use Rattle.protocol.specs.Formulas.{_⊕_, flat, times}
 use Rattle.protocol.specs.Verifier.{same, check-28, check-29}
+use Rattle.protocol.proofs.Flat.{length-flat-table}
 use Rattle.regions.specs.declared.Regions.{Regions}
 use Rattle.relation.specs.declared.env_params.EnvironmentParameters.{EnvironmentParameters}
 use Rattle.relation.specs.Parameters.{parametersOf}
 use Rattle.inner_product.specs.Run.{run}
 use Rattle.rq_matrix.specs.Region.{vector}
 use Rattle.commitments.specs.Cells.{digits-at, Cells, CanonicalFrom}
-use Rattle.commitments.proofs.Added.{length-flat-table}
 use Rattle.commitments.proofs.Formula.{digits, u₁-is, u₂-is}
 use Rattle.workspace.specs.Ready.{Ready}
 use Rattle.workspace.specs.Holds.{Kept}

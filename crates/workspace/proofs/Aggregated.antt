@@ -2,9 +2,7 @@
 use mathlib.Core.Path.{_≡_, sym, ap, ap₂, _∙_}
 use mathlib.Core.List.{List}
 use Prim.Native.Nat.{ℕ, _+_, _*_, _<_}
-use native.Mathlib.Omega.{arith}
 use Rattle.lists.specs.Table.{table, cat}
-use Rattle.lists.proofs.Table.{table-ext}
 use Rattle.lists.proofs.Cat.{cat-ext, table-rows}
 use Rattle.algebra.proofs.Sum.{sum-ext}
 use Rattle.definitions.specs.Rq.{Element}
@@ -13,18 +11,13 @@ use Rattle.protocol.specs.Parameters.{Parameters, parameters, T, triangular}
 use Rattle.protocol.specs.Views.{Public, public, element-at, cell}
 use Rattle.protocol.specs.Formulas.{flat, rows, triangle, _⊕_, _⊗_, a″, φ″, a-sum, φ-sum}
 use Rattle.protocol.specs.Region.{Triangle, Vectors}
-use Rattle.protocol.proofs.Region.{rows-ext, triangle-table}
+use Rattle.protocol.proofs.Region.{rows-ext, triangle-ext, triangle-table}
 use Rattle.rq_matrix.proofs.Place.{cell-mirrored}
 use Rattle.aggregate_psi.specs.Grid.{weighed}
 use Rattle.inner_product.specs.Run.{further}
 use Rattle.aggregate.specs.Weighed.{both, mixed, rows-at, mixed-words}
 use Rattle.aggregate.proofs.Laws.{job-at, randomness-at, a″-is, φ″-is, a-sum-is, φ-sum-is}
 use Rattle.workspace.specs.Aggregated.{a″-words, φ″-words, φ-words, a-words}
-
--- a triangle of equal cells
-pub triangle-ext : (r : ℕ) (f g : ℕ → ℕ → Element) → ((i j : ℕ) → i < r → j < r → f i j ≡ g i j) → triangle r f ≡ triangle r g
-unfolding triangle
-triangle-ext r f g e = cat-ext r (λ i. table (i + 1) (f i)) (λ i. table (i + 1) (g i)) (λ i h. table-ext (i + 1) (f i) (g i) (λ j l. e i j h (omega arith)))
 
 -- the elements f 0, f 1, … that are a triangle's cells
 pub table-triangle : (r : ℕ) (f : ℕ → Element) (g : ℕ → ℕ → Element) → ((i j : ℕ) → i < r → j < r → f (cell i j) ≡ g i j) → table (triangular r) f ≡ triangle r g

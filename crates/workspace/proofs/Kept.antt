@@ -1,5 +1,5 @@
 -- What is as it was from a place to the end.
-use mathlib.Core.Path.{_≡_, refl, sym, ap, _∙_}
+use mathlib.Core.Path.{_≡_, sym, ap, _∙_}
 use mathlib.Core.List.{List, _++_}
 use Prim.Native.Nat.{ℕ, _+_, _-_, _≤_, _<_}
 use native.Mathlib.Decide.{decLt}
@@ -9,11 +9,8 @@ use lib.Seq.{ext-getD, getD-drop, drop-drop}
 use Rattle.lists.specs.Part.{splice}
 use Rattle.lists.proofs.Splice.{length-splice, splice-eq, getD-splice-before, getD-splice-after, getD-splice-within}
 use Rattle.protocol.specs.Prover.{zeroed}
+pub use Rattle.protocol.proofs.Total.{kept-refl}
 use Rattle.workspace.specs.Holds.{Kept}
-
--- nothing changed
-pub kept-refl : (k : ℕ) (S : List ℕ) → Kept k S S
-kept-refl k S = record { size = refl; beyond = refl }
 
 -- changed twice
 pub kept-trans : (k : ℕ) (S S′ S″ : List ℕ) → Kept k S S′ → Kept k S′ S″ → Kept k S S″

@@ -115,10 +115,6 @@ module _ (J : List ℕ) (p : EnvironmentParameters) (q : Regions) (S : List ℕ)
   pub φ′-within : job-at J 1 + 64 * (parameters J .l * parameters J .r * parameters J .n) ≤ length J
   φ′-within = h .job .inside 1 (omega arith)
 
-  -- b0
-  pub b₀-within : job-at J 2 + parameters J .l ≤ length J
-  b₀-within = h .job .inside 2 (omega arith)
-
   -- a of the ring constraints
   pub a-within : job-at J 3 + 64 * (parameters J .K * T (parameters J)) ≤ length J
   a-within = h .job .inside 3 (omega arith)

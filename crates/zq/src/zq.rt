@@ -93,6 +93,7 @@ impl Zq {
         }
     }
 
+    // Port only: nothing calls it.
     pub fn is_zero(self) -> bool
         ensures { λ r. ⌜ r ≡ eqb (self .0) 0 ⌝ }
     {

@@ -7,8 +7,8 @@ use Rattle.lists.specs.Table.{table}
 use Rattle.lists.specs.Part.{splice}
 use Rattle.lists.proofs.Splice.{length-splice}
 use Rattle.lists.proofs.Fill.{splice-table-same}
+use Rattle.lists.proofs.Rows.{rows-within}
 use Rattle.jl_omega.specs.Omega.{added}
-use Rattle.jl.proofs.Places.{vector-within}
 use Rattle.jl_omega.proofs.Columns.{row-added}
 use Rattle.jl_omega.proofs.add_rows.Statement.{statement}
 use Rattle.jl_omega.proofs.add_rows.Tie as tie
@@ -32,12 +32,12 @@ loop-holds c =
 place : tie.Need-add-add-row Inv-loop μ-loop
 place c =
     let s = c .before .before .before .before .before .args in
-    omega (arith, vector-within (c .before .before .loop .j) 256 (s .width) (omega arith))
+    omega (arith, rows-within (c .before .before .loop .j) 256 (s .width) (omega arith))
 
 add-row-requires : tie.Need-add-row-requires Inv-loop μ-loop
 add-row-requires c κs =
     let s = c .before .before .before .before .before .before .args in
-    (omega (arith, vector-within (c .before .before .before .loop .j) 256 (s .width) (omega arith)), omega arith)
+    (omega (arith, rows-within (c .before .before .before .loop .j) 256 (s .width) (omega arith)), omega arith)
 
 loop-again : tie.Need-loop-again Inv-loop μ-loop
 loop-again c =

@@ -9,8 +9,8 @@ use Rattle.lists.specs.Table.{table}
 use Rattle.lists.specs.Part.{splice}
 use Rattle.lists.proofs.Table.{length-table}
 use Rattle.lists.proofs.Splice.{splice-nil, length-splice}
+use Rattle.lists.proofs.Fill.{table-more, filled}
 use Rattle.jl_pairs.specs.Pairs.{pair-table, four-entry, four-table, tables-entry}
-use Rattle.jl_pairs.proofs.Column.{table-more, filled}
 use Rattle.jl_pairs.proofs.fill_tables.Statement.{statement}
 use Rattle.jl_pairs.proofs.fill_tables.Tie as tie
 
@@ -53,7 +53,7 @@ returns c =
     let l = c .before .loop in
     let s = c .before .before .before .before .args in
     let n : 1024 * l .t ≡ 4096 = omega arith in
-    filled 4096 (1024 * l .t) (s .tables .now) (l .tables) (tables-entry (s .randomness .now) (s .omega-at)) (l .inv .1) n (omega arith)
+    filled 4096 (1024 * l .t) (s .tables .now) (l .tables) (tables-entry (s .randomness .now) (s .omega-at)) 0 (l .inv .1) n (omega arith)
 
 pub fill-tables-spec : {M : Type 1} → statement M
 fill-tables-spec =

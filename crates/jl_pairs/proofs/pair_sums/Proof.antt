@@ -8,8 +8,8 @@ use lib.ListN.{length, length-replicate}
 use Rattle.lists.specs.Table.{table}
 use Rattle.lists.specs.Part.{splice}
 use Rattle.lists.proofs.Splice.{splice-nil, length-splice}
+use Rattle.lists.proofs.Fill.{table-more, filled}
 use Rattle.jl_pairs.specs.Pairs.{pair-sum, pair-entries, pair-entry}
-use Rattle.jl_pairs.proofs.Column.{table-more, filled}
 use Rattle.jl_pairs.proofs.pair_sums.Statement.{statement}
 use Rattle.jl_pairs.proofs.pair_sums.Tie as tie
 
@@ -48,7 +48,7 @@ returns c =
     let l = c .before .loop in
     let s = c .before .before .before .args in
     let n : 4 * l .q ≡ 128 = omega arith in
-    filled 128 (4 * l .q) _ (l .sums) (pair-entry (s .randomness .now) (s .omega-at)) (l .inv .1) n (l .inv .3)
+    filled 128 (4 * l .q) _ (l .sums) (pair-entry (s .randomness .now) (s .omega-at)) 0 (l .inv .1) n (l .inv .3)
 
 pub pair-sums-spec : {M : Type 1} → statement M
 pair-sums-spec =

@@ -6,8 +6,8 @@ use lib.ListN.{length}
 use Rattle.lists.specs.Table.{table}
 use Rattle.lists.specs.Part.{splice}
 use Rattle.lists.proofs.Splice.{splice-nil, length-splice}
+use Rattle.lists.proofs.Fill.{entry-stored}
 use Rattle.jl_pairs.specs.Pairs.{four-place}
-use Rattle.jl_pairs.proofs.Column.{entry-stored}
 use Rattle.jl_tables.proofs.four_places.Statement.{statement}
 use Rattle.jl_tables.proofs.four_places.Tie as tie
 

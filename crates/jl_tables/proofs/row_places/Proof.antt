@@ -7,7 +7,7 @@ use lib.ListN.{length}
 use Rattle.lists.specs.Table.{table}
 use Rattle.lists.specs.Part.{splice}
 use Rattle.lists.proofs.Splice.{splice-nil, length-splice}
-use Rattle.jl_pairs.proofs.Column.{filled}
+use Rattle.lists.proofs.Fill.{filled}
 use Rattle.jl_tables.specs.Tables.{place-entry}
 use Rattle.jl_tables.proofs.Blocks.{places-next}
 use Rattle.jl_tables.proofs.row_places.Statement.{statement}
@@ -39,7 +39,7 @@ returns c =
     let l = c .before .loop in
     let s = c .before .before .before .before .args in
     let n : 64 * l .t ≡ 256 = omega arith in
-    filled 256 (64 * l .t) (s .places .now) (l .places) (place-entry (s .randomness .now) (s .at) (s .step)) (l .inv .1) n (omega arith)
+    filled 256 (64 * l .t) (s .places .now) (l .places) (place-entry (s .randomness .now) (s .at) (s .step)) 0 (l .inv .1) n (omega arith)
 
 pub row-places-spec : {M : Type 1} → statement M
 row-places-spec =

@@ -13,13 +13,13 @@ use Rattle.load_constraints.proofs.add_row.Statement.{statement}
 use Rattle.load_constraints.proofs.add_row.Tie as tie
 
 abbrev Inv-loop : tie.InvT-loop
-Inv-loop job₀ t base0 base m s s-at r n i row j₀ job j =
+Inv-loop job₀ t base0 base m s s-at n i row j₀ job j =
     (j ≤ i + 1)
     × (job ≡ plus job₀ t (terms job₀ base0 m row j (weight-of s s-at n i)) (terms job₀ base m row j (weight-of s s-at n i)))
     × (length job ≡ length job₀)
 
 abbrev μ-loop : tie.MeasureT-loop
-μ-loop job₀ t base0 base m s s-at r n i row j₀ job j = i + 1 - j
+μ-loop job₀ t base0 base m s s-at n i row j₀ job j = i + 1 - j
 
 loop-holds : tie.Need-loop-holds Inv-loop μ-loop
 loop-holds c =

@@ -5,7 +5,7 @@ use native.Mathlib.Omega.{arith}
 use borrow.Author.Needs.{needs}
 use lib.ListN.{length}
 use Rattle.protocol.specs.Parameters.{triangular}
-use Rattle.rq_matrix.proofs.Place.{triangular-suc, triangle-within}
+use Rattle.rq_matrix.proofs.Place.{rows-within, triangular-suc, triangle-within}
 use Rattle.load_sums.specs.Sums.{plus, Placed, Reduced}
 use Rattle.load_sums.proofs.Plus.{placed-plus, length-plus, reduced-plus}
 use Rattle.load_constraints.specs.Terms.{rows-of}
@@ -37,8 +37,7 @@ add-row-requires c κs =
       subst (λ job. Placed job (s .t) (s .base0) (s .base) (s .m)) (sym (l .inv .2)) (placed-plus (s .job .now) (s .t) (s .base0) (s .base) (s .m) (h .0) F G),
       subst (λ job. Reduced job (s .t)) (sym (l .inv .2)) (reduced-plus (s .job .now) (s .t) (s .base0) (s .base) (s .m) (h .0) F G),
       omega arith,
-      omega arith,
-      omega arith,
+      omega (arith, rows-within (l .i) (s .r) (s .n) (omega arith)),
       omega arith,
       omega arith,
     )

@@ -1,6 +1,7 @@
 -- `weight` meets its contract.
 use mathlib.Core.Path.{_≡_, sym, ap, _∙_}
 use mathlib.Core.Bool.{cond}
+use Prim.Native.Nat.{_+_}
 use native.Mathlib.Omega.{arith}
 use borrow.Author.Needs.{needs}
 use borrow.Author.Tests.{lt-ltb, le-ltb}
@@ -15,7 +16,7 @@ use Rattle.load_constraints.proofs.weight.Tie as tie
 inner-product-requires : tie.Need-inner-product-requires
 inner-product-requires c κs =
     let s = c .before .before .before .args in
-    omega (arith, rows-within (s .i) (s .r) (s .n) (omega arith), rows-within (s .j) (s .r) (s .n) (omega arith))
+    omega (arith, rows-within (s .i) (s .i + 1) (s .n) (omega arith), rows-within (s .j) (s .i + 1) (s .n) (omega arith))
 
 returns : tie.Need-returns
 returns c =

@@ -5,7 +5,7 @@ use native.Mathlib.Omega.{arith}
 use borrow.Author.Needs.{needs}
 use lib.ListN.{take, drop}
 use Rattle.protocol.specs.Layout.{span}
-use Rattle.load_needs.proofs.Refusals.{table-spans}
+use Rattle.sizes.proofs.Tables.{table-spans}
 use Rattle.load_needs.proofs.lengths.Statement.{statement}
 use Rattle.load_needs.proofs.lengths.Tie as tie
 

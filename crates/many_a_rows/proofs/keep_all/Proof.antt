@@ -9,7 +9,7 @@ use Rattle.protocol.specs.Kept.{Kept}
 use Rattle.protocol.specs.Many.{many-need}
 use Rattle.relation.specs.Parameters.{parametersOf}
 use Rattle.workspace.proofs.Kept.{kept-refl}
-use Rattle.many_windows.proofs.Windows.{rowable-sized, posed, need-is, need-large, window-within}
+use Rattle.many_windows.proofs.Windows.{rowable-sized, part-received, need-is, need-large, window-within}
 use Rattle.many_a_rows.proofs.Rows.{z-fits, Begun, begun-none, begun-next}
 use Rattle.many_a_rows.proofs.keep_all.Statement.{statement}
 use Rattle.many_a_rows.proofs.keep_all.Tie as tie
@@ -45,7 +45,7 @@ keep-one-requires c κs =
     let b = bounds (c .before) in
     let fits = z-fits (parametersOf (s .args .p)) (rowable-sized _ _ _ _ _ _ (s .pre .0 .1) .within) in (
       (s .pre .0 .0, c .before .loop-test .taken, b .2, omega (arith, b, fits, l .inv .1, l .inv .3 .size, c .before .before .before .scratch-length .ensures)),
-      λ t. posed _ _ _ _ _ _ (s .pre .0 .1) _ (c .before .loop-test .taken) t,
+      λ t. part-received _ _ _ _ _ _ (s .pre .0 .1) _ (c .before .loop-test .taken) t,
     )
 
 loop-again : tie.Need-loop-again Inv-loop μ-loop
@@ -57,7 +57,9 @@ loop-again c =
     let at = l .inv .1 ∙ ap (λ k. l .m * k) (need-is _ _ _ _ _ _ (s .pre .0 .1) _ (n .ensures)) in
     let room = subst (λ k. many-need (parameters (s .args .job .now)) (s .args .count) ≤ k) (sym (l .inv .3 .size)) (s .pre .0 .1 .room) in
     let e = c .before .before .keep-one .ensures in
-    let next = begun-next (s .args .job .now) (s .args .transcripts .now) (s .args .count) _ (s .pre .0 .1 .sound .within) (s .args .scratch .now) (l .scratch) _ (l .m) (l .start) room h at _ refl (e .0) (e .1) (l .inv .2, l .inv .3) in
+    let next =
+    begun-next (s .args .job .now) (s .args .transcripts .now) (s .args .count) _ (s .pre .0 .1 .sound .within) (s .args .scratch .now) (l .scratch) _ (l .m) (l .start) room h at
+    (parametersOf (s .args .p)) (s .pre .0 .1 .same) _ refl (e .0) (e .1) (l .inv .2, l .inv .3) in
     (omega arith, omega (arith, l .inv .1), next .0, next .1)
 
 returns : tie.Need-returns Inv-loop μ-loop

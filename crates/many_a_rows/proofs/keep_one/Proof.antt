@@ -6,72 +6,69 @@ use native.Mathlib.Omega.{arith}
 use borrow.Author.Needs.{needs}
 use lib.ListN.{length}
 use Rattle.lists.specs.Part.{part}
-use Rattle.protocol.specs.Parameters.{parameters}
 use Rattle.protocol.specs.Layout.{span, transcript-sections}
 use Rattle.protocol.specs.Many.{transcript-part}
 use Rattle.many_parts.proofs.Cut.{in-order, between}
 use Rattle.relation.specs.Parameters.{parametersOf}
-use Rattle.verifier_common.specs.Work.{Posed}
-use Rattle.verifier_common.proofs.Sent.{reckoned, received, z-within}
+use Rattle.verifier_common.specs.Work.{Received}
+use Rattle.verifier_common.proofs.Sent.{z-within}
 use Rattle.many_a_rows.specs.Kept.{z-for}
 use Rattle.many_a_rows.proofs.Rows.{z-stored}
 use Rattle.many_a_rows.proofs.keep_one.Statement.{statement}
 use Rattle.many_a_rows.proofs.keep_one.Tie as tie
 
--- the transcript is posed
-posed : (c : tie.Then1)
-    → let s = c .before .before .before .before .before .args in
-    Posed (s .job .now) (transcript-part (parameters (s .job .now)) (s .count) (s .transcripts .now) (s .m)) (s .p)
-posed c = c .before .before .before .before .before .pre .1 (c .if1 .taken)
+-- the transcript is received
+received : (c : tie.Then1)
+    → let s = c .before .before .before .before .args in
+    Received (transcript-part (parametersOf (s .p)) (s .count) (s .transcripts .now) (s .m)) (s .p)
+received c = c .before .before .before .before .pre .1 (c .if1 .taken)
 
 transcript-bounds-requires : tie.Need-transcript-bounds-requires
 transcript-bounds-requires c κs =
-    let s = c .before .before .before .before .before .before in
-    (s .pre .0 .1, s .pre .0 .2, reckoned (posed (c .before)))
+    let s = c .before .before .before .before .before in
+    (s .pre .0 .1, s .pre .0 .2, received (c .before) .sized)
 
 -- the part's bounds
-order : (c : tie.After-transcript-bounds) → (c .transcript-bounds .result .from ≤ c .transcript-bounds .result .to) × (c .transcript-bounds .result .to ≤ length (c .before .before .before .before .before .before .before .args .transcripts .now))
+order : (c : tie.After-transcript-bounds)
+    → (c .transcript-bounds .result .from ≤ c .transcript-bounds .result .to)
+    × (c .transcript-bounds .result .to ≤ length (c .before .before .before .before .before .before .args .transcripts .now))
 order c =
-    let s = c .before .before .before .before .before .before .before .args in
+    let s = c .before .before .before .before .before .before .args in
     in-order (s .transcripts .now) (span (transcript-sections (parametersOf (s .p)))) (s .count) (s .m) (c .transcript-bounds .result) (c .transcript-bounds .ensures)
 
 -- what lies between them
 lent : (c : tie.After-transcript-bounds)
-    → let s = c .before .before .before .before .before .before .before .args in
+    → let s = c .before .before .before .before .before .before .args in
     part (s .transcripts .now) (c .transcript-bounds .result .from) (c .transcript-bounds .result .to - c .transcript-bounds .result .from)
-    ≡ transcript-part (parameters (s .job .now)) (s .count) (s .transcripts .now) (s .m)
+    ≡ transcript-part (parametersOf (s .p)) (s .count) (s .transcripts .now) (s .m)
 lent c =
-    let s = c .before .before .before .before .before .before .before .args in
+    let s = c .before .before .before .before .before .before .args in
     between (s .transcripts .now) (span (transcript-sections (parametersOf (s .p)))) (s .count) (s .m) (c .transcript-bounds .result) (c .transcript-bounds .ensures)
-    ∙ ap (λ P. transcript-part P (s .count) (s .transcripts .now) (s .m)) (posed (c .before .before) .same)
 
 keep-requires : tie.Need-keep-requires
 keep-requires c κs =
     let b = c .before .before in
-    let s = b .before .before .before .before .before .before .before in (
-      s .pre .0 .0,
-      z-within _ _ (received (subst (λ X. Posed (s .args .job .now) X (s .args .p)) (sym (lent b)) (posed (b .before .before)))) _ (b .before .of-transcript .ensures),
-      s .pre .0 .3,
-    )
+    let s = b .before .before .before .before .before .before in
+    (s .pre .0 .0, z-within _ _ (subst (λ X. Received X (s .args .p)) (sym (lent b)) (received (b .before .before))) _ (b .before .of-transcript .ensures), s .pre .0 .3)
 
 returns : tie.Need-returns
 returns c =
     let b = c .before .before .before .before .before in
-    let s = b .before .before .before .before .before .before .before .args in
+    let s = b .before .before .before .before .before .before .args in
     let e = c .before .before .keep .ensures in
-    let r = z-stored (parameters (s .job .now)) (parametersOf (s .p)) _ _ (s .scratch .now) _ _ (s .start) (posed (b .before .before) .same) (lent b) (b .before .of-transcript .ensures) (e .0) (e .1) in
-    (r .0 ∙ ap (λ t. z-for (s .job .now) (s .transcripts .now) (s .count) (s .m) (s .start) t (s .scratch .now)) (sym (b .before .before .if1 .taken)), λ t. r .1)
+    let r = z-stored (parametersOf (s .p)) _ _ (s .scratch .now) _ _ (s .start) (lent b) (b .before .of-transcript .ensures) (e .0) (e .1) in
+    (r .0 ∙ ap (λ t. z-for (parametersOf (s .p)) (s .transcripts .now) (s .count) (s .m) (s .start) t (s .scratch .now)) (sym (b .before .before .if1 .taken)), λ t. r .1)
 
 returns-2 : tie.Need-returns-2
 returns-2 c =
-    let s = c .before .before .before .before .before .args in
-    (ap (λ t. z-for (s .job .now) (s .transcripts .now) (s .count) (s .m) (s .start) t (s .scratch .now)) (sym (c .if1 .left)), λ t. absurd (true≢false (sym t ∙ c .if1 .left)))
+    let s = c .before .before .before .before .args in
+    (ap (λ t. z-for (parametersOf (s .p)) (s .transcripts .now) (s .count) (s .m) (s .start) t (s .scratch .now)) (sym (c .if1 .left)), λ t. absurd (true≢false (sym t ∙ c .if1 .left)))
 
 pub keep-one-spec : {M : Type 1} → statement M
 keep-one-spec =
     tie.close
     (tie.spec
-    (λ c κs. (reckoned (posed c), omega arith))
+    (λ c κs. (received c .sized, omega arith))
     transcript-bounds-requires
     (λ c. omega (arith, order c))
     (λ c. order c .0)

@@ -8,9 +8,10 @@ use lib.ListN.{length, getD}
 use Rattle.protocol.specs.Parameters.{parameters}
 use Rattle.protocol.specs.Kept.{Kept}
 use Rattle.protocol.specs.Many.{many-need}
+use Rattle.relation.specs.Parameters.{parametersOf}
 use Rattle.workspace.proofs.Kept.{kept-refl}
 use Rattle.many_windows.specs.Digits.{Fitting}
-use Rattle.many_windows.proofs.Windows.{rowable-sized, posed, need-is, need-large, window-within}
+use Rattle.many_windows.proofs.Windows.{rowable-sized, part-received, need-is, need-large, window-within}
 use Rattle.many_windows.proofs.Digits.{Begun, begun-none, begun-next}
 use Rattle.many_windows.proofs.digits_of_all.Statement.{statement}
 use Rattle.many_windows.proofs.digits_of_all.Tie as tie
@@ -45,7 +46,7 @@ digits-of-one-requires c κs =
     let l = c .before .before .loop in
     let b = bounds (c .before) in (
       (c .before .loop-test .taken, b .2, omega (arith, b, l .inv .1, l .inv .3 .size, c .before .before .before .scratch-length .ensures, s .pre .0 .1)),
-      λ t. posed _ _ _ _ _ _ (s .pre .0 .0) _ (c .before .loop-test .taken) t,
+      λ t. part-received _ _ _ _ _ _ (s .pre .0 .0) _ (c .before .loop-test .taken) t,
     )
 
 loop-again : tie.Need-loop-again Inv-loop μ-loop
@@ -57,7 +58,9 @@ loop-again c =
     let at = l .inv .1 ∙ ap (λ k. l .m * k) (need-is _ _ _ _ _ _ (s .pre .0 .0) _ (n .ensures)) in
     let fitting = subst Fitting (s .pre .0 .0 .same) (s .pre .0 .1) in
     let room = subst (λ k. many-need (parameters (s .args .job .now)) (s .args .count) ≤ k) (sym (l .inv .3 .size)) (s .pre .0 .0 .room) in
-    let next = begun-next (s .args .job .now) (s .args .transcripts .now) (s .args .count) _ _ fitting (s .args .scratch .now) (l .scratch) _ (l .m) (l .start) room h at _ refl (c .before .before .digits-of-one .ensures) (l .inv .2, l .inv .3) in
+    let next =
+    begun-next (s .args .job .now) (s .args .transcripts .now) (s .args .count) _ _ fitting (s .args .scratch .now) (l .scratch) _ (l .m) (l .start) room h at
+    (parametersOf (s .args .p)) (s .pre .0 .0 .same) _ refl (c .before .before .digits-of-one .ensures) (l .inv .2, l .inv .3) in
     (omega arith, omega (arith, l .inv .1), next .0, next .1)
 
 returns : tie.Need-returns Inv-loop μ-loop

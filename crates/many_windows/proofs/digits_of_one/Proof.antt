@@ -1,67 +1,66 @@
 -- `digits_of_one` meets its contract: the words between the part's bounds are the transcript.
-use mathlib.Core.Path.{_≡_, sym, ap, ap₂, subst, _∙_}
+use mathlib.Core.Path.{_≡_, sym, ap, subst, _∙_}
 use mathlib.Core.List.{List}
 use Prim.Native.Nat.{ℕ, _-_, _≤_}
 use native.Mathlib.Omega.{arith}
 use borrow.Author.Needs.{needs}
 use lib.ListN.{length}
 use Rattle.lists.specs.Part.{part, splice}
-use Rattle.protocol.specs.Parameters.{parameters}
 use Rattle.protocol.specs.Layout.{span, transcript-sections}
 use Rattle.protocol.specs.Many.{transcript-part}
 use Rattle.many_parts.proofs.Cut.{in-order, between}
 use Rattle.relation.specs.Parameters.{parametersOf}
-use Rattle.verifier_common.specs.Work.{Posed}
-use Rattle.verifier_common.proofs.Sent.{reckoned, received}
+use Rattle.verifier_common.specs.Work.{Received}
 use Rattle.many_windows.specs.Digits.{window-digits, digits-for}
 use Rattle.many_windows.proofs.digits_of_one.Statement.{statement}
 use Rattle.many_windows.proofs.digits_of_one.Tie as tie
 
--- the transcript is posed
-posed : (c : tie.Then1)
-    → let s = c .before .before .before .before .args in
-    Posed (s .job .now) (transcript-part (parameters (s .job .now)) (s .count) (s .transcripts .now) (s .m)) (s .p)
-posed c = c .before .before .before .before .pre .1 (c .if1 .taken)
+-- the transcript is received
+received : (c : tie.Then1)
+    → let s = c .before .before .before .args in
+    Received (transcript-part (parametersOf (s .p)) (s .count) (s .transcripts .now) (s .m)) (s .p)
+received c = c .before .before .before .pre .1 (c .if1 .taken)
 
 transcript-bounds-requires : tie.Need-transcript-bounds-requires
 transcript-bounds-requires c κs =
-    let s = c .before .before .before .before in
-    (s .pre .0 .0, s .pre .0 .1, reckoned (posed c))
+    let s = c .before .before .before in
+    (s .pre .0 .0, s .pre .0 .1, received c .sized)
 
 -- the part's bounds
-order : (c : tie.After-transcript-bounds) → (c .transcript-bounds .result .from ≤ c .transcript-bounds .result .to) × (c .transcript-bounds .result .to ≤ length (c .before .before .before .before .before .args .transcripts .now))
+order : (c : tie.After-transcript-bounds)
+    → (c .transcript-bounds .result .from ≤ c .transcript-bounds .result .to)
+    × (c .transcript-bounds .result .to ≤ length (c .before .before .before .before .args .transcripts .now))
 order c =
-    let s = c .before .before .before .before .before .args in
+    let s = c .before .before .before .before .args in
     in-order (s .transcripts .now) (span (transcript-sections (parametersOf (s .p)))) (s .count) (s .m) (c .transcript-bounds .result) (c .transcript-bounds .ensures)
 
 -- what lies between them
 lent : (c : tie.After-transcript-bounds)
-    → let s = c .before .before .before .before .before .args in
+    → let s = c .before .before .before .before .args in
     part (s .transcripts .now) (c .transcript-bounds .result .from) (c .transcript-bounds .result .to - c .transcript-bounds .result .from)
-    ≡ transcript-part (parameters (s .job .now)) (s .count) (s .transcripts .now) (s .m)
+    ≡ transcript-part (parametersOf (s .p)) (s .count) (s .transcripts .now) (s .m)
 lent c =
-    let s = c .before .before .before .before .before .args in
+    let s = c .before .before .before .before .args in
     between (s .transcripts .now) (span (transcript-sections (parametersOf (s .p)))) (s .count) (s .m) (c .transcript-bounds .result) (c .transcript-bounds .ensures)
-    ∙ ap (λ P. transcript-part P (s .count) (s .transcripts .now) (s .m)) (posed (c .before) .same)
 
 store-window-requires : tie.Need-store-window-requires
 store-window-requires c κs =
     let b = c .before .before in
-    let s = c .before .before .before .before .before .before .before in
-    (received (subst (λ X. Posed (s .args .job .now) X (s .args .p)) (sym (lent b)) (posed (b .before))), s .pre .0 .2)
+    let s = c .before .before .before .before .before .before in
+    (subst (λ X. Received X (s .args .p)) (sym (lent b)) (received (b .before)), s .pre .0 .2)
 
 returns : tie.Need-returns
 returns c =
     let b = c .before .before .before .before .before in
-    let s = c .before .before .before .before .before .before .before .before .before .before .args in
+    let s = c .before .before .before .before .before .before .before .before .before .args in
     c .before .before .store-window .ensures
-    ∙ ap₂ (λ P X. splice (s .scratch .now) (s .start) (window-digits P X)) (posed (b .before) .same) (lent b)
-    ∙ ap (λ t. digits-for (s .job .now) (s .transcripts .now) (s .count) (s .m) (s .start) t (s .scratch .now)) (sym (b .before .if1 .taken))
+    ∙ ap (λ X. splice (s .scratch .now) (s .start) (window-digits (parametersOf (s .p)) X)) (lent b)
+    ∙ ap (λ t. digits-for (parametersOf (s .p)) (s .transcripts .now) (s .count) (s .m) (s .start) t (s .scratch .now)) (sym (b .before .if1 .taken))
 
 returns-2 : tie.Need-returns-2
 returns-2 c =
-    let s = c .before .before .before .before .args in
-    ap (λ t. digits-for (s .job .now) (s .transcripts .now) (s .count) (s .m) (s .start) t (s .scratch .now)) (sym (c .if1 .left))
+    let s = c .before .before .before .args in
+    ap (λ t. digits-for (parametersOf (s .p)) (s .transcripts .now) (s .count) (s .m) (s .start) t (s .scratch .now)) (sym (c .if1 .left))
 
 pub digits-of-one-spec : {M : Type 1} → statement M
 digits-of-one-spec =

@@ -8,12 +8,12 @@ use lib.ListN.{length}
 use Rattle.lists.specs.Part.{splice}
 use Rattle.lists.proofs.Splice.{length-splice}
 use Rattle.protocol.specs.Layout.{sections}
+use Rattle.protocol.proofs.Flat.{length-flat-table}
 use Rattle.relation.specs.Parameters.{parametersOf}
 use Rattle.prover_sections.specs.Sections.{u₁-in}
 use Rattle.workspace.proofs.Ready.{ready-sized}
 use Rattle.prover_sections.proofs.SectionMade.{u₁-stored}
 use Rattle.prover_p_and_b.proofs.TranscriptSections.{next-place, section-stored}
-use Rattle.prover_commit.proofs.Lengths.{length-elements}
 use Rattle.prover_commit.proofs.Room.{fits-product, placed, base-room, B-room, C-room, t-cells, g-cells}
 use Rattle.prover_p_and_b.proofs.SectionRoom.{fits-words, fits-count, section-room, count-room, words-room, fits-next, fits-end}
 use Rattle.prover_sections.proofs.compute_u1.Statement.{statement}
@@ -28,7 +28,7 @@ bytes c = omega arith
 
 -- the section's words, and their room
 size : (c : tie.Start) → length (u₁-in (parametersOf (c .args .p)) (c .args .q) (c .args .scratch .now) (c .args .job .now)) ≡ 64 * c .args .p .«kappa_1»
-size c = length-elements (c .args .p .«kappa_1») _
+size c = length-flat-table (c .args .p .«kappa_1») _
 
 room : (c : tie.Start) → c .args .at + 1 + 64 * c .args .p .«kappa_1» ≤ length (c .args .output .now)
 room c = section-room (c .args .at) (64 * c .args .p .«kappa_1») (u₁-in (parametersOf (c .args .p)) (c .args .q) (c .args .scratch .now) (c .args .job .now)) (c .args .output .now) (size c) (c .pre .1)

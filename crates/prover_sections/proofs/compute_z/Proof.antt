@@ -8,9 +8,9 @@ use lib.ListN.{length}
 use Rattle.lists.specs.Part.{splice}
 use Rattle.lists.proofs.Splice.{length-splice}
 use Rattle.protocol.specs.Layout.{sections}
+use Rattle.protocol.proofs.Flat.{length-flat-table}
 use Rattle.relation.specs.Parameters.{parametersOf}
 use Rattle.prover_sections.specs.Sections.{z-in}
-use Rattle.prover_commit.proofs.Lengths.{length-elements}
 use Rattle.prover_p_and_b.proofs.TranscriptSections.{next-place, section-stored}
 use Rattle.prover_p_and_b.proofs.SectionRoom.{fits-words, fits-count, section-room, count-room, words-room, fits-next, fits-end}
 use Rattle.prover_sections.proofs.compute_z.Statement.{statement}
@@ -25,7 +25,7 @@ bytes c = omega arith
 
 -- the section's words, and their room
 size : (c : tie.Start) → length (z-in (parametersOf (c .args .p)) (c .args .q) (c .args .scratch .now) (c .args .witness .now)) ≡ 64 * c .args .p .rank
-size c = length-elements (c .args .p .rank) _
+size c = length-flat-table (c .args .p .rank) _
 
 room : (c : tie.Start) → c .args .at + 1 + 64 * c .args .p .rank ≤ length (c .args .output .now)
 room c = section-room (c .args .at) (64 * c .args .p .rank) (z-in (parametersOf (c .args .p)) (c .args .q) (c .args .scratch .now) (c .args .witness .now)) (c .args .output .now) (size c) (c .pre .2)

@@ -4,10 +4,11 @@ use Prim.Native.Nat.{_+_, _-_, _≤_}
 use native.Mathlib.Omega.{arith}
 use lib.ListN.{getD}
 use Rattle.definitions.specs.Answer.{fine}
+use Rattle.definitions.proofs.Leaf.{within-fine}
 use Rattle.protocol.specs.Checks.{first}
 use Rattle.section_one.specs.SectionOne.{limit-at}
 use Rattle.protocol.proofs.First.{first-next, first-found}
-use Rattle.section_one.proofs.Limits.{limited-low, limited-high, limited-within}
+use Rattle.section_one.proofs.Limits.{limited-low, limited-high}
 use Rattle.section_one.proofs.first_out_of_limits.Statement.{statement}
 use Rattle.section_one.proofs.first_out_of_limits.Tie as tie
 
@@ -46,7 +47,7 @@ loop-again c =
     let value = getD (s .job .now) (l .k + 1) 0 in
     let low = getD (s .t2) (l .k + 1) 0 in
     let high = getD (s .t3) (l .k + 1) 0 in
-    (omega arith, first-next (l .k) _ (l .inv .1) (limited-within low high (l .k + 1) value (omega arith) (omega arith)))
+    (omega arith, first-next (l .k) _ (l .inv .1) (within-fine 4 low high (l .k + 1) value (omega arith) (omega arith)))
 
 returns-3 : tie.Need-returns-3 Inv-loop μ-loop
 returns-3 c =

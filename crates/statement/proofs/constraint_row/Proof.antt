@@ -1,5 +1,6 @@
 -- `constraint_row` meets its contract.
 use mathlib.Core.Path.{ap}
+use Prim.Native.Nat.{_+_}
 use native.Mathlib.Omega.{arith}
 use borrow.Author.Needs.{needs}
 use Rattle.definitions.specs.Ring.{element}
@@ -32,7 +33,7 @@ constraint-row-spec =
     (tie.spec
     (λ c κs. omega arith)
     (λ c κs. omega arith)
-    (λ c κs. omega (arith, rows-within (c .before .before .before .before .args .i) (c .before .before .before .before .args .r) (c .before .before .before .before .args .n) (omega arith)))
+    (λ c κs. omega (arith, rows-within (c .before .before .before .before .args .i) (c .before .before .before .before .args .i + 1) (c .before .before .before .before .args .n) (omega arith)))
     (λ c. omega arith)
     (λ c. omega arith)
     (λ c κs. omega arith)

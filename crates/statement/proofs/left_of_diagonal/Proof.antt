@@ -15,21 +15,21 @@ use Rattle.statement.proofs.left_of_diagonal.Statement.{statement}
 use Rattle.statement.proofs.left_of_diagonal.Tie as tie
 
 abbrev Inv-loop : tie.InvT-loop
-Inv-loop a row s s-at r n i s-i total₀ place₀ s-j₀ j₀ total place s-j j =
+Inv-loop a row s s-at n i s-i total₀ place₀ s-j₀ j₀ total place s-j j =
     (j ≤ i) × (place ≡ row + 64 * j) × (s-j ≡ s-at + 64 * (j * n)) × (total .coeffs ≡ words (sum j (λ k. run a row 64 k ⊗ gram s s-at n i k)))
 
 abbrev μ-loop : tie.MeasureT-loop
-μ-loop a row s s-at r n i s-i total₀ place₀ s-j₀ j₀ total place s-j j = i - j
+μ-loop a row s s-at n i s-i total₀ place₀ s-j₀ j₀ total place s-j j = i - j
 
 inner-product-requires : tie.Need-inner-product-requires Inv-loop μ-loop
 inner-product-requires c κs =
     let s = c .before .before .before .before .before .before .args in
-    omega (arith, rows-within (s .i) (s .r) (s .n) (omega arith), rows-within (c .before .loop .j) (s .r) (s .n) (omega arith))
+    omega (arith, rows-within (s .i) (s .i + 1) (s .n) (omega arith), rows-within (c .before .loop .j) (s .i + 1) (s .n) (omega arith))
 
 add-s-j : tie.Need-add-s-j Inv-loop μ-loop
 add-s-j c =
     let s = c .before .before .before .before .before .before .before .before .before .before .args in
-    omega (arith, rows-within (c .before .before .before .before .before .loop .j) (s .r) (s .n) (omega arith))
+    omega (arith, rows-within (c .before .before .before .before .before .loop .j) (s .i + 1) (s .n) (omega arith))
 
 loop-again : tie.Need-loop-again Inv-loop μ-loop
 loop-again c =

@@ -12,7 +12,7 @@ use Rattle.inner_product.specs.Run.{run}
 use Rattle.protocol.specs.Parameters.{triangular}
 use Rattle.protocol.specs.Formulas.{sum}
 use Rattle.rq_matrix.specs.Region.{vector, gram, mirrored-row}
-use Rattle.rq_matrix.proofs.Place.{triangular-suc, triangle-within, run-from}
+use Rattle.rq_matrix.proofs.Place.{rows-within, triangular-suc, triangle-within, run-from}
 use Rattle.rq_matrix.proofs.Word.{stands-for, total-none, total-next}
 use Rattle.rq_matrix.proofs.Mirror.{triangle-by-rows}
 use Rattle.statement.proofs.quadratic.Statement.{statement}
@@ -32,7 +32,7 @@ abbrev μ-loop : tie.MeasureT-loop
 constraint-row-requires : tie.Need-constraint-row-requires Inv-loop μ-loop
 constraint-row-requires c κs =
     let s = c .before .before .before .before .before .args in
-    omega (arith, triangle-within (c .before .loop .i) (s .r) (omega arith))
+    omega (arith, triangle-within (c .before .loop .i) (s .r) (omega arith), rows-within (c .before .loop .i) (s .r) (s .n) (omega arith))
 
 loop-again : tie.Need-loop-again Inv-loop μ-loop
 loop-again c =

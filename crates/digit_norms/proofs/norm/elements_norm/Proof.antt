@@ -11,8 +11,9 @@ use Rattle.lists.proofs.Sum.{Σ-suc}
 use Rattle.definitions.specs.Answer.{value128}
 use Rattle.definitions.specs.Norm.{norm}
 use Rattle.definitions.specs.Ring.{words, element}
+use Rattle.protocol.proofs.Norms.{norm-of-table}
 use Rattle.inner_product.specs.Run.{run}
-use Rattle.digit_norms.proofs.Squares.{norm-settled, norm-of-table, norm-of-run}
+use Rattle.digit_norms.proofs.Squares.{norm-settled, norm-of-run}
 use Rattle.digit_norms.proofs.norm.elements_norm.Statement.{statement}
 use Rattle.digit_norms.proofs.norm.elements_norm.Tie as tie
 

@@ -6,7 +6,7 @@ use lib.ListN.{length}
 use Rattle.lists.specs.Part.{splice}
 use Rattle.protocol.specs.Parameters.{triangular}
 use Rattle.protocol.specs.Formulas.{flat, triangle}
-use Rattle.rq_matrix.proofs.Place.{triangular-suc, triangle-within}
+use Rattle.rq_matrix.proofs.Place.{rows-within, triangular-suc, triangle-within}
 use Rattle.rq_matrix.proofs.Fill.{length-filled, triangle-none, triangle-next}
 use Rattle.rq_matrix.specs.Region.{gram}
 use Rattle.garbage_polynomials.proofs.g.compute_g.Statement.{statement}
@@ -20,7 +20,10 @@ abbrev μ-loop : tie.MeasureT-loop
 μ-loop s s-at r n out₀ out-at place₀ i₀ out place i = r - i
 
 g-row-requires : tie.Need-g-row-requires Inv-loop μ-loop
-g-row-requires c κs = omega (arith, triangle-within (c .before .before .loop .i) (c .before .before .before .before .before .args .r) (omega arith))
+g-row-requires c κs =
+    let s = c .before .before .before .before .before .args in
+    let i = c .before .before .loop .i in
+    omega (arith, triangle-within i (s .r) (omega arith), rows-within i (s .r) (s .n) (omega arith))
 
 loop-again : tie.Need-loop-again Inv-loop μ-loop
 loop-again c =

@@ -15,21 +15,21 @@ use Rattle.garbage_polynomials.proofs.g.g_row.Statement.{statement}
 use Rattle.garbage_polynomials.proofs.g.g_row.Tie as tie
 
 abbrev Inv-loop : tie.InvT-loop
-Inv-loop s s-at r n i out₀ out-at row column₀ place₀ j₀ out column place j =
+Inv-loop s s-at n i out₀ out-at row column₀ place₀ j₀ out column place j =
     (j ≤ i + 1) × (column ≡ s-at + 64 * (j * n)) × (place ≡ out-at + 64 * j) × (out ≡ splice out₀ out-at (flat (table j (gram s s-at n i)))) × (length out ≡ length out₀)
 
 abbrev μ-loop : tie.MeasureT-loop
-μ-loop s s-at r n i out₀ out-at row column₀ place₀ j₀ out column place j = i + 1 - j
+μ-loop s s-at n i out₀ out-at row column₀ place₀ j₀ out column place j = i + 1 - j
 
 inner-product-requires : tie.Need-inner-product-requires Inv-loop μ-loop
 inner-product-requires c κs =
     let s = c .before .before .before .before .before .before .args in
-    omega (arith, rows-within (s .i) (s .r) (s .n) (omega arith), rows-within (c .before .before .loop .j) (s .r) (s .n) (omega arith))
+    omega (arith, rows-within (s .i) (s .i + 1) (s .n) (omega arith), rows-within (c .before .before .loop .j) (s .i + 1) (s .n) (omega arith))
 
 add-column : tie.Need-add-column Inv-loop μ-loop
 add-column c =
     let s = c .before .before .before .before .before .before .before .before .before .before .args in
-    omega (arith, rows-within (c .before .before .before .before .before .before .loop .j) (s .r) (s .n) (omega arith))
+    omega (arith, rows-within (c .before .before .before .before .before .before .loop .j) (s .i + 1) (s .n) (omega arith))
 
 loop-again : tie.Need-loop-again Inv-loop μ-loop
 loop-again c =

@@ -7,7 +7,7 @@ use Rattle.lists.specs.Part.{splice}
 use Rattle.protocol.specs.Parameters.{triangular}
 use Rattle.protocol.specs.Formulas.{flat, triangle}
 use Rattle.protocol.proofs.Flat.{length-triangle}
-use Rattle.rq_matrix.proofs.Place.{triangular-suc, triangle-within, apart-part}
+use Rattle.rq_matrix.proofs.Place.{rows-within, triangular-suc, triangle-within, apart-part}
 use Rattle.rq_matrix.proofs.Fill.{length-filled, triangle-none, triangle-next, apart-filled}
 use Rattle.garbage_polynomials.specs.Garbage.{h-of}
 use Rattle.garbage_polynomials.proofs.Cell.{h-row-kept}
@@ -26,12 +26,13 @@ h-row-requires c κs =
     let at-start = c .before .before .before .before .before in
     let s = at-start .args in
     let l = c .before .before .loop in
-    let within = triangle-within (l .i) (s .r) (omega arith) in (
+    let within = triangle-within (l .i) (s .r) (omega arith) in
+    let vectors = rows-within (l .i) (s .r) (s .n) (omega arith) in (
       omega arith,
       omega arith,
       omega arith,
-      apart-part (s .phi-at) (64 * (s .r * s .n)) (s .out-at) (64 * triangular (s .r)) (s .phi-at) (64 * (s .r * s .n)) (l .place) (64 * (l .i + 1)) (at-start .pre .3) (omega arith) (omega arith) (omega arith) (omega arith),
-      omega arith,
+      apart-part (s .phi-at) (64 * (s .r * s .n)) (s .out-at) (64 * triangular (s .r)) (s .phi-at) (64 * ((l .i + 1) * s .n)) (l .place) (64 * (l .i + 1))
+          (at-start .pre .3) (omega arith) (omega arith) (omega arith) (omega arith),
       omega arith,
       omega arith,
     )

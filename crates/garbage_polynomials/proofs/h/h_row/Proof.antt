@@ -17,26 +17,26 @@ use Rattle.garbage_polynomials.proofs.h.h_row.Statement.{statement}
 use Rattle.garbage_polynomials.proofs.h.h_row.Tie as tie
 
 abbrev Inv-loop : tie.InvT-loop
-Inv-loop s s-at r n i scratch₀ phi-at out-at s-i phi-i s-j₀ phi-j₀ place₀ j₀ scratch s-j phi-j place j =
+Inv-loop s s-at n i scratch₀ phi-at out-at s-i phi-i s-j₀ phi-j₀ place₀ j₀ scratch s-j phi-j place j =
     (j ≤ i + 1) × (s-j ≡ s-at + 64 * (j * n)) × (phi-j ≡ phi-at + 64 * (j * n)) × (place ≡ out-at + 64 * j) × (scratch ≡ splice scratch₀ out-at (flat (table j (h-of scratch₀ phi-at s s-at n i)))) × (length scratch ≡ length scratch₀)
 
 abbrev μ-loop : tie.MeasureT-loop
-μ-loop s s-at r n i scratch₀ phi-at out-at s-i phi-i s-j₀ phi-j₀ place₀ j₀ scratch s-j phi-j place j = i + 1 - j
+μ-loop s s-at n i scratch₀ phi-at out-at s-i phi-i s-j₀ phi-j₀ place₀ j₀ scratch s-j phi-j place j = i + 1 - j
 
 h-cell-requires : tie.Need-h-cell-requires Inv-loop μ-loop
 h-cell-requires c κs =
     let s = c .before .before .before .before .before .before .before .args in
-    omega (arith, rows-within (s .i) (s .r) (s .n) (omega arith), rows-within (c .before .before .loop .j) (s .r) (s .n) (omega arith))
+    omega (arith, rows-within (s .i) (s .i + 1) (s .n) (omega arith), rows-within (c .before .before .loop .j) (s .i + 1) (s .n) (omega arith))
 
 add-s-j : tie.Need-add-s-j Inv-loop μ-loop
 add-s-j c =
     let s = c .before .before .before .before .before .before .before .before .before .before .before .before .args in
-    omega (arith, rows-within (c .before .before .before .before .before .before .before .loop .j) (s .r) (s .n) (omega arith))
+    omega (arith, rows-within (c .before .before .before .before .before .before .before .loop .j) (s .i + 1) (s .n) (omega arith))
 
 add-phi-j : tie.Need-add-phi-j Inv-loop μ-loop
 add-phi-j c =
     let s = c .before .before .before .before .before .before .before .before .before .before .before .before .args in
-    omega (arith, rows-within (c .before .before .before .before .before .before .before .loop .j) (s .r) (s .n) (omega arith))
+    omega (arith, rows-within (c .before .before .before .before .before .before .before .loop .j) (s .i + 1) (s .n) (omega arith))
 
 loop-again : tie.Need-loop-again Inv-loop μ-loop
 loop-again c =
@@ -46,9 +46,11 @@ loop-again c =
     let φ-i = c .before .before .before .before .before .before .before .before .vector-at2 in
     let s-i = c .before .before .before .before .before .before .before .before .before .vector-at in
     let row = h-of (s .scratch .now) (s .phi-at) (s .s .now) (s .s-at) (s .n) (s .i) in
-    let apart = apart-filled (s .phi-at) (64 * (s .r * s .n)) (s .out-at) (64 * (s .i + 1)) (table (l .j) row) (at-start .pre .3) (omega (arith, length-table (l .j) row)) in
+    let apart = apart-filled (s .phi-at) (64 * ((s .i + 1) * s .n)) (s .out-at) (64 * (s .i + 1)) (table (l .j) row) (at-start .pre .3) (omega (arith, length-table (l .j) row)) in
     let now = h-places (l .scratch) (s .s .now) (s .phi-at) (s .s-at) (s .n) _ (s .i) (l .j) (φ-i .result) (l .phi-j) (s-i .result) (l .s-j) (c .before .before .before .before .h-cell .ensures) (φ-i .ensures) (l .inv .2) (s-i .ensures) (l .inv .1) in
-    let kept = h-kept (l .scratch) (s .scratch .now) (s .out-at) (flat (table (l .j) row)) (s .phi-at) (s .r) (s .n) (l .inv .4) apart (s .s .now) (s .s-at) (s .i) (l .j) (omega arith) (omega arith) in
+    let kept =
+    h-kept (l .scratch) (s .scratch .now) (s .out-at) (flat (table (l .j) row)) (s .phi-at) (s .i + 1) (s .n) (l .inv .4) apart
+    (s .s .now) (s .s-at) (s .i) (l .j) (omega arith) (omega arith) in
     let stored = c .before .before .store .ensures in (
       omega arith,
       omega arith,

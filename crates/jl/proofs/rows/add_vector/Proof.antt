@@ -9,8 +9,9 @@ use lib.ListN.{length, getD, set, length-set}
 use Rattle.lists.specs.Table.{table}
 use Rattle.lists.specs.Part.{splice}
 use Rattle.lists.proofs.Splice.{splice-nil, length-splice}
+use Rattle.lists.proofs.Fill.{added-stored, unfilled, filled}
 use Rattle.jl.specs.Rows.{flipped-row, row-added, SumsRoom}
-use Rattle.jl.proofs.Made.{Words, row-small, fill, unfilled, filled}
+use Rattle.jl.proofs.Made.{Words, row-small}
 use Rattle.jl.proofs.rows.add_vector.Statement.{statement}
 use Rattle.jl.proofs.rows.add_vector.Tie as tie
 
@@ -53,7 +54,7 @@ module _ (l R : List ℕ) (at : ℕ) (W : List ℕ) (wt width : ℕ) where
       → (k < length sums) × (getD sums k 0 + x < 2 ^ 64)
   room sums k p x h u b e i v = (
     omega (arith, ap length e ∙ length-splice l 0 (table k (row-added l R at W wt width)), h .0),
-    omega (arith, unfilled l sums k k (row-added l R at W wt width) e (omega arith), h .1 k i, row-small R p W wt width u, v, mul-le-mul-right 8589934590 b),
+    omega (arith, unfilled l sums k k (row-added l R at W wt width) 0 e (omega arith), h .1 k i, row-small R p W wt width u, v, mul-le-mul-right 8589934590 b),
   )
 
   -- row k added
@@ -61,7 +62,7 @@ module _ (l R : List ℕ) (at : ℕ) (W : List ℕ) (wt width : ℕ) where
       → p ≡ at + k * width → k + 1 ≡ next → sums′ ≡ splice l 0 (table next (row-added l R at W wt width))
   raised sums sums′ k p x next e s v place n =
       s
-      ∙ fill l sums k (row-added l R at W wt width) x e (ap (λ y. getD l k 0 + y) (sym (v ∙ ap (λ q. flipped-row R q W wt width) place)))
+      ∙ added-stored l sums k (row-added l R at W wt width) x e (ap (λ y. getD l k 0 + y) (sym (v ∙ ap (λ q. flipped-row R q W wt width) place)))
       ∙ ap (λ m. splice l 0 (table m (row-added l R at W wt width))) n
 
 raise-requires : tie.Need-raise-requires Inv-loop μ-loop
@@ -134,7 +135,7 @@ returns c =
     let l = c .before .loop in
     let n : l .j ≡ 256 = omega arith in
     let rows = row-added (s .sums .now) (s .randomness .now) (s .at) (s .witness .now) (s .wt) (s .width) in
-    filled (s .sums .now) (l .sums) 256 rows (c .before .before .before .before .before .pre .3 .0) (l .inv .2 ∙ ap (λ m. splice (s .sums .now) 0 (table m rows)) n)
+    filled 256 (l .j) (s .sums .now) (l .sums) rows 0 (l .inv .2) n (c .before .before .before .before .before .pre .3 .0)
 
 pub add-vector-spec : {M : Type 1} → statement M
 add-vector-spec =

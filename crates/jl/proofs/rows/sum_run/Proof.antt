@@ -8,8 +8,9 @@ use borrow.Author.Needs.{needs}
 use lib.ListN.{length, length-replicate}
 use Rattle.lists.specs.Table.{table}
 use Rattle.lists.proofs.Table.{length-table}
+use Rattle.lists.proofs.Rows.{rows-within}
 use Rattle.jl.specs.Run.{made-sum}
-use Rattle.jl.proofs.Places.{rows-within, vector-within}
+use Rattle.jl.proofs.Places.{matrices-within}
 use Rattle.jl.proofs.Made.{Words, none-made, made-next, made-room}
 use Rattle.jl.proofs.rows.sum_run.Statement.{statement}
 use Rattle.jl.proofs.rows.sum_run.Tie as tie
@@ -32,12 +33,12 @@ loop-holds c =
 place : tie.Need-add-at Inv-loop μ-loop
 place c =
     let s = c .before .before .before .before .before .args in
-    omega (arith, rows-within (c .before .loop .i) (s .end) (64 * s .n) (omega arith))
+    omega (arith, matrices-within (c .before .loop .i) (s .end) (64 * s .n) (omega arith))
 
 vector-place : tie.Need-add-wt Inv-loop μ-loop
 vector-place c =
     let s = c .before .before .before .before .before .args in
-    omega (arith, vector-within (c .before .loop .i) (s .end) (64 * s .n) (omega arith))
+    omega (arith, rows-within (c .before .loop .i) (s .end) (64 * s .n) (omega arith))
 
 add-vector-requires : tie.Need-add-vector-requires Inv-loop μ-loop
 add-vector-requires c κs =
@@ -45,8 +46,8 @@ add-vector-requires c κs =
     let h = c .before .before .before .before .before .before .pre .0 in
     let l = c .before .before .loop in
     let words : Words (s .witness .now) = λ k. omega (arith, c .before .before .before .before .shared-slice-known2 .given k) in (
+      omega (arith, matrices-within (l .i) (s .end) (64 * s .n) (omega arith)),
       omega (arith, rows-within (l .i) (s .end) (64 * s .n) (omega arith)),
-      omega (arith, vector-within (l .i) (s .end) (64 * s .n) (omega arith)),
       omega arith,
       made-room (s .randomness .now) (s .pi-at) (s .witness .now) (s .s-at) (s .n) (s .first) (l .sums) (l .i - s .first) words (h .narrow) (omega (arith, h .few)) (l .inv .2),
     )

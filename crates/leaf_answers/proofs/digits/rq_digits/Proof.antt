@@ -9,9 +9,10 @@ use borrow.Author.Tests.{lt-ltb, le-ltb}
 use lib.ListN.{length}
 use Rattle.lists.specs.Part.{splice}
 use Rattle.definitions.specs.Answer.{fine, refused, _then_, ofOperands}
+use Rattle.definitions.proofs.Fine.{then-fine}
 use Rattle.leaf_answers.specs.Answers.{statusOf}
 use Rattle.leaf_answers.specs.Rows.{roomFor2048, rowsOrZero, rowWords, wordsWritten}
-use Rattle.leaf_answers.proofs.Result.{is-fine, refused-first, then-fine}
+use Rattle.leaf_answers.proofs.Result.{is-fine, refused-first}
 use Rattle.leaf_answers.proofs.digits.rq_digits.Statement.{statement}
 use Rattle.leaf_answers.proofs.digits.rq_digits.Tie as tie
 
@@ -59,7 +60,7 @@ returns-3 c =
     let o = c .before .before .before .before .before .before .before .rq-digit-operands in
     let h : 2048 ≤ length (a .out .now) = omega arith in (
       c .before .before .before .before .before .before .status-of .ensures
-          ∙ ap statusOf (then-fine (ofOperands (o .result)) ∙ ap₂ _then_ (o .ensures) (roomy (length (a .out .now)) h)),
+          ∙ ap statusOf (sym (then-fine (ofOperands (o .result))) ∙ ap₂ _then_ (o .ensures) (roomy (length (a .out .now)) h)),
       written (a .base) (a .parts) (a .a .coeffs) (a .out .now) _ _ h (c .before .before .before .before .rq-digit-rows .ensures) (c .before .before .store-rows .ensures),
     )
 

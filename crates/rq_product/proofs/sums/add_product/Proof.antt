@@ -12,6 +12,7 @@ use Rattle.lists.proofs.Table.{getD-table}
 use Rattle.lists.proofs.Padded.{padded-none, padded-done}
 use Rattle.definitions.specs.Zq.{Q}
 use Rattle.definitions.specs.Rq.{coeff, rmul}
+use Rattle.definitions.proofs.Modulo.{add-remainder}
 use Rattle.rq_product.specs.Product.{extended, reversed, folded, growth}
 use Rattle.rq_product.specs.Sums.{Added}
 use Rattle.rq_product.proofs.Fours.{padded-four}
@@ -32,14 +33,11 @@ added sums a b x y result ex ey wa wb e = record {
   value = λ k h.
       ap (λ r. getD r k 0 % Q) e
       ∙ ap (λ v. v % Q) (getD-table 64 (with-kernel sums x y) k 0 h)
-      ∙ sums-mod (getD sums k 0) (folded x y (k + 1)) _ (product-at x y a b (ex, ey, wa) k h);
+      ∙ add-remainder Q (getD sums k 0) (folded x y (k + 1)) _ (product-at x y a b (ex, ey, wa) k h);
   bound = λ k h.
       let f = kernel-fits a b x y ex ey wa wb in
       omega (arith, ap (λ r. getD r k 0) e ∙ getD-table 64 (with-kernel sums x y) k 0 h, folded-small x y (k + 1) (omega arith) (omega arith) (f .2) (f .3));
 }
-  where
-    sums-mod : (s p v : ℕ) → p % Q ≡ v → (s + p) % Q ≡ (s + v) % Q
-    sums-mod s p v h = omega arith
 
 abbrev Inv-loop : tie.InvT-loop
 Inv-loop sums y x out₀ b₀ out b = (b ≤ 16) × (out ≡ padded 64 (4 * b) 0 (with-kernel sums x y))
