@@ -4,6 +4,7 @@ use definitions::answers::FailedCheck;
 use inner_product::Strided;
 use regions::Regions;
 use relation::env_params::EnvironmentParameters;
+use sizes::names;
 use sizes::offsets;
 use verifier_common::equal;
 ghost use mathlib.Core.Path.{_≡_};
@@ -25,20 +26,20 @@ pub fn check_relation(
     requires { ⌜ Sent (now job) (now randomness) (now transcript) p × Ready (now job) p q (now scratch) × Multiplied (now job) (now randomness) q (now scratch) ⌝ }
     ensures { λ v. ⌜ ofChecked v ≡ relation (now (job .entry)) (now (randomness .entry)) (now (transcript .entry)) ⌝ }
 {
-    let g_at = offsets::of_transcript(p, 6);
-    let h_at = offsets::of_transcript(p, 7);
+    let g_at = offsets::of_transcript(p, names::G);
+    let h_at = offsets::of_transcript(p, names::H);
     let r = p.multiplicity;
     let products = rq_matrix::sum_of_products(scratch, q.a, transcript, g_at, r);
     let diagonal = rq_matrix::diagonal_sum(transcript, h_at, r);
     let constraints = Strided {
-        at: offsets::of_job(p, 5),
+        at: offsets::of_job(p, names::RING_B),
         step: 64,
         count: p.constraint_k,
     };
-    let alpha = offsets::of_randomness(p, 3);
-    let beta = offsets::of_randomness(p, 4);
+    let alpha = offsets::of_randomness(p, names::ALPHA);
+    let beta = offsets::of_randomness(p, names::BETA);
     let aggregated = Strided {
-        at: offsets::of_transcript(p, 2),
+        at: offsets::of_transcript(p, names::B_DOUBLE_PRIME),
         step: 64,
         count: p.const_agg_length,
     };

@@ -5,6 +5,7 @@ use load_draw::Rule;
 use load_needs::LabradorParameters;
 use load_sums::Target;
 use relation::env_params::EnvironmentParameters;
+use sizes::names;
 use sizes::offsets;
 use sizes::slices;
 ghost use mathlib.Core.Path.{_≡_};
@@ -72,15 +73,15 @@ fn work_out(p: EnvironmentParameters, job: &mut [u32], witness: &[u32])
     ensures { λ _. ⌜ now (job .exit) ≡ sums-of (parametersOf p) (now (job .entry)) (now (witness .entry)) ⌝ }
 {
     let target = Target {
-        b0_at: offsets::of_job(p, 2),
+        b0_at: offsets::of_job(p, names::CONSTANT_B),
         l: p.constraint_l,
-        b_at: offsets::of_job(p, 5),
+        b_at: offsets::of_job(p, names::RING_B),
         k: p.constraint_k,
     };
-    let a0 = offsets::of_job(p, 0);
-    let phi0 = offsets::of_job(p, 1);
-    let a = offsets::of_job(p, 3);
-    let phi = offsets::of_job(p, 4);
+    let a0 = offsets::of_job(p, names::CONSTANT_A);
+    let phi0 = offsets::of_job(p, names::CONSTANT_PHI);
+    let a = offsets::of_job(p, names::RING_A);
+    let phi = offsets::of_job(p, names::RING_PHI);
     let r = p.multiplicity;
     let n = p.rank;
     load_constraints::add_left(job, target, a0, phi0, a, phi, witness, 1, r, n);

@@ -5,6 +5,7 @@ use many_parts;
 use ntt::table;
 use relation::env_params::EnvironmentParameters;
 use sizes::buffers;
+use sizes::names;
 use sizes::offsets;
 use words;
 ghost use mathlib.Core.Path.{_≡_};
@@ -51,7 +52,7 @@ fn keep_one(
     ensures { λ _. ⌜ (pass ≡ true → Keeps-z (parametersOf p) (now (transcripts .entry)) count m start (now (scratch .exit))) ⌝ }
 {
     if pass {
-        let z_at = offsets::of_transcript(p, 4);
+        let z_at = offsets::of_transcript(p, names::Z);
         let b = many_parts::transcript_bounds(transcripts.len(), p, count, m);
         let from = b.from;
         let to = b.to;
@@ -122,7 +123,7 @@ fn row_of_all(
 {
     let n = p.rank;
     let need = buffers::scratch_length(p);
-    let row_at = offsets::of_job(p, 6) + 64 * (row * n);
+    let row_at = offsets::of_job(p, names::MATRIX_A) + 64 * (row * n);
     let mut values = [0u32; 12288];
     kept_vectors::keep(job, row_at, n, w, &mut values, 0);
     let mut m = 0;

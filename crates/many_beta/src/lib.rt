@@ -3,6 +3,7 @@ use definitions::answers::Checked;
 use inner_product;
 use regions::Regions;
 use relation::env_params::EnvironmentParameters;
+use sizes::names;
 use sizes::offsets;
 use verifier_relations::relations;
 use words;
@@ -65,7 +66,7 @@ pub fn phi(
     ensures { λ _. ⌜ now (window .exit) ≡ splice (now (window .entry)) (q .phi) (φ-words (now (job .entry)) (now (randomness .entry))) ⌝ }
 {
     if weighed {
-        let beta = offsets::of_randomness(p, 4);
+        let beta = offsets::of_randomness(p, names::BETA);
         let width = p.multiplicity * p.rank;
         add_beta(
             randomness,

@@ -6,6 +6,7 @@ use relation::env_params::EnvironmentParameters;
 use rq::rq::Rq;
 use rq_matrix;
 use sizes::buffers;
+use sizes::names;
 use sizes::offsets;
 use verifier_common::equal;
 use words;
@@ -45,7 +46,7 @@ pub fn check_az(
     requires { ⌜ Rows-done (now job) (now transcript) (now window) (row-count (parameters (now job))) ⌝ }
     ensures { λ v. ⌜ ofChecked v ≡ az-of (now (job .entry)) (now (transcript .entry)) (challenges-in (now (window .entry)) q) ⌝ }
 {
-    let t_at = offsets::of_transcript(p, 5);
+    let t_at = offsets::of_transcript(p, names::T);
     let kappa = p.kappa;
     let mut k = 0;
     while k < kappa {
@@ -78,7 +79,7 @@ pub fn check_u1(
     requires { ⌜ Rows-done (now job) (now transcript) (now window) (row-count (parameters (now job))) ⌝ }
     ensures { λ v. ⌜ ofChecked v ≡ u1-differs (now (job .entry)) (now (transcript .entry)) ⌝ }
 {
-    let u_at = offsets::of_transcript(p, 0);
+    let u_at = offsets::of_transcript(p, names::U1);
     let rows = p.kappa_1;
     let b = p.kappa;
     let c = b + rows;
@@ -106,7 +107,7 @@ pub fn check_u2(
     requires { ⌜ Rows-done (now job) (now transcript) (now window) (row-count (parameters (now job))) ⌝ }
     ensures { λ v. ⌜ ofChecked v ≡ u2-differs (now (job .entry)) (now (transcript .entry)) ⌝ }
 {
-    let u_at = offsets::of_transcript(p, 3);
+    let u_at = offsets::of_transcript(p, names::U2);
     let rows = p.kappa_2;
     let d = p.kappa + p.kappa_1 + p.kappa_1;
     let mut k = 0;

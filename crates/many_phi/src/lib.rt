@@ -5,6 +5,7 @@ use many_alpha::Windows;
 use regions;
 use relation::env_params::EnvironmentParameters;
 use sizes::buffers;
+use sizes::names;
 use sizes::offsets;
 use sizes::slices;
 ghost use mathlib.Core.Path.{_≡_};
@@ -30,7 +31,7 @@ pub fn windows(p: EnvironmentParameters, count: usize) -> Windows
         count,
         need: buffers::scratch_length(p),
         len: sections::span(slices::randomness_sections(p, 7), 0, 7),
-        alpha: offsets::of_randomness(p, 3),
+        alpha: offsets::of_randomness(p, names::ALPHA),
         k: p.constraint_k,
         phi: q.phi,
         width: p.multiplicity * p.rank,
@@ -71,7 +72,14 @@ pub fn alpha_parts(
 {
     let v = windows(p, count);
     if shared(v, randomness.len()) {
-        many_alpha::weigh(job, offsets::of_job(p, 4), randomness, v, passes, scratch);
+        many_alpha::weigh(
+            job,
+            offsets::of_job(p, names::RING_PHI),
+            randomness,
+            v,
+            passes,
+            scratch,
+        );
         return true;
     }
     false

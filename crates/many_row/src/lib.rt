@@ -4,6 +4,7 @@ use commitments::outer_commitments::Digits;
 use inner_product;
 use many_digits;
 use relation::env_params::EnvironmentParameters;
+use sizes::names;
 use sizes::offsets;
 use sizes::slices;
 use words;
@@ -72,8 +73,8 @@ pub fn store_of_a(
     ensures { λ _. ⌜ now (scratch .exit) ≡ splice (now (scratch .entry)) place (words (of-A (now (job .entry)) (now (transcript .entry)) k)) ⌝ }
 {
     let n = p.rank;
-    let row = offsets::of_job(p, 6) + 64 * (k * n);
-    let z_at = offsets::of_transcript(p, 4);
+    let row = offsets::of_job(p, names::MATRIX_A) + 64 * (k * n);
+    let z_at = offsets::of_transcript(p, names::Z);
     let product = inner_product::inner_product(job, row, 64, transcript, z_at, 64, n);
     words::store(scratch, place, product);
 }
@@ -93,11 +94,11 @@ pub fn store_of_b(
     ensures { λ _. ⌜ now (scratch .exit) ≡ splice (now (scratch .entry)) place (words (of-B (now (job .entry)) (now (transcript .entry)) k)) ⌝ }
 {
     let t = Digits {
-        at: offsets::of_transcript(p, 5),
+        at: offsets::of_transcript(p, names::T),
         cells: p.multiplicity * p.kappa,
         parts: p.t_1,
     };
-    let b_at = offsets::of_job(p, 7);
+    let b_at = offsets::of_job(p, names::MATRIX_B);
     store_digits(
         job,
         b_at,
@@ -127,11 +128,11 @@ pub fn store_of_c(
     ensures { λ _. ⌜ now (scratch .exit) ≡ splice (now (scratch .entry)) place (words (of-C (now (job .entry)) (now (transcript .entry)) k)) ⌝ }
 {
     let g = Digits {
-        at: offsets::of_transcript(p, 6),
+        at: offsets::of_transcript(p, names::G),
         cells: slices::triangle(p.multiplicity),
         parts: p.t_2,
     };
-    let c_at = offsets::of_job(p, 8);
+    let c_at = offsets::of_job(p, names::MATRIX_C);
     store_digits(
         job,
         c_at,
@@ -161,11 +162,11 @@ pub fn store_of_d(
     ensures { λ _. ⌜ now (scratch .exit) ≡ splice (now (scratch .entry)) place (words (of-D (now (job .entry)) (now (transcript .entry)) k)) ⌝ }
 {
     let h = Digits {
-        at: offsets::of_transcript(p, 7),
+        at: offsets::of_transcript(p, names::H),
         cells: slices::triangle(p.multiplicity),
         parts: p.t_1,
     };
-    let d_at = offsets::of_job(p, 9);
+    let d_at = offsets::of_job(p, names::MATRIX_D);
     store_digits(
         job,
         d_at,

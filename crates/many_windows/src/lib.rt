@@ -5,6 +5,7 @@ use many_parts;
 use many_row::Held;
 use relation::env_params::EnvironmentParameters;
 use sizes::buffers;
+use sizes::names;
 use sizes::offsets;
 use sizes::slices;
 ghost use mathlib.Core.Path.{_≡_};
@@ -57,17 +58,17 @@ fn store_window(transcript: &[u32], p: EnvironmentParameters, scratch: &mut [u32
     let at = places(p, start, true);
     let cells = slices::triangle(p.multiplicity);
     let t = Digits {
-        at: offsets::of_transcript(p, 5),
+        at: offsets::of_transcript(p, names::T),
         cells: p.multiplicity * p.kappa,
         parts: p.t_1,
     };
     let g = Digits {
-        at: offsets::of_transcript(p, 6),
+        at: offsets::of_transcript(p, names::G),
         cells,
         parts: p.t_2,
     };
     let h = Digits {
-        at: offsets::of_transcript(p, 7),
+        at: offsets::of_transcript(p, names::H),
         cells,
         parts: p.t_1,
     };

@@ -1,6 +1,7 @@
 // The entries of the list of indexes at which check 22 can be mended (document 02, Item 8).
 use congruence::Solution;
 use relation::env_params::EnvironmentParameters;
+use sizes::names;
 use sizes::offsets;
 use verifier_constant_terms::constant_terms;
 use zq::zq::Zq;
@@ -23,11 +24,11 @@ fn row_lacking(
     ensures { λ r. ⌜ r ≡ lacking (now (job .entry)) (now (randomness .entry)) (now (transcript .entry)) k ⌝ }
 {
     let l = p.constraint_l;
-    let b0 = offsets::of_job(p, 2);
-    let psi = offsets::of_randomness(p, 1);
-    let omega = offsets::of_randomness(p, 2);
-    let projection = offsets::of_transcript(p, 1);
-    let at = offsets::of_transcript(p, 2);
+    let b0 = offsets::of_job(p, names::CONSTANT_B);
+    let psi = offsets::of_randomness(p, names::PSI);
+    let omega = offsets::of_randomness(p, names::OMEGA);
+    let projection = offsets::of_transcript(p, names::P);
+    let at = offsets::of_transcript(p, names::B_DOUBLE_PRIME);
     let sent = transcript[at + 64 * k];
     let computed = constant_terms::constant_term(
         job,
@@ -88,7 +89,7 @@ pub fn enter_all(
     ensures { λ r. ⌜ Entered (now (job .entry)) (now (randomness .entry)) (now (transcript .entry)) (p .«constraint_l») (now (list .entry)) r (now (list .exit)) ⌝ }
 {
     let rows = rows_lacking(job, randomness, transcript, p);
-    let psi = offsets::of_randomness(p, 1);
+    let psi = offsets::of_randomness(p, names::PSI);
     let l = p.constraint_l;
     let mut count = 0;
     let mut i = 0;

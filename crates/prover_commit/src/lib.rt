@@ -9,6 +9,7 @@ use kept_commitments;
 use kept_garbage;
 use regions::Regions;
 use relation::env_params::EnvironmentParameters;
+use sizes::names;
 use sizes::offsets;
 use sizes::slices;
 ghost use mathlib.Core.Path.{_≡_};
@@ -76,7 +77,7 @@ fn commit_kept(
     ensures { λ result. ⌜ Kept (scratch-need (parameters (now (job .entry)))) (now (scratch .entry)) (now (scratch .exit)) ⌝ }
     ensures { λ result. ⌜ Where-made result (Committed (now (job .entry)) (now (witness .entry)) q (now (scratch .exit))) ⌝ }
 {
-    let a_at = offsets::of_job(p, 6);
+    let a_at = offsets::of_job(p, names::MATRIX_A);
     kept_commitments::t_of(
         job,
         a_at,
@@ -111,7 +112,7 @@ fn commit_plain(
     ensures { λ result. ⌜ Kept (scratch-need (parameters (now (job .entry)))) (now (scratch .entry)) (now (scratch .exit)) ⌝ }
     ensures { λ result. ⌜ Where-made result (Committed (now (job .entry)) (now (witness .entry)) q (now (scratch .exit))) ⌝ }
 {
-    let a_at = offsets::of_job(p, 6);
+    let a_at = offsets::of_job(p, names::MATRIX_A);
     ajtai_commitment::commit_all(
         job,
         a_at,

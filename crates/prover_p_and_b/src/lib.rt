@@ -2,6 +2,7 @@
 use jl::projection;
 use regions::Regions;
 use relation::env_params::EnvironmentParameters;
+use sizes::names;
 use sizes::offsets;
 ghost use mathlib.Core.List.{[], _∷_};
 ghost use Rattle.relation.specs.Parameters.{parametersOf};
@@ -19,7 +20,7 @@ pub fn compute_p(
     requires { ⌜ Projects p (now randomness) (now witness) × SectionsRoom at (p-in (parametersOf p) (now randomness) (now witness) ∷ []) (now output) ⌝ }
     ensures { λ next. ⌜ Put at next (now (output .entry)) (now (output .exit)) (p-in (parametersOf p) (now (randomness .entry)) (now (witness .entry)) ∷ []) ⌝ }
 {
-    let pi_at = offsets::of_randomness(p, 0);
+    let pi_at = offsets::of_randomness(p, names::PROJECTION);
     output[at] = 256;
     projection::project_run(
         randomness,

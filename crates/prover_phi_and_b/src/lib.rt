@@ -3,6 +3,7 @@ use inner_product::Strided;
 use one_pass;
 use regions::Regions;
 use relation::env_params::EnvironmentParameters;
+use sizes::names;
 use sizes::offsets;
 ghost use mathlib.Core.Path.{_≡_};
 ghost use Rattle.workspace.specs.Ready.{Drawn};
@@ -26,7 +27,7 @@ pub fn phi_and_b(
     let width = p.multiplicity * p.rank;
     let step = 64 * width;
     let constraints = Strided {
-        at: offsets::of_job(p, 4),
+        at: offsets::of_job(p, names::RING_PHI),
         step,
         count: p.constraint_k,
     };
@@ -34,8 +35,8 @@ pub fn phi_and_b(
         job,
         constraints,
         randomness,
-        offsets::of_randomness(p, 3),
-        offsets::of_randomness(p, 4),
+        offsets::of_randomness(p, names::ALPHA),
+        offsets::of_randomness(p, names::BETA),
         scratch,
         q,
         p.const_agg_length,

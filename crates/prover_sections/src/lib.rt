@@ -6,6 +6,7 @@ use prover_p_and_b::compute_p;
 use prover_p_and_b::put_b_double_prime;
 use regions::Regions;
 use relation::env_params::EnvironmentParameters;
+use sizes::names;
 use sizes::offsets;
 use sizes::slices;
 ghost use mathlib.Core.Path.{_≡_};
@@ -46,8 +47,8 @@ fn compute_u1(
         cells: slices::triangle(p.multiplicity),
         parts: p.t_2,
     };
-    let b_at = offsets::of_job(p, 7);
-    let c_at = offsets::of_job(p, 8);
+    let b_at = offsets::of_job(p, names::MATRIX_B);
+    let c_at = offsets::of_job(p, names::MATRIX_C);
     let count = 64 * p.kappa_1;
     output[at] = count as u32;
     outer_commitments::compute_u1(
@@ -83,7 +84,7 @@ fn compute_u2(
         cells: slices::triangle(p.multiplicity),
         parts,
     };
-    let d_at = offsets::of_job(p, 9);
+    let d_at = offsets::of_job(p, names::MATRIX_D);
     let count = 64 * p.kappa_2;
     output[at] = count as u32;
     outer_commitments::compute_u2(job, d_at, p.kappa_2, scratch, h, p.b, output, at + 1);

@@ -9,6 +9,7 @@ use relation::env_params::EnvironmentParameters;
 use run_admission::RunAdmitted;
 use run_admission::admit_rows;
 use sizes::buffers;
+use sizes::names;
 use sizes::offsets;
 ghost use mathlib.Core.Path.{_≡_};
 ghost use Prim.Native.Nat.{_+_, _*_};
@@ -31,7 +32,7 @@ fn put_rows(
     requires { ⌜ Run-given (now job) (run first end) (now vectors) (rows-section (parameters (now job)) (run first end)) (length (now output)) p ⌝ }
     ensures { λ _. ⌜ now (output .exit) ≡ stored-rows (now (job .entry)) (run first end) (now (vectors .entry)) (now (output .entry)) ⌝ }
 {
-    let a_at = offsets::of_job(p, 6);
+    let a_at = offsets::of_job(p, names::MATRIX_A);
     let count = end - first;
     let words = 64 * (count * p.kappa);
     output[0] = words as u32;

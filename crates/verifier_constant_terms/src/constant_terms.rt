@@ -4,6 +4,7 @@ use definitions::answers::Checked;
 use definitions::answers::FailedCheck;
 use relation::env_params::EnvironmentParameters;
 use rq_product::product;
+use sizes::names;
 use sizes::offsets;
 ghost use mathlib.Core.Path.{_≡_};
 ghost use Prim.Native.Nat.{_+_, _≤_};
@@ -43,12 +44,12 @@ pub fn check_constant_terms(
     requires { ⌜ Sent (now job) (now randomness) (now transcript) p ⌝ }
     ensures { λ v. ⌜ ofChecked v ≡ constant-terms (now (job .entry)) (now (randomness .entry)) (now (transcript .entry)) ⌝ }
 {
-    let b0 = offsets::of_job(p, 2);
+    let b0 = offsets::of_job(p, names::CONSTANT_B);
     let l = p.constraint_l;
-    let psi = offsets::of_randomness(p, 1);
-    let omega = offsets::of_randomness(p, 2);
-    let projection = offsets::of_transcript(p, 1);
-    let at = offsets::of_transcript(p, 2);
+    let psi = offsets::of_randomness(p, names::PSI);
+    let omega = offsets::of_randomness(p, names::OMEGA);
+    let projection = offsets::of_transcript(p, names::P);
+    let at = offsets::of_transcript(p, names::B_DOUBLE_PRIME);
     let mut k = 0;
     while k < p.const_agg_length {
         let sent = transcript[at + 64 * k];

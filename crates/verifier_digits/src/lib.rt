@@ -4,6 +4,7 @@ use digit_norms::norm;
 use digit_norms::parts;
 use norm_bounds::bound;
 use relation::env_params::EnvironmentParameters;
+use sizes::names;
 use sizes::offsets;
 use sizes::slices;
 ghost use Rattle.relation.specs.Parameters.{parametersOf};
@@ -25,16 +26,28 @@ pub fn take(transcript: &[u32], p: EnvironmentParameters) -> SentDigits
     ensures { λ d. ⌜ Taken (parametersOf p) (now (transcript .entry)) d ⌝ }
 {
     let cells = slices::triangle(p.multiplicity);
-    let z = parts::two_parts_norm(transcript, offsets::of_transcript(p, 4), p.rank, p.b);
+    let z = parts::two_parts_norm(transcript, offsets::of_transcript(p, names::Z), p.rank, p.b);
     let t = norm::digits_norm(
         transcript,
-        offsets::of_transcript(p, 5),
+        offsets::of_transcript(p, names::T),
         p.multiplicity * p.kappa,
         p.b,
         p.t_1,
     );
-    let g = norm::digits_norm(transcript, offsets::of_transcript(p, 6), cells, p.b, p.t_2);
-    let h = norm::digits_norm(transcript, offsets::of_transcript(p, 7), cells, p.b, p.t_1);
+    let g = norm::digits_norm(
+        transcript,
+        offsets::of_transcript(p, names::G),
+        cells,
+        p.b,
+        p.t_2,
+    );
+    let h = norm::digits_norm(
+        transcript,
+        offsets::of_transcript(p, names::H),
+        cells,
+        p.b,
+        p.t_1,
+    );
     let sum = bound::add(bound::add(bound::add(z, t.norm), g.norm), h.norm);
     SentDigits {
         sum,

@@ -5,6 +5,7 @@ use definitions::answers::FailedCheck;
 use definitions::answers::U128;
 use norm_bounds::bound;
 use relation::env_params::EnvironmentParameters;
+use sizes::names;
 use sizes::offsets;
 use verifier_constant_terms::constant_terms::check_constant_terms;
 use verifier_digits::SentDigits;
@@ -20,7 +21,7 @@ pub fn check_projection_norm(transcript: &[u32], p: EnvironmentParameters) -> Ch
     requires { ⌜ Received (now transcript) p ⌝ }
     ensures { λ v. ⌜ ofChecked v ≡ projection-norm (parametersOf p) (now (transcript .entry)) ⌝ }
 {
-    let norm = norms::norm_of(transcript, offsets::of_transcript(p, 1), 256);
+    let norm = norms::norm_of(transcript, offsets::of_transcript(p, names::P), 256);
     if bound::at_most(norm, p.beta_sq) {
         return Checked::Passed;
     }

@@ -5,6 +5,7 @@ use definitions::answers::Checked;
 use definitions::answers::FailedCheck;
 use regions::Regions;
 use relation::env_params::EnvironmentParameters;
+use sizes::names;
 use sizes::offsets;
 use sizes::slices;
 use verifier_common::equal;
@@ -30,22 +31,22 @@ pub fn check_u1(
     ensures { λ v. ⌜ Kept (scratch-need (parameters (now (job .entry)))) (now (scratch .entry)) (now (scratch .exit)) ⌝ }
 {
     let t = Digits {
-        at: offsets::of_transcript(p, 5),
+        at: offsets::of_transcript(p, names::T),
         cells: p.multiplicity * p.kappa,
         parts: p.t_1,
     };
     let g = Digits {
-        at: offsets::of_transcript(p, 6),
+        at: offsets::of_transcript(p, names::G),
         cells: slices::triangle(p.multiplicity),
         parts: p.t_2,
     };
-    let b_at = offsets::of_job(p, 7);
-    let c_at = offsets::of_job(p, 8);
+    let b_at = offsets::of_job(p, names::MATRIX_B);
+    let c_at = offsets::of_job(p, names::MATRIX_C);
     let rows = p.kappa_1;
     outer_commitments::compute_u1(job, b_at, c_at, rows, transcript, t, g, p.b, scratch, q.u);
     if equal::same_words(
         transcript,
-        offsets::of_transcript(p, 0),
+        offsets::of_transcript(p, names::U1),
         scratch,
         q.u,
         64 * rows,
@@ -69,16 +70,16 @@ pub fn check_u2(
     ensures { λ v. ⌜ Kept (scratch-need (parameters (now (job .entry)))) (now (scratch .entry)) (now (scratch .exit)) ⌝ }
 {
     let h = Digits {
-        at: offsets::of_transcript(p, 7),
+        at: offsets::of_transcript(p, names::H),
         cells: slices::triangle(p.multiplicity),
         parts: p.t_1,
     };
-    let d_at = offsets::of_job(p, 9);
+    let d_at = offsets::of_job(p, names::MATRIX_D);
     let rows = p.kappa_2;
     outer_commitments::compute_u2(job, d_at, rows, transcript, h, p.b, scratch, q.u);
     if equal::same_words(
         transcript,
-        offsets::of_transcript(p, 3),
+        offsets::of_transcript(p, names::U2),
         scratch,
         q.u,
         64 * rows,

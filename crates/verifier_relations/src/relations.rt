@@ -6,6 +6,7 @@ use inner_product;
 use regions::Regions;
 use relation::env_params::EnvironmentParameters;
 use rq_matrix;
+use sizes::names;
 use sizes::offsets;
 use verifier_common::equal;
 use workspace;
@@ -33,9 +34,9 @@ pub fn check_az(
     requires { ⌜ Posed (now job) (now transcript) p × Ready (now job) p q (now scratch) ⌝ }
     ensures { λ v. ⌜ ofChecked v ≡ az-of (now (job .entry)) (now (transcript .entry)) (challenges-in (now (scratch .entry)) q) ⌝ }
 {
-    let a_at = offsets::of_job(p, 6);
-    let z_at = offsets::of_transcript(p, 4);
-    let t_at = offsets::of_transcript(p, 5);
+    let a_at = offsets::of_job(p, names::MATRIX_A);
+    let z_at = offsets::of_transcript(p, names::Z);
+    let t_at = offsets::of_transcript(p, names::T);
     let n = p.rank;
     let kappa = p.kappa;
     let mut k = 0;
@@ -69,8 +70,8 @@ pub fn check_z_inner(
     requires { ⌜ Received (now transcript) p × ChallengesWithin p q (now scratch) ⌝ }
     ensures { λ v. ⌜ ofChecked v ≡ z-inner-of (parametersOf p) (now (transcript .entry)) (challenges-in (now (scratch .entry)) q) ⌝ }
 {
-    let z_at = offsets::of_transcript(p, 4);
-    let g_at = offsets::of_transcript(p, 6);
+    let z_at = offsets::of_transcript(p, names::Z);
+    let g_at = offsets::of_transcript(p, names::G);
     let left = inner_product::inner_product(transcript, z_at, 64, transcript, z_at, 64, p.rank);
     let right = rq_matrix::sum_of_weighted(transcript, g_at, scratch, q.challenges, p.multiplicity);
     if equal::same(left, right) {
@@ -90,8 +91,8 @@ pub fn check_phi(
     requires { ⌜ Received (now transcript) p × ChallengesWithin p q (now scratch) × LinesWithin p q (now scratch) ⌝ }
     ensures { λ v. ⌜ ofChecked v ≡ phi-of (parametersOf p) (now (transcript .entry)) (challenges-in (now (scratch .entry)) q) (lines-in (parametersOf p) (now (scratch .entry)) q) ⌝ }
 {
-    let z_at = offsets::of_transcript(p, 4);
-    let h_at = offsets::of_transcript(p, 7);
+    let z_at = offsets::of_transcript(p, names::Z);
+    let h_at = offsets::of_transcript(p, names::H);
     let lines = rq_matrix::sum_of_lines(
         scratch,
         q.phi,

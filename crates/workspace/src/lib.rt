@@ -6,6 +6,7 @@ use inner_product::Strided;
 use kept_mix;
 use regions::Regions;
 use relation::env_params::EnvironmentParameters;
+use sizes::names;
 use sizes::offsets;
 ghost use mathlib.Core.Path.{_≡_};
 ghost use Rattle.lists.specs.Part.{splice};
@@ -27,14 +28,14 @@ pub fn phi_double_prime(
 {
     aggregate::phi_double_prime(
         job,
-        offsets::of_job(p, 1),
+        offsets::of_job(p, names::CONSTANT_PHI),
         p.multiplicity,
         p.rank,
         p.constraint_l,
         randomness,
-        offsets::of_randomness(p, 0),
-        offsets::of_randomness(p, 1),
-        offsets::of_randomness(p, 2),
+        offsets::of_randomness(p, names::PROJECTION),
+        offsets::of_randomness(p, names::PSI),
+        offsets::of_randomness(p, names::OMEGA),
         p.const_agg_length,
         scratch,
         q.phi2,
@@ -55,11 +56,11 @@ pub fn a_double_prime(
     let cells = sizes::slices::triangle(p.multiplicity);
     aggregate::a_double_prime(
         job,
-        offsets::of_job(p, 0),
+        offsets::of_job(p, names::CONSTANT_A),
         cells,
         p.constraint_l,
         randomness,
-        offsets::of_randomness(p, 1),
+        offsets::of_randomness(p, names::PSI),
         p.const_agg_length,
         scratch,
         q.a2,
@@ -95,7 +96,7 @@ pub fn phi(
     let width = p.multiplicity * p.rank;
     let step = 64 * width;
     let constraints = Strided {
-        at: offsets::of_job(p, 4),
+        at: offsets::of_job(p, names::RING_PHI),
         step,
         count: p.constraint_k,
     };
@@ -108,8 +109,8 @@ pub fn phi(
         job,
         constraints,
         randomness,
-        offsets::of_randomness(p, 3),
-        offsets::of_randomness(p, 4),
+        offsets::of_randomness(p, names::ALPHA),
+        offsets::of_randomness(p, names::BETA),
         scratch,
         aggregated,
         width,
@@ -125,7 +126,7 @@ pub fn a(job: &[u32], randomness: &[u32], p: EnvironmentParameters, q: Regions, 
     let cells = sizes::slices::triangle(p.multiplicity);
     let step = 64 * cells;
     let constraints = Strided {
-        at: offsets::of_job(p, 3),
+        at: offsets::of_job(p, names::RING_A),
         step,
         count: p.constraint_k,
     };
@@ -138,8 +139,8 @@ pub fn a(job: &[u32], randomness: &[u32], p: EnvironmentParameters, q: Regions, 
         job,
         constraints,
         randomness,
-        offsets::of_randomness(p, 3),
-        offsets::of_randomness(p, 4),
+        offsets::of_randomness(p, names::ALPHA),
+        offsets::of_randomness(p, names::BETA),
         scratch,
         aggregated,
         cells,
@@ -159,8 +160,8 @@ pub fn generate_challenges(
 {
     challenges::generate_challenges(
         randomness,
-        offsets::of_randomness(p, 5),
-        offsets::of_randomness(p, 6),
+        offsets::of_randomness(p, names::SIGNS),
+        offsets::of_randomness(p, names::SHUFFLES),
         p.multiplicity,
         scratch,
         q.challenges,
