@@ -17,29 +17,29 @@ use Rattle.admission.proofs.Ready.{job-sized}
 
 -- a refusal's result is none
 pub refusal-none {ℓ} : {A : Type ℓ} (r : Refusal) (value none : A) → none ≡ result (ofRefusal r) value none
-refusal-none (R.ScratchTooShort p) value none = refl
-refusal-none (R.OutputTooShort p) value none = refl
-refusal-none (R.JobLayout p) value none = refl
-refusal-none (R.ParameterOutOfLimits p) value none = refl
-refusal-none (R.TooFewAggregations p) value none = refl
-refusal-none (R.JobWord p) value none = refl
-refusal-none (R.RandomnessLayout p) value none = refl
-refusal-none (R.RandomnessWord p) value none = refl
-refusal-none (R.TranscriptLayout p) value none = refl
-refusal-none (R.TranscriptWord p) value none = refl
-refusal-none (R.WitnessLayout p) value none = refl
-refusal-none (R.WitnessWord p) value none = refl
-refusal-none (R.WitnessNorm p) value none = refl
+refusal-none (R.ScratchTooShort params) value none = refl
+refusal-none (R.OutputTooShort params) value none = refl
+refusal-none (R.JobLayout params) value none = refl
+refusal-none (R.ParameterOutOfLimits params) value none = refl
+refusal-none (R.TooFewAggregations params) value none = refl
+refusal-none (R.JobWord params) value none = refl
+refusal-none (R.RandomnessLayout params) value none = refl
+refusal-none (R.RandomnessWord params) value none = refl
+refusal-none (R.TranscriptLayout params) value none = refl
+refusal-none (R.TranscriptWord params) value none = refl
+refusal-none (R.WitnessLayout params) value none = refl
+refusal-none (R.WitnessWord params) value none = refl
+refusal-none (R.WitnessNorm params) value none = refl
 refusal-none R.DigitsOfT value none = refl
 refusal-none R.DigitsOfG value none = refl
 refusal-none R.DigitsOfH value none = refl
 
 -- the parameters of a job that is refused nothing
-module _ (J : List ℕ) (x : Admitted) (p : EnvironmentParameters) (e : ofAdmitted x ≡ job-refusal J) (at : At x (λ p. parametersOf p ≡ parameters J)) (is : x ≡ A.Fit p) where
+module _ (J : List ℕ) (x : Admitted) (params : EnvironmentParameters) (e : ofAdmitted x ≡ job-refusal J) (at : At x (λ params. parametersOf params ≡ parameters J)) (is : x ≡ A.Fit params) where
   -- are the job's
-  pub fit-same : parametersOf p ≡ parameters J
-  fit-same = subst (λ y. At y (λ p. parametersOf p ≡ parameters J)) is at
+  pub fit-same : parametersOf params ≡ parameters J
+  fit-same = subst (λ y. At y (λ params. parametersOf params ≡ parameters J)) is at
 
   -- and within their limits
-  pub fit-sized : Sized (parametersOf p)
-  fit-sized = job-sized J (parametersOf p) (sym (ap ofAdmitted is) ∙ e) fit-same
+  pub fit-sized : Sized (parametersOf params)
+  fit-sized = job-sized J (parametersOf params) (sym (ap ofAdmitted is) ∙ e) fit-same

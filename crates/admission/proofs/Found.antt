@@ -35,8 +35,9 @@ module _ (number lent need : ℕ) {needed : ℕ} (e : need ≡ needed) where
   long-enough h = sym (require-holds (decLe needed lent) (refused number needed) (omega arith))
 
 -- what is ensured of an answer, at the case that it is
-pub fitted : (P : Parameters) {r : Admitted} {p : EnvironmentParameters} {a : Answer} → ofAdmitted r ≡ a → At r (λ p. parametersOf p ≡ P) → r ≡ A.Fit p → (fine ≡ a) × (parametersOf p ≡ P)
-fitted P e f is = (sym (ap ofAdmitted is) ∙ e, subst (λ x. At x (λ p. parametersOf p ≡ P)) is f)
+pub fitted : (P : Parameters) {r : Admitted} {params : EnvironmentParameters} {a : Answer} → ofAdmitted r ≡ a → At r (λ params. parametersOf params ≡ P) → r ≡ A.Fit params
+    → (fine ≡ a) × (parametersOf params ≡ P)
+fitted P e f is = (sym (ap ofAdmitted is) ∙ e, subst (λ x. At x (λ params. parametersOf params ≡ P)) is f)
 
 pub told : {r x : SliceChecked} {a : Answer} → ofSliceChecked r ≡ a → r ≡ x → ofSliceChecked x ≡ a
 told e is = sym (ap ofSliceChecked is) ∙ e

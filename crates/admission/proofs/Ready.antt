@@ -65,10 +65,10 @@ unfolding transcript-refusal
 transcript-laid P T e = slice-laid 9 10 T 0 (transcript-sections P) (omega arith) e
 
 -- a prover's call
-pub provable : (call : Call) (J R W : List ℕ) (scratch output : ℕ) (p : EnvironmentParameters) → parametersOf p ≡ parameters J
-    → prove-refusal call J R W scratch output ≡ fine → Provable call J R W scratch output p
+pub provable : (call : Call) (J R W : List ℕ) (scratch output : ℕ) (params : EnvironmentParameters) → parametersOf params ≡ parameters J
+    → prove-refusal call J R W scratch output ≡ fine → Provable call J R W scratch output params
 unfolding prove-refusal
-provable call J R W scratch output p same e =
+provable call J R W scratch output params same e =
     let P = parameters J in
     let r = randomness-refusal P (call .handed) R in
     let w = witness-refusal P W in
@@ -91,10 +91,10 @@ provable call J R W scratch output p same e =
     }
 
 -- the verifier's call
-pub verifiable : (J R T : List ℕ) (scratch : ℕ) (p : EnvironmentParameters) → parametersOf p ≡ parameters J
-    → verify-refusal J R T scratch ≡ fine → Verifiable J R T scratch p
+pub verifiable : (J R T : List ℕ) (scratch : ℕ) (params : EnvironmentParameters) → parametersOf params ≡ parameters J
+    → verify-refusal J R T scratch ≡ fine → Verifiable J R T scratch params
 unfolding verify-refusal
-verifiable J R T scratch p same e =
+verifiable J R T scratch params same e =
     let P = parameters J in
     let r = randomness-refusal P 7 R in
     let t = transcript-refusal P T in

@@ -34,28 +34,28 @@ ofSliceChecked (K.Refused r) = ofRefusal r
 
 abbrev pub ofAdmitted : Admitted → Answer
 ofAdmitted (A.Refused r) = ofRefusal r
-ofAdmitted (A.Fit p) = fine
+ofAdmitted (A.Fit params) = fine
 
 -- a fact of the parameters of a call that is refused nothing
 abbrev pub At : Admitted → (EnvironmentParameters → Type 0) → Type 0
 At (A.Refused r) F = Unit {0}
-At (A.Fit p) F = F p
+At (A.Fit params) F = F params
 
 -- the job and the randomness of a call: the parameters are the job's and within their limits, and the slices have their sections, each word in its range
-pub record Handed (handed : ℕ) (J R : List ℕ) (scratch : ℕ) (p : EnvironmentParameters) : Type 0 where
-  pub same : parametersOf p ≡ parameters J
+pub record Handed (handed : ℕ) (J R : List ℕ) (scratch : ℕ) (params : EnvironmentParameters) : Type 0 where
+  pub same : parametersOf params ≡ parameters J
   pub sound : Sound J
   pub job : Laid J 31 (job-sections (parameters J))
   pub randomness : Laid R 0 (take handed (randomness-sections (parameters J)))
   pub scratch-fits : scratch-need (parameters J) ≤ scratch
 
 -- what the work of a prover's call needs
-pub record Provable (call : P.Call) (J R W : List ℕ) (scratch output : ℕ) (p : EnvironmentParameters) : Type 0 where
-  pub handed : Handed (call .handed) J R scratch p
+pub record Provable (call : P.Call) (J R W : List ℕ) (scratch output : ℕ) (params : EnvironmentParameters) : Type 0 where
+  pub handed : Handed (call .handed) J R scratch params
   pub witness : Laid W 0 (witness-sections (parameters J))
   pub output-fits : span (P.made-sections call (parameters J)) ≤ output
 
 -- what the work of the verifier needs
-pub record Verifiable (J R T : List ℕ) (scratch : ℕ) (p : EnvironmentParameters) : Type 0 where
-  pub handed : Handed 7 J R scratch p
+pub record Verifiable (J R T : List ℕ) (scratch : ℕ) (params : EnvironmentParameters) : Type 0 where
+  pub handed : Handed 7 J R scratch params
   pub transcript : Laid T 0 (transcript-sections (parameters J))

@@ -14,11 +14,11 @@ ghost use Rattle.relation.specs.SectionOne.{Sound};
 ghost use Rattle.admission.specs.Admission.{ofSliceChecked, ofAdmitted, At};
 
 // "other job sections 3, 6"
-fn sections(job: &[u32], p: EnvironmentParameters) -> SliceChecked
-    requires { ⌜ Sound (now job) × (parametersOf p ≡ parameters (now job)) ⌝ }
-    ensures { λ r. ⌜ ofSliceChecked r ≡ layout 3 (now (job .entry)) 31 (job-sections (parametersOf p)) then ranged 6 (now (job .entry)) 31 (job-sections (parametersOf p)) ⌝ }
+fn sections(job: &[u32], params: EnvironmentParameters) -> SliceChecked
+    requires { ⌜ Sound (now job) × (parametersOf params ≡ parameters (now job)) ⌝ }
+    ensures { λ r. ⌜ ofSliceChecked r ≡ layout 3 (now (job .entry)) 31 (job-sections (parametersOf params)) then ranged 6 (now (job .entry)) 31 (job-sections (parametersOf params)) ⌝ }
 {
-    match layout::slices::examine(job, 31, sizes::slices::job_sections(p)) {
+    match layout::slices::examine(job, 31, sizes::slices::job_sections(params)) {
         Examined::Layout(place) => SliceChecked::Refused(Refusal::JobLayout(place)),
         Examined::Word(place) => SliceChecked::Refused(Refusal::JobWord(place)),
         Examined::Fit => SliceChecked::Fine,
@@ -28,13 +28,13 @@ fn sections(job: &[u32], p: EnvironmentParameters) -> SliceChecked
 // "section one by 3, then 4, 5; other job sections 3, 6"
 pub fn check(job: &[u32]) -> Admitted
     ensures { λ r. ⌜ ofAdmitted r ≡ job-refusal (now (job .entry)) ⌝ }
-    ensures { λ r. ⌜ At r (λ p. parametersOf p ≡ parameters (now (job .entry))) ⌝ }
+    ensures { λ r. ⌜ At r (λ params. parametersOf params ≡ parameters (now (job .entry))) ⌝ }
 {
     match section_one::read(job) {
         SectionOne::Refused(refusal) => Admitted::Refused(refusal),
-        SectionOne::Read(p) => match sections(job, p) {
+        SectionOne::Read(params) => match sections(job, params) {
             SliceChecked::Refused(refusal) => Admitted::Refused(refusal),
-            SliceChecked::Fine => Admitted::Fit(p),
+            SliceChecked::Fine => Admitted::Fit(params),
         },
     }
 }

@@ -12,12 +12,12 @@ ghost use Rattle.sizes.specs.Sizes.{Sized};
 ghost use Rattle.admission.specs.Admission.{callOf, ofSliceChecked};
 
 // "7 layout; 8 a word out of range", of the sections that a call is handed.
-pub fn check(words: &[u32], p: EnvironmentParameters, call: Call) -> SliceChecked
-    requires { ⌜ Sized (parametersOf p) ⌝ }
-    ensures { λ r. ⌜ ofSliceChecked r ≡ randomness-refusal (parametersOf p) (callOf call .handed) (now (words .entry)) ⌝ }
+pub fn check(words: &[u32], params: EnvironmentParameters, call: Call) -> SliceChecked
+    requires { ⌜ Sized (parametersOf params) ⌝ }
+    ensures { λ r. ⌜ ofSliceChecked r ≡ randomness-refusal (parametersOf params) (callOf call .handed) (now (words .entry)) ⌝ }
 {
     let handed = calls::handed(call);
-    match layout::slices::examine(words, 0, sizes::slices::randomness_sections(p, handed)) {
+    match layout::slices::examine(words, 0, sizes::slices::randomness_sections(params, handed)) {
         Examined::Layout(place) => SliceChecked::Refused(Refusal::RandomnessLayout(place)),
         Examined::Word(place) => SliceChecked::Refused(Refusal::RandomnessWord(place)),
         Examined::Fit => SliceChecked::Fine,

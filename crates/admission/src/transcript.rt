@@ -10,11 +10,11 @@ ghost use Rattle.sizes.specs.Sizes.{Sized};
 ghost use Rattle.admission.specs.Admission.{ofSliceChecked};
 
 // "9 layout; 10 a word at or above Q"
-pub fn check(words: &[u32], p: EnvironmentParameters) -> SliceChecked
-    requires { ⌜ Sized (parametersOf p) ⌝ }
-    ensures { λ r. ⌜ ofSliceChecked r ≡ transcript-refusal (parametersOf p) (now (words .entry)) ⌝ }
+pub fn check(words: &[u32], params: EnvironmentParameters) -> SliceChecked
+    requires { ⌜ Sized (parametersOf params) ⌝ }
+    ensures { λ r. ⌜ ofSliceChecked r ≡ transcript-refusal (parametersOf params) (now (words .entry)) ⌝ }
 {
-    match layout::slices::examine(words, 0, sizes::slices::transcript_sections(p)) {
+    match layout::slices::examine(words, 0, sizes::slices::transcript_sections(params)) {
         Examined::Layout(place) => SliceChecked::Refused(Refusal::TranscriptLayout(place)),
         Examined::Word(place) => SliceChecked::Refused(Refusal::TranscriptWord(place)),
         Examined::Fit => SliceChecked::Fine,

@@ -10,11 +10,11 @@ ghost use Rattle.sizes.specs.Sizes.{Sized};
 ghost use Rattle.admission.specs.Admission.{ofSliceChecked};
 
 // "11 layout; 12 a word at or above Q"
-pub fn check(words: &[u32], p: EnvironmentParameters) -> SliceChecked
-    requires { ⌜ Sized (parametersOf p) ⌝ }
-    ensures { λ r. ⌜ ofSliceChecked r ≡ witness-refusal (parametersOf p) (now (words .entry)) ⌝ }
+pub fn check(words: &[u32], params: EnvironmentParameters) -> SliceChecked
+    requires { ⌜ Sized (parametersOf params) ⌝ }
+    ensures { λ r. ⌜ ofSliceChecked r ≡ witness-refusal (parametersOf params) (now (words .entry)) ⌝ }
 {
-    match layout::slices::examine(words, 0, sizes::slices::witness_sections(p)) {
+    match layout::slices::examine(words, 0, sizes::slices::witness_sections(params)) {
         Examined::Layout(place) => SliceChecked::Refused(Refusal::WitnessLayout(place)),
         Examined::Word(place) => SliceChecked::Refused(Refusal::WitnessWord(place)),
         Examined::Fit => SliceChecked::Fine,

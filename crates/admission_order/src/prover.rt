@@ -25,15 +25,15 @@ pub fn admit(
 {
     match job::check(job) {
         Admitted::Refused(refusal) => Admitted::Refused(refusal),
-        Admitted::Fit(p) => match randomness::check(randomness, p, call) {
+        Admitted::Fit(params) => match randomness::check(randomness, params, call) {
             SliceChecked::Refused(refusal) => Admitted::Refused(refusal),
-            SliceChecked::Fine => match witness::check(witness, p) {
+            SliceChecked::Fine => match witness::check(witness, params) {
                 SliceChecked::Refused(refusal) => Admitted::Refused(refusal),
-                SliceChecked::Fine => match scratch::check(scratch, p) {
+                SliceChecked::Fine => match scratch::check(scratch, params) {
                     SliceChecked::Refused(refusal) => Admitted::Refused(refusal),
-                    SliceChecked::Fine => match output::check(output, p, call) {
+                    SliceChecked::Fine => match output::check(output, params, call) {
                         SliceChecked::Refused(refusal) => Admitted::Refused(refusal),
-                        SliceChecked::Fine => Admitted::Fit(p),
+                        SliceChecked::Fine => Admitted::Fit(params),
                     },
                 },
             },

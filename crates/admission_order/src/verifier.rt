@@ -17,13 +17,13 @@ pub fn admit(job: &[u32], randomness: &[u32], transcript: &[u32], scratch: usize
 {
     match job::check(job) {
         Admitted::Refused(refusal) => Admitted::Refused(refusal),
-        Admitted::Fit(p) => match randomness::check(randomness, p, Call::Whole) {
+        Admitted::Fit(params) => match randomness::check(randomness, params, Call::Whole) {
             SliceChecked::Refused(refusal) => Admitted::Refused(refusal),
-            SliceChecked::Fine => match transcript::check(transcript, p) {
+            SliceChecked::Fine => match transcript::check(transcript, params) {
                 SliceChecked::Refused(refusal) => Admitted::Refused(refusal),
-                SliceChecked::Fine => match scratch::check(scratch, p) {
+                SliceChecked::Fine => match scratch::check(scratch, params) {
                     SliceChecked::Refused(refusal) => Admitted::Refused(refusal),
-                    SliceChecked::Fine => Admitted::Fit(p),
+                    SliceChecked::Fine => Admitted::Fit(params),
                 },
             },
         },

@@ -7,4 +7,4 @@ use Rattle.workspace.specs.Aggregated.{a-words}
 
 -- the triangle a_ij
 abbrev pub Multiplied : (J R : List ℕ) → Regions → List ℕ → Type 0
-Multiplied J R q S = Holds S (q .a) (a-words J R)
+Multiplied J R regions S = Holds S (regions .«a_or_h») (a-words J R)

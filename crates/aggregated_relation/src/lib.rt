@@ -19,29 +19,29 @@ pub fn check_relation(
     job: &[u32],
     randomness: &[u32],
     transcript: &[u32],
-    p: EnvironmentParameters,
-    q: Regions,
+    params: EnvironmentParameters,
+    regions: Regions,
     scratch: &[u32],
 ) -> Checked
-    requires { ⌜ Sent (now job) (now randomness) (now transcript) p × Ready (now job) p q (now scratch) × Multiplied (now job) (now randomness) q (now scratch) ⌝ }
+    requires { ⌜ Sent (now job) (now randomness) (now transcript) params × Ready (now job) params regions (now scratch) × Multiplied (now job) (now randomness) regions (now scratch) ⌝ }
     ensures { λ v. ⌜ ofChecked v ≡ relation (now (job .entry)) (now (randomness .entry)) (now (transcript .entry)) ⌝ }
 {
-    let g_at = offsets::of_transcript(p, names::G);
-    let h_at = offsets::of_transcript(p, names::H);
-    let r = p.multiplicity;
-    let products = rq_matrix::sum_of_products(scratch, q.a, transcript, g_at, r);
+    let g_at = offsets::of_transcript(params, names::G);
+    let h_at = offsets::of_transcript(params, names::H);
+    let r = params.multiplicity;
+    let products = rq_matrix::sum_of_products(scratch, regions.a_or_h, transcript, g_at, r);
     let diagonal = rq_matrix::diagonal_sum(transcript, h_at, r);
     let constraints = Strided {
-        at: offsets::of_job(p, names::RING_B),
+        at: offsets::of_job(params, names::RING_B),
         step: 64,
-        count: p.constraint_k,
+        count: params.constraint_k,
     };
-    let alpha = offsets::of_randomness(p, names::ALPHA);
-    let beta = offsets::of_randomness(p, names::BETA);
+    let alpha = offsets::of_randomness(params, names::ALPHA);
+    let beta = offsets::of_randomness(params, names::BETA);
     let aggregated = Strided {
-        at: offsets::of_transcript(p, names::B_DOUBLE_PRIME),
+        at: offsets::of_transcript(params, names::B_DOUBLE_PRIME),
         step: 64,
-        count: p.const_agg_length,
+        count: params.const_agg_length,
     };
     let b = aggregate::mix(
         job,

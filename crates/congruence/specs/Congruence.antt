@@ -4,8 +4,8 @@ use mathlib.Core.Logic.{_↔_}
 use Prim.Native.Nat.{ℕ, _*_, _%_, _<_, _≤_, _∣_}
 use Rattle.definitions.specs.Zq.{Q, Canonical, size}
 use Rattle.congruence.specs.declared.Congruence.{Congruence}
-use Rattle.congruence.specs.declared.Joined.{Joined}
-use Rattle.congruence.specs.declared.Joined.the-variants as J
+use Rattle.congruence.specs.declared.Combined.{Combined}
+use Rattle.congruence.specs.declared.Combined.the-variants as J
 use Rattle.congruence.specs.declared.Solution.{Solution}
 use Rattle.congruence.specs.declared.Solution.the-variants as S
 
@@ -19,9 +19,9 @@ pub record Reduced (c : Congruence) : Type 0 where
   pub canonical : Canonical (c .value)
 
 -- two congruences as one: with the same solutions, or without any
-abbrev pub Joins : (a b : Congruence) → Joined → Type 0
-Joins a b (J.One c) = Reduced c × ((x : ℕ) → (Solves a x × Solves b x) ↔ Solves c x)
-Joins a b J.None = (x : ℕ) → Solves a x → Solves b x → ⊥
+abbrev pub Combines : (a b : Congruence) → Combined → Type 0
+Combines a b (J.One c) = Reduced c × ((x : ℕ) → (Solves a x × Solves b x) ↔ Solves c x)
+Combines a b J.None = (x : ℕ) → Solves a x → Solves b x → ⊥
 
 -- the word of smallest centred size of which a fact holds, or that it holds of none
 abbrev pub Found : (holds : ℕ → Type 0) → Solution → Type 0

@@ -1,7 +1,7 @@
 // Congruences factor·x = value modulo Q in one unknown. Where Q is composite, a factor without an inverse may still have solutions.
 use zq::zq::Zq;
 ghost use Rattle.definitions.specs.Zq.{Canonical};
-ghost use Rattle.congruence.specs.Congruence.{Solves, Reduced, Joins, Found};
+ghost use Rattle.congruence.specs.Congruence.{Solves, Reduced, Combines, Found};
 
 // factor·x is the value modulo Q.
 pub struct Congruence {
@@ -10,7 +10,7 @@ pub struct Congruence {
 }
 
 // Two congruences as one, or that no number solves both.
-pub enum Joined {
+pub enum Combined {
     One(Congruence),
     None,
 }
@@ -22,9 +22,9 @@ pub enum Solution {
 }
 
 // Two congruences as one, the first with a factor that divides Q: Euclid's algorithm on the factors, with the values carried along.
-pub fn join(first: Congruence, second: Congruence) -> Joined
+pub fn combine(first: Congruence, second: Congruence) -> Combined
     requires { ⌜ Reduced first × Canonical (second .value) ⌝ }
-    ensures { λ r. ⌜ Joins first second r ⌝ }
+    ensures { λ r. ⌜ Combines first second r ⌝ }
 {
     let mut upper = second.factor;
     let mut upper_value = second.value;
@@ -39,9 +39,9 @@ pub fn join(first: Congruence, second: Congruence) -> Joined
         lower_value = rest_value.0;
     }
     if lower_value != 0 {
-        return Joined::None;
+        return Combined::None;
     }
-    Joined::One(Congruence {
+    Combined::One(Congruence {
         factor: upper,
         value: upper_value,
     })

@@ -1,4 +1,4 @@
--- The way back from sums of products of values is the inner product modulo Q, for up to 64 elements.
+-- The inverse NTT of sums of products of values is the inner product modulo Q, for up to 64 elements.
 use mathlib.Core.Path.{_≡_, refl, sym, ap, ap₂, subst, _∙_}
 use mathlib.Core.List.{List}
 use Prim.Native.Nat.{ℕ, zero, suc, _+_, _-_, _*_, _/_, _%_, _≤_, _<_}
@@ -12,9 +12,9 @@ use Rattle.lists.proofs.Table.{getD-table, table-ext, is-table}
 use Rattle.definitions.specs.Zq.{Q, lackQ, zsub}
 use Rattle.definitions.specs.Rq.{coeff, low, high, rmul}
 use Rattle.definitions.proofs.Suited.{suited, offset-above}
-use Rattle.fast_product.specs.Join.{joinOf, joinedOf}
-use Rattle.fast_product.specs.Kept.{ProductsFit, valuesOf, valuesAdded, sumsOf, offsetQ, scaledOf, backOf}
-use Rattle.fast_product.proofs.Joining.{join-is}
+use Rattle.fast_product.specs.Crt.{crtOf, crtAllOf}
+use Rattle.fast_product.specs.NttForm.{ProductsFit, nttOf, valuesAdded, sumsOf, offsetQ, scaledOf, inverseNttOf}
+use Rattle.fast_product.proofs.CrtLaws.{crt-is}
 use Rattle.fast_product.proofs.Residue.{Words, value-bound, product-small, sums-bound, scaled-at}
 
 -- the product of two words
@@ -43,14 +43,14 @@ difference l h s =
 
 module _ (n : ℕ) (hn : n ≤ 64) (a b : ℕ → List ℕ) (wa : (m : ℕ) → Words (a m)) (wb : (m : ℕ) → Words (b m)) where
   -- the inner product
-  pub back-is : backOf (sumsOf 0 n a b) (sumsOf 1 n a b) (sumsOf 2 n a b) ≡ table 64 (λ k. zsub (Σ n (λ m. low (a m) (b m) k)) (Σ n (λ m. high (a m) (b m) k)))
-  unfolding backOf joinedOf
-  back-is =
-      table-ext 64 (λ k. joinOf (getD (scaledOf 0 (sumsOf 0 n a b)) k 0) (getD (scaledOf 1 (sumsOf 1 n a b)) k 0) (getD (scaledOf 2 (sumsOf 2 n a b)) k 0))
+  pub inverse-is : inverseNttOf (sumsOf 0 n a b) (sumsOf 1 n a b) (sumsOf 2 n a b) ≡ table 64 (λ k. zsub (Σ n (λ m. low (a m) (b m) k)) (Σ n (λ m. high (a m) (b m) k)))
+  unfolding inverseNttOf crtAllOf
+  inverse-is =
+      table-ext 64 (λ k. crtOf (getD (scaledOf 0 (sumsOf 0 n a b)) k 0) (getD (scaledOf 1 (sumsOf 1 n a b)) k 0) (getD (scaledOf 2 (sumsOf 2 n a b)) k 0))
       (λ k. zsub (Σ n (λ m. low (a m) (b m) k)) (Σ n (λ m. high (a m) (b m) k))) at
     where
       at : (k : ℕ) → k < 64
-          → joinOf (getD (scaledOf 0 (sumsOf 0 n a b)) k 0) (getD (scaledOf 1 (sumsOf 1 n a b)) k 0) (getD (scaledOf 2 (sumsOf 2 n a b)) k 0)
+          → crtOf (getD (scaledOf 0 (sumsOf 0 n a b)) k 0) (getD (scaledOf 1 (sumsOf 1 n a b)) k 0) (getD (scaledOf 2 (sumsOf 2 n a b)) k 0)
           ≡ zsub (Σ n (λ m. low (a m) (b m) k)) (Σ n (λ m. high (a m) (b m) k))
       at k h =
           let hl : Σ n (λ m. low (a m) (b m) k) ≤ n * (64 * 18446744065119617025) = Σ-bound n (64 * 18446744065119617025) (λ m. low (a m) (b m) k) (λ m l. low-bound (a m) (b m) (wa m) (wb m) k h) in
@@ -58,10 +58,10 @@ module _ (n : ℕ) (hn : n ≤ 64) (a b : ℕ → List ℕ) (wa : (m : ℕ) → 
           joined k h (Σ n (λ m. low (a m) (b m) k)) (Σ n (λ m. high (a m) (b m) k)) refl refl (omega arith) (omega (arith, offset-above lackQ suited))
         where
           joined : (k : ℕ) → k < 64 → (L H : ℕ) → L ≡ Σ n (λ m. low (a m) (b m) k) → H ≡ Σ n (λ m. high (a m) (b m) k) → L ≤ 75557863690729951334400 → H < offsetQ
-              → joinOf (getD (scaledOf 0 (sumsOf 0 n a b)) k 0) (getD (scaledOf 1 (sumsOf 1 n a b)) k 0) (getD (scaledOf 2 (sumsOf 2 n a b)) k 0) ≡ zsub L H
+              → crtOf (getD (scaledOf 0 (sumsOf 0 n a b)) k 0) (getD (scaledOf 1 (sumsOf 1 n a b)) k 0) (getD (scaledOf 2 (sumsOf 2 n a b)) k 0) ≡ zsub L H
           joined k h L H eL eH bl bh =
               let e : L + (offsetQ - H) + Σ n (λ m. high (a m) (b m) k) ≡ Σ n (λ m. low (a m) (b m) k) + offsetQ = omega arith in
-              join-is (L + (offsetQ - H)) (getD (scaledOf 0 (sumsOf 0 n a b)) k 0) (getD (scaledOf 1 (sumsOf 1 n a b)) k 0) (getD (scaledOf 2 (sumsOf 2 n a b)) k 0)
+              crt-is (L + (offsetQ - H)) (getD (scaledOf 0 (sumsOf 0 n a b)) k 0) (getD (scaledOf 1 (sumsOf 1 n a b)) k 0) (getD (scaledOf 2 (sumsOf 2 n a b)) k 0)
               (omega arith)
               (scaled-at 0 (omega arith) n hn a b wa wb k (L + (offsetQ - H)) h e)
               (scaled-at 1 (omega arith) n hn a b wa wb k (L + (offsetQ - H)) h e)
@@ -69,17 +69,17 @@ module _ (n : ℕ) (hn : n ≤ 64) (a b : ℕ → List ℕ) (wa : (m : ℕ) → 
               ∙ difference L H bh
 
   -- one more product
-  pub sums-next : (i : ℕ) → i < 3 → valuesAdded (sumsOf i n a b) (valuesOf i (a n)) (valuesOf i (b n)) ≡ sumsOf i (n + 1) a b
+  pub sums-next : (i : ℕ) → i < 3 → valuesAdded (sumsOf i n a b) (nttOf i (a n)) (nttOf i (b n)) ≡ sumsOf i (n + 1) a b
   unfolding valuesAdded sumsOf
   sums-next i hi =
-      table-ext 64 (λ k. getD (sumsOf i n a b) k 0 + getD (valuesOf i (a n)) k 0 * getD (valuesOf i (b n)) k 0) (λ k. Σ (n + 1) (λ m. getD (valuesOf i (a m)) k 0 * getD (valuesOf i (b m)) k 0))
-      (λ k h. ap (λ x. x + getD (valuesOf i (a n)) k 0 * getD (valuesOf i (b n)) k 0) (getD-table 64 (λ k. Σ n (λ m. getD (valuesOf i (a m)) k 0 * getD (valuesOf i (b m)) k 0)) k 0 h)
-      ∙ sym (Σ-suc n (λ m. getD (valuesOf i (a m)) k 0 * getD (valuesOf i (b m)) k 0)))
+      table-ext 64 (λ k. getD (sumsOf i n a b) k 0 + getD (nttOf i (a n)) k 0 * getD (nttOf i (b n)) k 0) (λ k. Σ (n + 1) (λ m. getD (nttOf i (a m)) k 0 * getD (nttOf i (b m)) k 0))
+      (λ k h. ap (λ x. x + getD (nttOf i (a n)) k 0 * getD (nttOf i (b n)) k 0) (getD-table 64 (λ k. Σ n (λ m. getD (nttOf i (a m)) k 0 * getD (nttOf i (b m)) k 0)) k 0 h)
+      ∙ sym (Σ-suc n (λ m. getD (nttOf i (a m)) k 0 * getD (nttOf i (b m)) k 0)))
 
   -- for which there is room
-  pub sums-room : (i : ℕ) → i < 3 → ProductsFit (sumsOf i n a b) (valuesOf i (a n)) (valuesOf i (b n))
+  pub sums-room : (i : ℕ) → i < 3 → ProductsFit (sumsOf i n a b) (nttOf i (a n)) (nttOf i (b n))
   sums-room i hi k h =
-      omega (arith, sums-bound i hi n hn a b wa wb k h, product-small (getD (valuesOf i (a n)) k 0) (getD (valuesOf i (b n)) k 0) (value-bound i hi (a n) (wa n) k h) (value-bound i hi (b n) (wb n) k h))
+      omega (arith, sums-bound i hi n hn a b wa wb k h, product-small (getD (nttOf i (a n)) k 0) (getD (nttOf i (b n)) k 0) (value-bound i hi (a n) (wa n) k h) (value-bound i hi (b n) (wb n) k h))
 
 -- no products
 pub no-sums : (i : ℕ) (a b : ℕ → List ℕ) → replicate 64 0 ≡ sumsOf i 0 a b
@@ -87,19 +87,19 @@ unfolding sumsOf Σ
 no-sums i a b = let z : ℕ = 0 in is-table 64 (replicate 64 z) (λ k. z) z (length-replicate 64 z) (λ k l. getD-replicate 64 k z z l)
 
 -- one product
-pub one-product : (a b : List ℕ) → Words a → Words b → backOf (sumsOf 0 1 (λ m. a) (λ m. b)) (sumsOf 1 1 (λ m. a) (λ m. b)) (sumsOf 2 1 (λ m. a) (λ m. b)) ≡ rmul a b
+pub one-product : (a b : List ℕ) → Words a → Words b → inverseNttOf (sumsOf 0 1 (λ m. a) (λ m. b)) (sumsOf 1 1 (λ m. a) (λ m. b)) (sumsOf 2 1 (λ m. a) (λ m. b)) ≡ rmul a b
 unfolding rmul Σ
 one-product a b wa wb =
-    back-is 1 (omega arith) (λ m. a) (λ m. b) (λ m. wa) (λ m. wb)
+    inverse-is 1 (omega arith) (λ m. a) (λ m. b) (λ m. wa) (λ m. wb)
     ∙ table-ext 64 (λ k. zsub (0 + low a b k) (0 + high a b k)) (λ k. zsub (low a b k) (high a b k)) (λ k h. ap₂ zsub (Nat.zero-add (low a b k)) (Nat.zero-add (high a b k)))
 
 -- the first product: lists by what they hold
-module _ (i : ℕ) (hi : i < 3) (a b s x y : List ℕ) (wa : Words a) (wb : Words b) (es : s ≡ replicate 64 0) (ex : x ≡ valuesOf i a) (ey : y ≡ valuesOf i b) where
+module _ (i : ℕ) (hi : i < 3) (a b s x y : List ℕ) (wa : Words a) (wb : Words b) (es : s ≡ replicate 64 0) (ex : x ≡ nttOf i a) (ey : y ≡ nttOf i b) where
   pub first-room : ProductsFit s x y
   first-room =
       subst (λ l. ProductsFit l x y) (sym (es ∙ no-sums i (λ m. a) (λ m. b)))
       (subst (λ l. ProductsFit (sumsOf i 0 (λ m. a) (λ m. b)) l y) (sym ex)
-      (subst (λ l. ProductsFit (sumsOf i 0 (λ m. a) (λ m. b)) (valuesOf i a) l) (sym ey) (sums-room 0 (omega arith) (λ m. a) (λ m. b) (λ m. wa) (λ m. wb) i hi)))
+      (subst (λ l. ProductsFit (sumsOf i 0 (λ m. a) (λ m. b)) (nttOf i a) l) (sym ey) (sums-room 0 (omega arith) (λ m. a) (λ m. b) (λ m. wa) (λ m. wb) i hi)))
 
   pub first-sums : (r : List ℕ) → r ≡ valuesAdded s x y → r ≡ sumsOf i 1 (λ m. a) (λ m. b)
   first-sums r e =

@@ -1,3 +1,3 @@
-pub mod Joining
+pub mod CrtLaws
 pub mod Residue
 pub mod Inner

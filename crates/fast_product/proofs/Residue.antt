@@ -1,4 +1,4 @@
--- Modulo one prime: the way back from sums of products of values gives the coefficients of the inner product, plus 4096·Q².
+-- Modulo one prime: the inverse NTT of sums of products of values gives the coefficients of the inner product, plus 4096·Q².
 use mathlib.Core.Path.{_≡_, sym, ap, ap₂, subst, _∙_}
 use mathlib.Core.List.{List}
 use Prim.Native.Nat.{ℕ, zero, _+_, _-_, _*_, _%_, _≤_, _<_, _^_}
@@ -23,10 +23,10 @@ use Rattle.ntt_layers.specs.Words.{remaindersOf}
 use Rattle.ntt_layers.proofs.Residues.{Below, res, ModOps, mod-ring, res-less, res-reduced, res-add, res-mul, res-sub, res-Σ}
 use Rattle.ntt_layers.proofs.Folds.{prime-pos}
 use Rattle.ntt.specs.Roots.{delta, root, opposite, twiddleTable}
-use Rattle.ntt.specs.Transforms.{backwardOf}
-use Rattle.ntt.proofs.Roots.{primeOf, positive, rootIn, root-half, twiddle-pow, back-pow, twiddles-fit, backs-fit}
-use Rattle.ntt.proofs.Laws.{forward-bound, undone-bound, res-forward, res-backward}
-use Rattle.fast_product.specs.Kept.{valuesOf, sumsOf, inverse64, offsetQ, offset, scaledOf}
+use Rattle.ntt.specs.Transforms.{inverseTransformOf}
+use Rattle.ntt.proofs.Roots.{primeOf, positive, rootIn, root-half, twiddle-pow, inverse-pow, twiddles-fit, inverses-fit}
+use Rattle.ntt.proofs.Laws.{forward-bound, inverse-layers-bound, res-forward, res-inverse}
+use Rattle.fast_product.specs.NttForm.{nttOf, sumsOf, inverse64, offsetQ, offset, scaledOf}
 
 module _ (O : Ops) (R : CRing O) where
   open Ops O using (Carrier, add as _⊕_, mul as _⊗_, neg, one)
@@ -56,8 +56,8 @@ offset-is : (i : ℕ) → i < 3 → offset i ≡ offsetQ % primeOf i
 offset-is i h = agree 3 offset (λ i. offsetQ % primeOf i) tt i h
 
 -- a value is below twice the prime
-pub value-bound : (i : ℕ) → i < 3 → (a : List ℕ) → Words a → (k : ℕ) → k < 64 → getD (valuesOf i a) k 0 ≤ 134285152
-unfolding valuesOf
+pub value-bound : (i : ℕ) → i < 3 → (a : List ℕ) → Words a → (k : ℕ) → k < 64 → getD (nttOf i a) k 0 ≤ 134285152
+unfolding nttOf
 value-bound i hi a wa k h = forward-bound (delta i) (opposite i) twiddleTable (192 * i) (twiddles-fit i hi) a (λ k l. omega (arith, wa k l)) k h
 
 -- so are 64 products in a u64
@@ -93,15 +93,15 @@ module _ (i : ℕ) (hi : i < 3) (n : ℕ) (hn : n ≤ 64) (a b : ℕ → List �
 
   -- term m of sum k
   unfoldable pub term : ℕ → ℕ → ℕ
-  term k m = getD (valuesOf i (a m)) k 0 * getD (valuesOf i (b m)) k 0
+  term k m = getD (nttOf i (a m)) k 0 * getD (nttOf i (b m)) k 0
 
   pub sums-at : (k : ℕ) → k < 64 → getD (sumsOf i n a b) k 0 ≡ Σ n (term k)
   unfolding sumsOf term
-  sums-at k h = getD-table 64 (λ k. Σ n (λ m. getD (valuesOf i (a m)) k 0 * getD (valuesOf i (b m)) k 0)) k 0 h
+  sums-at k h = getD-table 64 (λ k. Σ n (λ m. getD (nttOf i (a m)) k 0 * getD (nttOf i (b m)) k 0)) k 0 h
 
   term-bound : (k m : ℕ) → k < 64 → term k m ≤ 18032502047663104
   unfolding term
-  term-bound k m h = product-small (getD (valuesOf i (a m)) k 0) (getD (valuesOf i (b m)) k 0) (value-bound i hi (a m) (wa m) k h) (value-bound i hi (b m) (wb m) k h)
+  term-bound k m h = product-small (getD (nttOf i (a m)) k 0) (getD (nttOf i (b m)) k 0) (value-bound i hi (a m) (wa m) k h) (value-bound i hi (b m) (wb m) k h)
 
   pub sums-bound : (k : ℕ) → k < 64 → getD (sumsOf i n a b) k 0 ≤ n * 18032502047663104
   sums-bound k h = subst (λ x. x ≤ n * 18032502047663104) (sym (sums-at k h)) (Σ-bound n 18032502047663104 (term k) (λ m l. term-bound k m h))
@@ -110,8 +110,8 @@ module _ (i : ℕ) (hi : i < 3) (n : ℕ) (hn : n ≤ 64) (a b : ℕ → List �
   sums-fit k h = omega (arith, sums-bound k h)
 
   -- a value in the ring
-  value-is : (c : List ℕ) → Words c → (k : ℕ) → k < 64 → r (getD (valuesOf i c) k 0) ≡ eval O 64 (P k) (extend O 64 (λ j. r (coeff c j)))
-  unfolding valuesOf eval P
+  value-is : (c : List ℕ) → Words c → (k : ℕ) → k < 64 → r (getD (nttOf i c) k 0) ≡ eval O 64 (P k) (extend O 64 (λ j. r (coeff c j)))
+  unfolding nttOf eval P
   value-is c wc k h =
       res-forward (delta i) (opposite i) twiddleTable (192 * i) (twiddles-fit i hi) (positive i) (rootIn i) (root-half i hi) (λ j t hj ht. twiddle-pow i j t hi hj ht) c (λ k l. omega (arith, wc k l)) k h
       ∙ sum-ext O 64 (λ j. r (coeff c j) ⊗ pow O (rootIn i) (exponent 6 k * j)) (λ j. extend O 64 (λ j. r (coeff c j)) j ⊗ pow O (rootIn i) (exponent 6 k * j))
@@ -130,7 +130,7 @@ module _ (i : ℕ) (hi : i < 3) (n : ℕ) (hn : n ≤ 64) (a b : ℕ → List �
     where
       each : (m : ℕ) → r (term k m) ≡ eval O 64 (P k) (mulF O 64 (A m) (B m))
       each m =
-          res-mul (primeOf i) (positive i) (getD (valuesOf i (a m)) k 0) (getD (valuesOf i (b m)) k 0)
+          res-mul (primeOf i) (positive i) (getD (nttOf i (a m)) k 0) (getD (nttOf i (b m)) k 0)
           ∙ ap₂ _⊗_ (value-is (a m) (wa m) k h) (value-is (b m) (wb m) k h)
           ∙ sym (eval-mul O (mod-ring (primeOf i) (positive i)) 64 (P k) (point-hom O (mod-ring (primeOf i) (positive i)) (rootIn i) (root-half i hi) k)
           (point-anti O (mod-ring (primeOf i) (positive i)) (rootIn i) (root-half i hi) k h) (A m) (B m) (extend-anti O (mod-ring (primeOf i) (positive i)) 64 (omega arith) (λ j. r (coeff (b m) j))))
@@ -164,7 +164,7 @@ module _ (i : ℕ) (hi : i < 3) (n : ℕ) (hn : n ≤ 64) (a b : ℕ → List �
       → getD (scaledOf i (sumsOf i n a b)) k 0 ≡ x % primeOf i
   unfolding scaledOf remaindersOf
   scaled-at k x h e =
-      getD-table 64 (λ k. (getD (backwardOf (delta i) (opposite i) twiddleTable (576 + 192 * i) (sumsOf i n a b)) k 0 * inverse64 i + offset i) % primeOf i) k 0 h
+      getD-table 64 (λ k. (getD (inverseTransformOf (delta i) (opposite i) twiddleTable (576 + 192 * i) (sumsOf i n a b)) k 0 * inverse64 i + offset i) % primeOf i) k 0 h
       ∙ ap (λ (y : Below (primeOf i)). y .0) whole
     where
       L : ℕ
@@ -174,7 +174,7 @@ module _ (i : ℕ) (hi : i < 3) (n : ℕ) (hn : n ≤ 64) (a b : ℕ → List �
       H = Σ n (λ m. high (a m) (b m) k)
 
       back : ℕ
-      back = getD (backwardOf (delta i) (opposite i) twiddleTable (576 + 192 * i) (sumsOf i n a b)) k 0
+      back = getD (inverseTransformOf (delta i) (opposite i) twiddleTable (576 + 192 * i) (sumsOf i n a b)) k 0
 
       unit : r 64 ⊗ r (inverse64 i) ≡ one
       unit = sym (res-mul (primeOf i) (positive i) 64 (inverse64 i)) ∙ sym (res-less (primeOf i) (positive i) 1 (64 * inverse64 i) 63 (inverse-is i hi))
@@ -187,7 +187,7 @@ module _ (i : ℕ) (hi : i < 3) (n : ℕ) (hn : n ≤ 64) (a b : ℕ → List �
           res-add (primeOf i) (positive i) (back * inverse64 i) (offset i)
           ∙ ap₂ _⊕_
           (res-mul (primeOf i) (positive i) back (inverse64 i)
-          ∙ ap (λ z. z ⊗ r (inverse64 i)) (res-backward (delta i) (opposite i) twiddleTable (576 + 192 * i) (backs-fit i hi) (positive i) (rootIn i) (root-half i hi) (λ j t hj ht. back-pow i j t hi hj ht) (sumsOf i n a b) sums-fit C sums-values k h)
+          ∙ ap (λ z. z ⊗ r (inverse64 i)) (res-inverse (delta i) (opposite i) twiddleTable (576 + 192 * i) (inverses-fit i hi) (positive i) (rootIn i) (root-half i hi) (λ j t hj ht. inverse-pow i j t hi hj ht) (sumsOf i n a b) sums-fit C sums-values k h)
           ∙ cancelled O (mod-ring (primeOf i) (positive i)) (r 64) (C k) (r (inverse64 i)) unit
           ∙ inner-at k h)
           (ap r (offset-is i hi) ∙ res-reduced (primeOf i) (positive i) offsetQ)
@@ -195,10 +195,11 @@ module _ (i : ℕ) (hi : i < 3) (n : ℕ) (hn : n ≤ 64) (a b : ℕ → List �
           ∙ ap (λ z. z ⊕ neg (r H)) (sym (res-add (primeOf i) (positive i) L offsetQ))
           ∙ sym (res-sub (primeOf i) (positive i) (L + offsetQ) H x 0 same)
 
--- the way back stays below three times the prime
-pub back-small : (i : ℕ) → i < 3 → (s : List ℕ) → ((k : ℕ) → k < 64 → getD s k 0 < 2 ^ 64) → (k : ℕ) → k < 64 → getD (backwardOf (delta i) (opposite i) twiddleTable (576 + 192 * i) s) k 0 ≤ 285600000
-unfolding backwardOf
-back-small i hi s sums k h = undone-bound (delta i) (opposite i) twiddleTable (576 + 192 * i) (backs-fit i hi) s sums 6 (omega arith) k h
+-- the inverse NTT stays below three times the prime
+pub inverse-small : (i : ℕ) → i < 3 → (s : List ℕ) → ((k : ℕ) → k < 64 → getD s k 0 < 2 ^ 64) → (k : ℕ) → k < 64
+    → getD (inverseTransformOf (delta i) (opposite i) twiddleTable (576 + 192 * i) s) k 0 ≤ 285600000
+unfolding inverseTransformOf
+inverse-small i hi s sums k h = inverse-layers-bound (delta i) (opposite i) twiddleTable (576 + 192 * i) (inverses-fit i hi) s sums 6 (omega arith) k h
 
 -- remainders are below the prime
 pub remainders-below : (d factor offset : ℕ) (x : List ℕ) → d ≤ 2175 → (k : ℕ) → k < 64 → getD (remaindersOf d factor offset x) k 0 < prime d

@@ -1,2 +1,2 @@
-pub mod Join
-pub mod Kept
+pub mod Crt
+pub mod NttForm

@@ -1,5 +1,5 @@
 // The fast ring product: the same answer as the plain product for every pair of words.
-use crate::kept;
+use crate::ntt_form;
 use ntt::table;
 use rq::rq::Rq;
 ghost use mathlib.Core.Path.{_≡_};
@@ -9,10 +9,10 @@ pub fn multiply(a: [u32; 64], b: [u32; 64]) -> [u32; 64]
     ensures { λ r. ⌜ r ≡ rmul a b ⌝ }
 {
     let w = table::twiddles();
-    let x = kept::transform(a, &w);
-    let y = kept::transform(b, &w);
-    let sums = kept::add_product(kept::no_sums(), x, y);
-    kept::back(sums, &w)
+    let x = ntt_form::transform(a, &w);
+    let y = ntt_form::transform(b, &w);
+    let sums = ntt_form::add_product(ntt_form::no_sums(), x, y);
+    ntt_form::inverse(sums, &w)
 }
 
 pub fn mul(a: Rq, b: Rq) -> Rq

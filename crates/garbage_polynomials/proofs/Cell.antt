@@ -24,14 +24,15 @@ module _ (φ s : List ℕ) (φ-at s-at n : ℕ) where
 -- after a store apart from φ
 module _ (now φ : List ℕ) (place : ℕ) (new : List ℕ) (φ-at r n : ℕ) (e : now ≡ splice φ place new) (apart : Apart φ-at (64 * (r * n)) place (length new)) where
   -- the inner products with φ_i
-  φ-kept : (s : List ℕ) (s-at i j : ℕ) → i < r → dot n (vector now φ-at n i) (vector s s-at n j) ≡ dot n (vector φ φ-at n i) (vector s s-at n j)
-  φ-kept s s-at i j h = dot-ext RqOps n (vector now φ-at n i) (vector φ φ-at n i) (vector s s-at n j) (vector s s-at n j) (λ m l. vector-apart now φ place new φ-at r n e apart i m h l) (λ m l. refl)
+  φ-unchanged : (s : List ℕ) (s-at i j : ℕ) → i < r → dot n (vector now φ-at n i) (vector s s-at n j) ≡ dot n (vector φ φ-at n i) (vector s s-at n j)
+  φ-unchanged s s-at i j h =
+      dot-ext RqOps n (vector now φ-at n i) (vector φ φ-at n i) (vector s s-at n j) (vector s s-at n j) (λ m l. vector-apart now φ place new φ-at r n e apart i m h l) (λ m l. refl)
 
   -- the cells of h
-  pub h-kept : (s : List ℕ) (s-at i j : ℕ) → i < r → j < r → h-of now φ-at s s-at n i j ≡ h-of φ φ-at s s-at n i j
-  h-kept s s-at i j h l = ap₂ _⊕_ (φ-kept s s-at i j h) (φ-kept s s-at j i l)
+  pub h-unchanged : (s : List ℕ) (s-at i j : ℕ) → i < r → j < r → h-of now φ-at s s-at n i j ≡ h-of φ φ-at s s-at n i j
+  h-unchanged s s-at i j h l = ap₂ _⊕_ (φ-unchanged s s-at i j h) (φ-unchanged s s-at j i l)
 
   -- row i of h, stored
-  pub h-row-kept : (next s : List ℕ) (s-at i row : ℕ) → i < r → next ≡ splice now row (flat (table (i + 1) (h-of now φ-at s s-at n i))) → next ≡ splice now row (flat (table (i + 1) (h-of φ φ-at s s-at n i)))
-  h-row-kept next s s-at i row h stored =
-      stored ∙ ap (λ cells. splice now row (flat cells)) (table-ext (i + 1) (h-of now φ-at s s-at n i) (h-of φ φ-at s s-at n i) (λ j l. h-kept s s-at i j h (omega arith)))
+  pub h-row-unchanged : (next s : List ℕ) (s-at i row : ℕ) → i < r → next ≡ splice now row (flat (table (i + 1) (h-of now φ-at s s-at n i))) → next ≡ splice now row (flat (table (i + 1) (h-of φ φ-at s s-at n i)))
+  h-row-unchanged next s s-at i row h stored =
+      stored ∙ ap (λ cells. splice now row (flat cells)) (table-ext (i + 1) (h-of now φ-at s s-at n i) (h-of φ φ-at s s-at n i) (λ j l. h-unchanged s s-at i j h (omega arith)))

@@ -1,12 +1,12 @@
--- The sums of products of values of one pair, one product after the other, and the way back from them.
+-- The sums of products of values of one pair, one product after the other, and the inverse NTT of them.
 use mathlib.Core.Path.{_≡_, sym, ap, ap₂, subst, _∙_}
 use mathlib.Core.List.{List}
 use Prim.Native.Nat.{ℕ, _+_, _≤_, _<_}
 use native.Mathlib.Omega.{arith}
 use lib.ListN.{replicate}
-use Rattle.fast_product.specs.Kept.{ProductsFit, Transform, valuesOf, valuesAdded, sumsOf, backOf}
+use Rattle.fast_product.specs.NttForm.{ProductsFit, Transform, nttOf, valuesAdded, sumsOf, inverseNttOf}
 use Rattle.fast_product.proofs.Residue.{Words}
-use Rattle.fast_product.proofs.Inner.{back-is, sums-next, sums-room, no-sums}
+use Rattle.fast_product.proofs.Inner.{inverse-is, sums-next, sums-room, no-sums}
 use Rattle.kept_calls.specs.Repeated.{repeated}
 
 -- the sums of m products a·b
@@ -24,13 +24,13 @@ held-none a b s t u es et eu = record {
 }
 
 module _ (m : ℕ) (hm : m ≤ 64) (a b : List ℕ) (wa : Words a) (wb : Words b) where
-  room : (i : ℕ) → i < 3 → (s x y : List ℕ) → s ≡ sumsOf i m (λ j. a) (λ j. b) → x ≡ valuesOf i a → y ≡ valuesOf i b → ProductsFit s x y
+  room : (i : ℕ) → i < 3 → (s x y : List ℕ) → s ≡ sumsOf i m (λ j. a) (λ j. b) → x ≡ nttOf i a → y ≡ nttOf i b → ProductsFit s x y
   room i hi s x y es ex ey =
       subst (λ l. ProductsFit l x y) (sym es)
       (subst (λ l. ProductsFit (sumsOf i m (λ j. a) (λ j. b)) l y) (sym ex)
-      (subst (λ l. ProductsFit (sumsOf i m (λ j. a) (λ j. b)) (valuesOf i a) l) (sym ey) (sums-room m hm (λ j. a) (λ j. b) (λ j. wa) (λ j. wb) i hi)))
+      (subst (λ l. ProductsFit (sumsOf i m (λ j. a) (λ j. b)) (nttOf i a) l) (sym ey) (sums-room m hm (λ j. a) (λ j. b) (λ j. wa) (λ j. wb) i hi)))
 
-  next : (i : ℕ) → i < 3 → (s x y r : List ℕ) → s ≡ sumsOf i m (λ j. a) (λ j. b) → x ≡ valuesOf i a → y ≡ valuesOf i b → r ≡ valuesAdded s x y → r ≡ sumsOf i (m + 1) (λ j. a) (λ j. b)
+  next : (i : ℕ) → i < 3 → (s x y r : List ℕ) → s ≡ sumsOf i m (λ j. a) (λ j. b) → x ≡ nttOf i a → y ≡ nttOf i b → r ≡ valuesAdded s x y → r ≡ sumsOf i (m + 1) (λ j. a) (λ j. b)
   next i hi s x y r es ex ey e = e ∙ ap (λ l. valuesAdded l x y) es ∙ ap₂ (valuesAdded (sumsOf i m (λ j. a) (λ j. b))) ex ey ∙ sums-next m hm (λ j. a) (λ j. b) (λ j. wa) (λ j. wb) i hi
 
   module _ (s t u x₁ x₂ x₃ y₁ y₂ y₃ : List ℕ) (h : Held m a b s t u) (tx : Transform a x₁ x₂ x₃) (ty : Transform b y₁ y₂ y₃) where
@@ -46,11 +46,11 @@ module _ (m : ℕ) (hm : m ≤ 64) (a b : List ℕ) (wa : Words a) (wb : Words b
       third = next 2 (omega arith) u x₃ y₃ u′ (h .third) (tx .three) (ty .three) e₃;
     }
 
--- the way back
-pub held-back : (n m : ℕ) → m ≡ n → n ≤ 64 → (a b : List ℕ) → Words a → Words b → (s t u : List ℕ) → Held m a b s t u → backOf s t u ≡ repeated n a b
+-- the inverse NTT
+pub held-inverse : (n m : ℕ) → m ≡ n → n ≤ 64 → (a b : List ℕ) → Words a → Words b → (s t u : List ℕ) → Held m a b s t u → inverseNttOf s t u ≡ repeated n a b
 unfolding repeated
-held-back n m e hn a b wa wb s t u h =
-    ap₂ (λ x y. backOf x y u) (h .first) (h .second)
-    ∙ ap (backOf (sumsOf 0 m (λ i. a) (λ i. b)) (sumsOf 1 m (λ i. a) (λ i. b))) (h .third)
-    ∙ ap (λ c. backOf (sumsOf 0 c (λ i. a) (λ i. b)) (sumsOf 1 c (λ i. a) (λ i. b)) (sumsOf 2 c (λ i. a) (λ i. b))) e
-    ∙ back-is n hn (λ i. a) (λ i. b) (λ i. wa) (λ i. wb)
+held-inverse n m e hn a b wa wb s t u h =
+    ap₂ (λ x y. inverseNttOf x y u) (h .first) (h .second)
+    ∙ ap (inverseNttOf (sumsOf 0 m (λ i. a) (λ i. b)) (sumsOf 1 m (λ i. a) (λ i. b))) (h .third)
+    ∙ ap (λ c. inverseNttOf (sumsOf 0 c (λ i. a) (λ i. b)) (sumsOf 1 c (λ i. a) (λ i. b)) (sumsOf 2 c (λ i. a) (λ i. b))) e
+    ∙ inverse-is n hn (λ i. a) (λ i. b) (λ i. wa) (λ i. wb)

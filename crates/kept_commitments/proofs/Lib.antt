@@ -1,3 +1,3 @@
 pub mod SpreadLaws
 pub mod ColumnLaws
-pub mod KeptColumns
+pub mod NttColumns

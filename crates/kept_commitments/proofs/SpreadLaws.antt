@@ -12,7 +12,7 @@ use Rattle.lists.proofs.Splice.{length-splice, getD-splice-before, getD-splice-
 use Rattle.definitions.specs.Rq.{Element}
 use Rattle.definitions.specs.Ring.{words}
 use Rattle.protocol.proofs.Flat.{length-words}
-use Rattle.kept_vectors.specs.Keeps.{AllValues}
+use Rattle.kept_vectors.specs.NttForm.{AllValues}
 use Rattle.kept_commitments.specs.Spread.{spread}
 
 module _ (S : List ℕ) (at step : ℕ) (f : ℕ → Element) where

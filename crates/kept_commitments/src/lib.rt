@@ -1,4 +1,4 @@
-// t_i = A·s_i of vectors s_i that the scratch keeps transformed: each row of A is transformed once, and gives one element of each t_i.
+// t_i = A·s_i of vectors s_i that the scratch holds in NTT form: each row of A is transformed once, and gives one element of each t_i.
 use kept_vectors;
 use ntt::table;
 ghost use mathlib.Core.Path.{_≡_};
@@ -7,10 +7,10 @@ ghost use lib.ListN.{length};
 ghost use Rattle.lists.specs.Part.{splice};
 ghost use Rattle.protocol.specs.Formulas.{flat, rows};
 ghost use Rattle.ntt.specs.Roots.{twiddleTable};
-ghost use Rattle.kept_vectors.specs.Keeps.{kept-row, Keeps, AllValues};
-ghost use Rattle.kept_commitments.specs.Spread.{spread, kept-t, with-t, ColumnRoom, ColumnsRoom};
+ghost use Rattle.kept_vectors.specs.NttForm.{ntt-row, NttForm, AllValues};
+ghost use Rattle.kept_commitments.specs.Spread.{spread, ntt-t, with-t, ColumnRoom, ColumnsRoom};
 
-// The inner products of a kept vector with `count` vectors that the scratch keeps, stored a step apart.
+// The inner products of a vector in NTT form with `count` vectors that the scratch holds so, stored a step apart.
 pub fn column(
     v: &[u32],
     n: usize,
@@ -22,7 +22,7 @@ pub fn column(
     step: usize,
 )
     requires { ⌜ (now w ≡ twiddleTable) × AllValues (now v) 0 n × AllValues (now scratch) at (count * n) × ColumnRoom (now scratch) n count at «out_at» step ⌝ }
-    ensures { λ _. ⌜ now (scratch .exit) ≡ spread (now (scratch .entry)) «out_at» step count (kept-row (now (v .entry)) (now (scratch .entry)) at n) ⌝ }
+    ensures { λ _. ⌜ now (scratch .exit) ≡ spread (now (scratch .entry)) «out_at» step count (ntt-row (now (v .entry)) (now (scratch .entry)) at n) ⌝ }
 {
     let mut place = at;
     let mut to = out_at;
@@ -48,7 +48,7 @@ pub fn columns(
     out_at: usize,
 )
     requires { ⌜ («m_at» + 64 * (width * n) ≤ length (now matrix)) × AllValues (now scratch) at (r * n) × ColumnsRoom (now scratch) width n r at «out_at» ⌝ }
-    ensures { λ _. ⌜ now (scratch .exit) ≡ splice (now (scratch .entry)) «out_at» (flat (rows r width (kept-t (now (matrix .entry)) «m_at» (now (scratch .entry)) at n))) ⌝ }
+    ensures { λ _. ⌜ now (scratch .exit) ≡ splice (now (scratch .entry)) «out_at» (flat (rows r width (ntt-t (now (matrix .entry)) «m_at» (now (scratch .entry)) at n))) ⌝ }
 {
     let w = table::twiddles();
     let mut buffer = [0u32; 12288];
@@ -56,7 +56,7 @@ pub fn columns(
     let mut place = out_at;
     let mut k = 0;
     while k < width {
-        kept_vectors::keep(matrix, start, n, &w, &mut buffer, 0);
+        kept_vectors::to_ntt_form(matrix, start, n, &w, &mut buffer, 0);
         column(&buffer, n, r, &w, scratch, at, place, 64 * width);
         start += 64 * n;
         place += 64;
@@ -79,9 +79,9 @@ pub fn t_of(
 )
     requires { ⌜ («m_at» + 64 * (width * n) ≤ length (now matrix)) × («s_at» + 64 * (r * n) ≤ length (now s)) × ColumnsRoom (now scratch) width n r at «out_at» ⌝ }
     ensures { λ _. ⌜ now (scratch .exit) ≡ with-t (now (scratch .entry)) (now (matrix .entry)) «m_at» width n (now (s .entry)) «s_at» r at «out_at» ⌝ }
-    ensures { λ _. ⌜ Keeps (now (scratch .exit)) at (now (s .entry)) «s_at» (r * n) ⌝ }
+    ensures { λ _. ⌜ NttForm (now (scratch .exit)) at (now (s .entry)) «s_at» (r * n) ⌝ }
 {
     let w = table::twiddles();
-    kept_vectors::keep(s, s_at, r * n, &w, scratch, at);
+    kept_vectors::to_ntt_form(s, s_at, r * n, &w, scratch, at);
     columns(matrix, m_at, width, n, r, scratch, at, out_at);
 }

@@ -11,8 +11,8 @@ use Rattle.lists.proofs.Table.{length-table, table-ext, table-split}
 use Rattle.lists.proofs.Splice.{length-splice, splice-nil, splice-append, getD-splice-after}
 use Rattle.lists.proofs.Fill.{getD-splice-table}
 use Rattle.fast_product.proofs.Residue.{Words}
-use Rattle.kept_vectors.specs.Keeps.{values, AllValues}
-use Rattle.kept_sums.specs.Sums.{KeptRoom, added}
+use Rattle.kept_vectors.specs.NttForm.{ntt-form, AllValues}
+use Rattle.kept_sums.specs.Sums.{NttRoom, added}
 use Rattle.kept_sums.proofs.Laws.{values-small, all-small, room-for}
 use Rattle.kept_mix.proofs.Terms.{value-in}
 use Rattle.kept_forms.specs.Forms.{form-added, forms-added, FormSmall, FormsSmall}
@@ -22,22 +22,22 @@ pub s-small : (s : List ℕ) → AllValues s 0 1 → (k : ℕ) → k < 192 → g
 s-small s v k l = all-small s 0 1 v 0 k (omega arith) l
 
 -- an element's values in a buffer of their size
-module _ (e a buffer : List ℕ) (same : a ≡ e) (stored : buffer ≡ splice (replicate 192 0) 0 (values a)) where
+module _ (e a buffer : List ℕ) (same : a ≡ e) (stored : buffer ≡ splice (replicate 192 0) 0 (ntt-form a)) where
   pub form-made : (forms next : List ℕ) (form : ℕ) (s : List ℕ) → next ≡ splice forms form (added forms form buffer 0 s 0) → next ≡ splice forms form (form-added forms form e s)
   unfolding added form-added
   form-made forms next form s made =
       made
-      ∙ ap (splice forms form) (table-ext 192 (λ k. getD forms (form + k) 0 + getD buffer (0 + k) 0 * getD s (0 + k) 0) (λ k. getD forms (form + k) 0 + getD (values e) k 0 * getD s k 0)
+      ∙ ap (splice forms form) (table-ext 192 (λ k. getD forms (form + k) 0 + getD buffer (0 + k) 0 * getD s (0 + k) 0) (λ k. getD forms (form + k) 0 + getD (ntt-form e) k 0 * getD s k 0)
       (λ k l. ap₂ (λ v j. getD forms (form + k) 0 + v * getD s j 0) (value-in e a buffer same stored k l) (zero-add k)))
 
-  pub form-room : (forms : List ℕ) (form : ℕ) (s : List ℕ) → Words e → AllValues s 0 1 → FormSmall forms form → KeptRoom forms form buffer 0 s 0
+  pub form-room : (forms : List ℕ) (form : ℕ) (s : List ℕ) → Words e → AllValues s 0 1 → FormSmall forms form → NttRoom forms form buffer 0 s 0
   form-room forms form s w v small =
       room-for forms form buffer 0 s 0 (small .1) (λ k l. subst (λ x. x ≤ 134285152) (sym (value-in e a buffer same stored k l)) (values-small e w k l)) (s-small s v)
 
   -- they are values
   pub buffer-values : Words e → AllValues buffer 0 1
   buffer-values w = let z : ℕ = 0 in record {
-    within = omega (arith, ap length stored, length-splice (replicate 192 z) 0 (values a), length-replicate 192 z);
+    within = omega (arith, ap length stored, length-splice (replicate 192 z) 0 (ntt-form a), length-replicate 192 z);
     small = λ i m k hi hm l.
         let there : 0 + 64 * i + 192 * m + k ≡ 0 + (64 * i + k) = omega arith in
         subst (λ x. x ≤ 134285152) (sym (ap (λ j. getD buffer j 0) there ∙ value-in e a buffer same stored (64 * i + k) (omega arith))) (values-small e w (64 * i + k) (omega arith));
@@ -45,27 +45,27 @@ module _ (e a buffer : List ℕ) (same : a ≡ e) (stored : buffer ≡ splice (r
 
   -- by which the terms are those by the element's values
   pub forms-stored : (forms next from : List ℕ) (at step count : ℕ) → next ≡ splice forms 0 (forms-added forms from at step count buffer)
-      → next ≡ splice forms 0 (forms-added forms from at step count (values e))
+      → next ≡ splice forms 0 (forms-added forms from at step count (ntt-form e))
   unfolding forms-added
   forms-stored forms next from at step count made =
       made
       ∙ ap (splice forms 0)
-      (table-ext (192 * count) (λ j. getD forms j 0 + getD (values (part from (at + step * (j / 192)) 64)) (j % 192) 0 * getD buffer (j % 192) 0)
-      (λ j. getD forms j 0 + getD (values (part from (at + step * (j / 192)) 64)) (j % 192) 0 * getD (values e) (j % 192) 0)
-      (λ j l. ap (λ x. getD forms j 0 + getD (values (part from (at + step * (j / 192)) 64)) (j % 192) 0 * x) (ap (λ o. getD buffer o 0) (sym (zero-add (j % 192))) ∙ value-in e a buffer same stored (j % 192) (omega arith))))
+      (table-ext (192 * count) (λ j. getD forms j 0 + getD (ntt-form (part from (at + step * (j / 192)) 64)) (j % 192) 0 * getD buffer (j % 192) 0)
+      (λ j. getD forms j 0 + getD (ntt-form (part from (at + step * (j / 192)) 64)) (j % 192) 0 * getD (ntt-form e) (j % 192) 0)
+      (λ j l. ap (λ x. getD forms j 0 + getD (ntt-form (part from (at + step * (j / 192)) 64)) (j % 192) 0 * x) (ap (λ o. getD buffer o 0) (sym (zero-add (j % 192))) ∙ value-in e a buffer same stored (j % 192) (omega arith))))
 
 -- sums for each k
 module _ (forms from : List ℕ) (at step : ℕ) (s : List ℕ) where
   grown : ℕ → ℕ
-  grown j = getD forms j 0 + getD (values (part from (at + step * (j / 192)) 64)) (j % 192) 0 * getD s (j % 192) 0
+  grown j = getD forms j 0 + getD (ntt-form (part from (at + step * (j / 192)) 64)) (j % 192) 0 * getD s (j % 192) 0
 
   -- sum o of k
-  grown-at : (k o : ℕ) → o < 192 → grown (192 * k + o) ≡ getD forms (192 * k + o) 0 + getD (values (part from (at + step * k) 64)) o 0 * getD s o 0
+  grown-at : (k o : ℕ) → o < 192 → grown (192 * k + o) ≡ getD forms (192 * k + o) 0 + getD (ntt-form (part from (at + step * k) 64)) o 0 * getD s o 0
   unfolding grown
   grown-at k o l =
       let quotient : (192 * k + o) / 192 ≡ k = omega arith in
       let rest : (192 * k + o) % 192 ≡ o = omega arith in
-      ap₂ (λ q r. getD forms (192 * k + o) 0 + getD (values (part from (at + step * q) 64)) r 0 * getD s r 0) quotient rest
+      ap₂ (λ q r. getD forms (192 * k + o) 0 + getD (ntt-form (part from (at + step * q) 64)) r 0 * getD s r 0) quotient rest
 
   pub length-forms : (k : ℕ) → length (forms-added forms from at step k s) ≡ 192 * k
   unfolding forms-added
@@ -88,8 +88,8 @@ module _ (forms from : List ℕ) (at step : ℕ) (s : List ℕ) where
       let place : 192 * k ≡ 0 + length (table (192 * k) grown) = omega (arith, length-table (192 * k) grown) in
       let more : 192 * k + 192 ≡ 192 * (k + 1) = omega arith in
       made
-      ∙ ap (splice now (192 * k)) (table-ext 192 (λ o. getD now (192 * k + o) 0 + getD (values (part from i 64)) o 0 * getD s o 0) (λ o. grown (192 * k + o)) (λ o l.
-      ap₂ (λ x i. x + getD (values (part from i 64)) o 0 * getD s o 0) (forms-rest now k (192 * k + o) e (omega arith)) p ∙ sym (grown-at k o l)))
+      ∙ ap (splice now (192 * k)) (table-ext 192 (λ o. getD now (192 * k + o) 0 + getD (ntt-form (part from i 64)) o 0 * getD s o 0) (λ o. grown (192 * k + o)) (λ o l.
+      ap₂ (λ x i. x + getD (ntt-form (part from i 64)) o 0 * getD s o 0) (forms-rest now k (192 * k + o) e (omega arith)) p ∙ sym (grown-at k o l)))
       ∙ ap₂ (λ l p. splice l p (table 192 (λ o. grown (192 * k + o)))) e place
       ∙ splice-append forms 0 (table (192 * k) grown) (table 192 (λ o. grown (192 * k + o)))
       ∙ ap (splice forms 0) (sym (table-split (192 * k) 192 grown) ∙ ap (λ n. table n grown) more)
@@ -103,7 +103,7 @@ module _ (forms from : List ℕ) (at step : ℕ) (s : List ℕ) where
 
   -- sum o of k after all are added
   pub form-at : (next : List ℕ) (count : ℕ) → next ≡ splice forms 0 (forms-added forms from at step count s) → 192 * count ≤ length forms → (k o : ℕ) → k < count → o < 192
-      → getD next (192 * k + o) 0 ≡ getD forms (192 * k + o) 0 + getD (values (part from (at + step * k) 64)) o 0 * getD s o 0
+      → getD next (192 * k + o) 0 ≡ getD forms (192 * k + o) 0 + getD (ntt-form (part from (at + step * k) 64)) o 0 * getD s o 0
   unfolding forms-added grown
   form-at next count e h k o l b =
       ap (λ l. getD l (192 * k + o) 0) e

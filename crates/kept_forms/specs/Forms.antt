@@ -10,17 +10,17 @@ use Rattle.inner_product.specs.declared.Strided.{Strided}
 use Rattle.inner_product.specs.Run.{Within}
 use Rattle.protocol.specs.Views.{element-at}
 use Rattle.protocol.specs.Formulas.{_⊕_}
-use Rattle.kept_vectors.specs.Keeps.{values, AllValues}
-use Rattle.kept_sums.specs.Sums.{back-from}
+use Rattle.kept_vectors.specs.NttForm.{ntt-form, AllValues}
+use Rattle.kept_sums.specs.Sums.{inverse-from}
 
--- the products of an element's values and kept values of s added to the sums from a place on
+-- the products of an element's values and the values of s added to the sums from a place on
 unfoldable pub form-added : List ℕ → ℕ → List ℕ → List ℕ → List ℕ
-form-added forms form e s = table 192 (λ k. getD forms (form + k) 0 + getD (values e) k 0 * getD s k 0)
+form-added forms form e s = table 192 (λ k. getD forms (form + k) 0 + getD (ntt-form e) k 0 * getD s k 0)
 
 -- those of so many elements a step apart, each added to sums of its own
 unfoldable pub forms-added : List ℕ → List ℕ → (at step count : ℕ) → List ℕ → List ℕ
 forms-added forms from at step count s =
-    table (192 * count) (λ j. getD forms j 0 + getD (values (part from (at + step * (j / 192)) 64)) (j % 192) 0 * getD s (j % 192) 0)
+    table (192 * count) (λ j. getD forms j 0 + getD (ntt-form (part from (at + step * (j / 192)) 64)) (j % 192) 0 * getD s (j % 192) 0)
 
 -- those of a run
 abbrev pub run-formed : List ℕ → List ℕ → Strided → List ℕ → List ℕ
@@ -48,4 +48,4 @@ FormsRoom forms count witness s-at = (s-at + 64 ≤ length witness) × FormsSmal
 
 -- element k of the totals and the element whose values the sums of k are, together
 abbrev pub total : List ℕ → List ℕ → ℕ → Element
-total totals forms k = element-at totals 0 k ⊕ element (back-from forms (192 * k))
+total totals forms k = element-at totals 0 k ⊕ element (inverse-from forms (192 * k))

@@ -1,4 +1,4 @@
-// φ and b'' in one pass: each element of φ'' is transformed once, and its values are multiplied by the kept beta for φ and by the witness's for b''. The
+// φ and b'' in one pass: each element of φ'' is transformed once, and its values are multiplied by beta's for φ and by the witness's for b''. The
 // sums for b'', 192 for each k, are lent.
 use inner_product::Strided;
 use kept_mix;
@@ -13,11 +13,11 @@ ghost use Rattle.lists.specs.Part.{part, splice};
 ghost use Rattle.definitions.specs.Ring.{words};
 ghost use Rattle.protocol.specs.Formulas.{flat};
 ghost use Rattle.ntt.specs.Roots.{twiddleTable};
-ghost use Rattle.kept_vectors.specs.Keeps.{values};
-ghost use Rattle.kept_mix.specs.Terms.{term-added, run-added, SumsSmall, kept-mixed, KeptMixable};
+ghost use Rattle.kept_vectors.specs.NttForm.{ntt-form};
+ghost use Rattle.kept_mix.specs.Terms.{term-added, run-added, SumsSmall, ntt-mixed, NttMixable};
 ghost use Rattle.kept_forms.specs.Forms.{form-added, run-formed, TermRoom, ColumnRoom, FormSmall, FormsSmall, FormsRoom, total};
 
-// The product of a kept weight and the element at a place added to 192 sums, and the element's with kept values of s added to others from `form` on.
+// The product of a weight in NTT form and the element at a place added to 192 sums, and the element's with the values of s added to others from `form` on.
 pub fn add_both(
     from: &[u32],
     at: usize,
@@ -35,12 +35,12 @@ pub fn add_both(
 {
     let mut values = [0u32; 192];
     let e = words::load(from, at).coeffs;
-    kept_vectors::store_values(e, w, &mut values, 0);
+    kept_vectors::store_ntt_form(e, w, &mut values, 0);
     kept_sums::add_product(sums, 0, weights, weight, &values, 0);
     kept_sums::add_product(forms, form, &values, 0, s, 0);
 }
 
-// Those of a run of elements, with kept weights one after the other; each has sums of its own in `forms`.
+// Those of a run of elements, with weights in NTT form one after the other; each has sums of its own in `forms`.
 pub fn add_column(
     from: &[u32],
     run: Strided,
@@ -80,13 +80,13 @@ pub fn mix_and_form(
     w: &[u32],
     forms: &mut [u64],
 ) -> Rq
-    requires { ⌜ (now w ≡ twiddleTable) × KeptMixable (now job) constraints (now scratch) aggregated (now weights) × FormsRoom (now forms) (aggregated .count) (now witness) s ⌝ }
-    ensures { λ r. ⌜ r .coeffs ≡ words (kept-mixed (now (job .entry)) constraints (now (scratch .entry)) aggregated (now (weights .entry))) ⌝ }
-    ensures { λ _. ⌜ now (forms .exit) ≡ splice (now (forms .entry)) 0 (run-formed (now (forms .entry)) (now (scratch .entry)) aggregated (values (part (now (witness .entry)) s 64))) ⌝ }
+    requires { ⌜ (now w ≡ twiddleTable) × NttMixable (now job) constraints (now scratch) aggregated (now weights) × FormsRoom (now forms) (aggregated .count) (now witness) s ⌝ }
+    ensures { λ r. ⌜ r .coeffs ≡ words (ntt-mixed (now (job .entry)) constraints (now (scratch .entry)) aggregated (now (weights .entry))) ⌝ }
+    ensures { λ _. ⌜ now (forms .exit) ≡ splice (now (forms .entry)) 0 (run-formed (now (forms .entry)) (now (scratch .entry)) aggregated (ntt-form (part (now (witness .entry)) s 64))) ⌝ }
 {
     let mut values = [0u32; 192];
     let e = words::load(witness, s).coeffs;
-    kept_vectors::store_values(e, w, &mut values, 0);
+    kept_vectors::store_ntt_form(e, w, &mut values, 0);
     let mut sums = [0u64; 192];
     kept_mix::add_terms(job, constraints, weights, 0, w, &mut sums);
     add_column(
@@ -99,17 +99,17 @@ pub fn mix_and_form(
         &mut sums,
         forms,
     );
-    kept_sums::back(&sums, 0, w)
+    kept_sums::inverse(&sums, 0, w)
 }
 
-// The way back from the sums of each k, added to the element k of the totals.
+// The inverse NTT of the sums of each k, added to the element k of the totals.
 pub fn add_totals(forms: &[u64], count: usize, w: &[u32], totals: &mut [u32])
     requires { ⌜ (now w ≡ twiddleTable) × (192 * count ≤ length (now forms)) × (64 * count ≤ length (now totals)) ⌝ }
     ensures { λ _. ⌜ now (totals .exit) ≡ splice (now (totals .entry)) 0 (flat (table count (total (now (totals .entry)) (now (forms .entry))))) ⌝ }
 {
     let mut k = 0;
     while k < count {
-        let e = kept_sums::back(forms, 192 * k, w);
+        let e = kept_sums::inverse(forms, 192 * k, w);
         let sum = words::load(totals, 64 * k).add(e);
         words::store(totals, 64 * k, sum);
         k += 1;

@@ -1,4 +1,4 @@
--- The inner products of kept vectors: after copies and stores, and of what is kept.
+-- The inner products of vectors in NTT form: after copies and stores, and as elements.
 use mathlib.Core.Path.{_≡_, refl, sym, ap, subst, _∙_}
 use mathlib.Core.List.{List}
 use Prim.Native.Nat.{ℕ, _+_, _*_, _≤_, _<_}
@@ -15,9 +15,9 @@ use Rattle.protocol.proofs.Region.{triangle-ext}
 use Rattle.inner_product.specs.Run.{run}
 use Rattle.rq_matrix.specs.Region.{vector, gram}
 use Rattle.rq_matrix.proofs.Place.{rows-within, dot-vectors}
-use Rattle.kept_vectors.specs.Keeps.{Keeps, AllValues, kept-dot, kept-row}
-use Rattle.kept_vectors.proofs.Laws.{dot-same, same-before, same-copied, keeps-vector, kept-dot-is}
-use Rattle.kept_garbage.specs.KeptGarbage.{kept-gram}
+use Rattle.kept_vectors.specs.NttForm.{NttForm, AllValues, ntt-dot, ntt-row}
+use Rattle.kept_vectors.proofs.Laws.{dot-same, same-before, same-copied, ntt-form-vector, ntt-dot-is}
+use Rattle.kept_garbage.specs.NttGarbage.{ntt-gram}
 
 -- values copied to a buffer
 module _ (B B′ S : List ℕ) (p n : ℕ) (e : B′ ≡ splice B 0 (part S p (192 * n))) (room : 192 * n ≤ length B) (within : p + 192 * n ≤ length S) where
@@ -36,13 +36,13 @@ module _ (B B′ S : List ℕ) (p n : ℕ) (e : B′ ≡ splice B 0 (part S p (1
   }
 
   -- the inner products with them
-  pub row-copied : (at i count : ℕ) → p ≡ at + 192 * (i * n) → table count (kept-row B′ S at n) ≡ table count (kept-gram S at n i)
+  pub row-copied : (at i count : ℕ) → p ≡ at + 192 * (i * n) → table count (ntt-row B′ S at n) ≡ table count (ntt-gram S at n i)
   row-copied at i count h =
-      table-ext count (kept-row B′ S at n) (kept-gram S at n i)
-      (λ j l. dot-same B′ S 0 p S S (at + 192 * (j * n)) (at + 192 * (j * n)) n same-part (λ o m. refl) ∙ ap (λ x. kept-dot S x S (at + 192 * (j * n)) n) h)
+      table-ext count (ntt-row B′ S at n) (ntt-gram S at n i)
+      (λ j l. dot-same B′ S 0 p S S (at + 192 * (j * n)) (at + 192 * (j * n)) n same-part (λ o m. refl) ∙ ap (λ x. ntt-dot S x S (at + 192 * (j * n)) n) h)
 
 -- after a store behind the vectors
-pub gram-before : (S S′ : List ℕ) (to : ℕ) (new : List ℕ) (at n count i j : ℕ) → S′ ≡ splice S to new → at + 192 * (count * n) ≤ to → i < count → j < count → kept-gram S′ at n i j ≡ kept-gram S at n i j
+pub gram-before : (S S′ : List ℕ) (to : ℕ) (new : List ℕ) (at n count i j : ℕ) → S′ ≡ splice S to new → at + 192 * (count * n) ≤ to → i < count → j < count → ntt-gram S′ at n i j ≡ ntt-gram S at n i j
 gram-before S S′ to new at n count i j e h hi hj =
     dot-same S′ S (at + 192 * (i * n)) (at + 192 * (i * n)) S′ S (at + 192 * (j * n)) (at + 192 * (j * n)) n
     (same-before S S′ to new (at + 192 * (i * n)) (192 * n) e (omega (arith, rows-within i count n hi)))
@@ -50,14 +50,14 @@ gram-before S S′ to new at n count i j e h hi hj =
 
 -- row i, stored
 pub gram-row : (S S′ next : List ℕ) (to : ℕ) (new : List ℕ) (at n count i row : ℕ) → S′ ≡ splice S to new → at + 192 * (count * n) ≤ to → i < count
-    → next ≡ splice S′ row (flat (table (i + 1) (kept-gram S′ at n i))) → next ≡ splice S′ row (flat (table (i + 1) (kept-gram S at n i)))
+    → next ≡ splice S′ row (flat (table (i + 1) (ntt-gram S′ at n i))) → next ≡ splice S′ row (flat (table (i + 1) (ntt-gram S at n i)))
 gram-row S S′ next to new at n count i row e h hi stored =
-    stored ∙ ap (λ cells. splice S′ row (flat cells)) (table-ext (i + 1) (kept-gram S′ at n i) (kept-gram S at n i) (λ j l. gram-before S S′ to new at n count i j e h hi (omega arith)))
+    stored ∙ ap (λ cells. splice S′ row (flat cells)) (table-ext (i + 1) (ntt-gram S′ at n i) (ntt-gram S at n i) (λ j l. gram-before S S′ to new at n count i j e h hi (omega arith)))
 
--- g of what is kept
-pub g-kept : (S : List ℕ) (at : ℕ) (xs : List ℕ) (from r n : ℕ) → n ≤ 64 → Keeps S at xs from (r * n) → triangle r (kept-gram S at n) ≡ triangle r (gram xs from n)
-g-kept S at xs from r n few k =
-    triangle-ext r (kept-gram S at n) (gram xs from n) (λ i j l m.
-    kept-dot-is S (at + 192 * (i * n)) xs (from + 64 * (i * n)) S (at + 192 * (j * n)) xs (from + 64 * (j * n)) n few
-    (keeps-vector S at xs from r n i (at + 192 * (i * n)) (from + 64 * (i * n)) k l refl refl) (keeps-vector S at xs from r n j (at + 192 * (j * n)) (from + 64 * (j * n)) k m refl refl)
+-- g of vectors in NTT form
+pub g-ntt : (S : List ℕ) (at : ℕ) (xs : List ℕ) (from r n : ℕ) → n ≤ 64 → NttForm S at xs from (r * n) → triangle r (ntt-gram S at n) ≡ triangle r (gram xs from n)
+g-ntt S at xs from r n few k =
+    triangle-ext r (ntt-gram S at n) (gram xs from n) (λ i j l m.
+    ntt-dot-is S (at + 192 * (i * n)) xs (from + 64 * (i * n)) S (at + 192 * (j * n)) xs (from + 64 * (j * n)) n few
+    (ntt-form-vector S at xs from r n i (at + 192 * (i * n)) (from + 64 * (i * n)) k l refl refl) (ntt-form-vector S at xs from r n j (at + 192 * (j * n)) (from + 64 * (j * n)) k m refl refl)
     ∙ dot-vectors xs from i (from + 64 * (i * n)) xs from j (from + 64 * (j * n)) n refl refl)

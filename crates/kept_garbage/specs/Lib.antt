@@ -1,1 +1,1 @@
-pub mod KeptGarbage
+pub mod NttGarbage

@@ -1,4 +1,4 @@
-// The garbage polynomials of vectors that the scratch keeps transformed.
+// The garbage polynomials of vectors that the scratch holds in NTT form.
 use kept_vectors;
 use ntt::table;
 ghost use mathlib.Core.Path.{_≡_};
@@ -9,8 +9,8 @@ ghost use Rattle.lists.specs.Part.{part, splice};
 ghost use Rattle.protocol.specs.Parameters.{triangular};
 ghost use Rattle.protocol.specs.Formulas.{flat, triangle};
 ghost use Rattle.ntt.specs.Roots.{twiddleTable};
-ghost use Rattle.kept_vectors.specs.Keeps.{AllValues, RowRoom};
-ghost use Rattle.kept_garbage.specs.KeptGarbage.{kept-gram};
+ghost use Rattle.kept_vectors.specs.NttForm.{AllValues, RowRoom};
+ghost use Rattle.kept_garbage.specs.NttGarbage.{ntt-gram};
 
 // Row i of g: vector i, whose values are copied to the buffer, with the vectors 0 to i.
 pub fn g_row(
@@ -23,7 +23,7 @@ pub fn g_row(
     out_at: usize,
 )
     requires { ⌜ (now w ≡ twiddleTable) × AllValues (now scratch) at ((i + 1) * n) × RowRoom (now scratch) at n (i + 1) «out_at» × (192 * n ≤ length (now buffer)) × (n ≤ 64) × (i < 64) ⌝ }
-    ensures { λ _. ⌜ now (scratch .exit) ≡ splice (now (scratch .entry)) «out_at» (flat (table (i + 1) (kept-gram (now (scratch .entry)) at n i))) ⌝ }
+    ensures { λ _. ⌜ now (scratch .exit) ≡ splice (now (scratch .entry)) «out_at» (flat (table (i + 1) (ntt-gram (now (scratch .entry)) at n i))) ⌝ }
     ensures { λ _. ⌜ now (buffer .exit) ≡ splice (now (buffer .entry)) 0 (part (now (scratch .entry)) (at + 192 * (i * n)) (192 * n)) ⌝ }
 {
     words::copy(buffer, 0, scratch, at + 192 * (i * n), 192 * n);
@@ -33,7 +33,7 @@ pub fn g_row(
 // All rows of g, of r vectors of n elements whose values stand from `at` on.
 pub fn compute_g(scratch: &mut [u32], at: usize, r: usize, n: usize, out_at: usize)
     requires { ⌜ AllValues (now scratch) at (r * n) × (at + 192 * (r * n) ≤ «out_at») × («out_at» + 64 * triangular r ≤ length (now scratch)) × (r ≤ 64) × (n ≤ 64) ⌝ }
-    ensures { λ _. ⌜ now (scratch .exit) ≡ splice (now (scratch .entry)) «out_at» (flat (triangle r (kept-gram (now (scratch .entry)) at n))) ⌝ }
+    ensures { λ _. ⌜ now (scratch .exit) ≡ splice (now (scratch .entry)) «out_at» (flat (triangle r (ntt-gram (now (scratch .entry)) at n))) ⌝ }
 {
     let w = table::twiddles();
     let mut buffer = [0u32; 12288];

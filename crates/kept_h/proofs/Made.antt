@@ -10,17 +10,17 @@ use Rattle.definitions.specs.Rq.{Element}
 use Rattle.protocol.specs.Formulas.{_⊕_, dot, flat, rows, triangle}
 use Rattle.rq_matrix.specs.Region.{vector}
 use Rattle.garbage_polynomials.specs.Garbage.{h-of}
-use Rattle.kept_vectors.specs.Keeps.{kept-words, Keeps}
-use Rattle.kept_h.specs.KeptLines.{kept-line, both-ways, lines-of}
+use Rattle.kept_vectors.specs.NttForm.{ntt-words, NttForm}
+use Rattle.kept_h.specs.NttLines.{ntt-line, both-ways, lines-of}
 use Rattle.kept_h.proofs.LineLaws.{lines-are}
 use Rattle.kept_h.proofs.Square.{both-stored}
 
 pub h-made : (S S₁ S₂ S₃ : List ℕ) (φ-at : ℕ) (s : List ℕ) (s-at r n at square to : ℕ) → n ≤ 64 → at + 192 * (r * n) ≤ square → square + 64 * (r * r) ≤ φ-at → φ-at ≤ length S → ((k : ℕ) → getD S k 0 ≤ 4294967295)
-    → S₁ ≡ splice S at (kept-words s s-at (r * n)) → Keeps S₁ at s s-at (r * n) → S₂ ≡ splice S₁ square (flat (rows r r (kept-line S₁ φ-at at n))) → S₃ ≡ splice S₂ to (flat (triangle r (both-ways S₂ square r)))
+    → S₁ ≡ splice S at (ntt-words s s-at (r * n)) → NttForm S₁ at s s-at (r * n) → S₂ ≡ splice S₁ square (flat (rows r r (ntt-line S₁ φ-at at n))) → S₃ ≡ splice S₂ to (flat (triangle r (both-ways S₂ square r)))
     → S₃ ≡ splice (lines-of S φ-at s s-at r n at square) to (flat (triangle r (h-of S φ-at s s-at n)))
 unfolding lines-of
 h-made S S₁ S₂ S₃ φ-at s s-at r n at square to few a b d small e₁ k e₂ e₃ =
-    e₃ ∙ ap₂ (λ l cells. splice l to (flat cells)) (stored ∙ ap (λ l. splice l square (flat (rows r r f))) e₁) (both-stored S₁ S₂ square r f stored (omega (arith, ap length e₁, length-splice S at (kept-words s s-at (r * n)))))
+    e₃ ∙ ap₂ (λ l cells. splice l to (flat cells)) (stored ∙ ap (λ l. splice l square (flat (rows r r f))) e₁) (both-stored S₁ S₂ square r f stored (omega (arith, ap length e₁, length-splice S at (ntt-words s s-at (r * n)))))
   where
     f : ℕ → ℕ → Element
     f i j = dot n (vector S φ-at n i) (vector s s-at n j)

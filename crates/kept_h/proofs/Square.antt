@@ -17,7 +17,7 @@ use Rattle.protocol.proofs.Region.{triangle-ext}
 use Rattle.rq_matrix.specs.Region.{vector}
 use Rattle.rq_matrix.proofs.Place.{vector-apart}
 use Rattle.rq_matrix.proofs.Word.{words-of-sum}
-use Rattle.kept_h.specs.KeptLines.{both-ways}
+use Rattle.kept_h.specs.NttLines.{both-ways}
 
 -- the words of a cell and its mirror image together, from the places of both
 pub cell-sum : (S l a b : List ℕ) (at r i j across down : ℕ) → l ≡ radd a b → a ≡ part S across 64 → b ≡ part S down 64 → across ≡ at + 64 * (i * r + j) → down ≡ at + 64 * (j * r + i) → l ≡ words (both-ways S at r i j)

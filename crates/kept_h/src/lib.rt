@@ -1,4 +1,4 @@
-// h_ij = ⟨φ_i, s_j⟩ + ⟨φ_j, s_i⟩ by kept transforms: the scratch keeps the vectors s_j, each φ_i is transformed once, all ⟨φ_i, s_j⟩ are stored, and
+// h_ij = ⟨φ_i, s_j⟩ + ⟨φ_j, s_i⟩ in NTT form: the scratch holds the vectors s_j so, each φ_i is transformed once, all ⟨φ_i, s_j⟩ are stored, and
 // the two of each cell are added.
 use kept_vectors;
 use ntt::table;
@@ -11,13 +11,13 @@ ghost use Rattle.lists.specs.Part.{splice};
 ghost use Rattle.protocol.specs.Parameters.{triangular};
 ghost use Rattle.protocol.specs.Formulas.{flat, rows, triangle};
 ghost use Rattle.ntt.specs.Roots.{twiddleTable};
-ghost use Rattle.kept_vectors.specs.Keeps.{kept-words, kept-row, AllValues};
-ghost use Rattle.kept_h.specs.KeptLines.{kept-line, both-ways, with-h, LineRoom, LinesRoom, HalvesRoom, HRoom};
+ghost use Rattle.kept_vectors.specs.NttForm.{ntt-words, ntt-row, AllValues};
+ghost use Rattle.kept_h.specs.NttLines.{ntt-line, both-ways, with-h, LineRoom, LinesRoom, HalvesRoom, HRoom};
 
-// Row i of all inner products: the vector at `from`, transformed into the buffer, with the kept vectors.
+// Row i of all inner products: the vector at `phi_at`, transformed into the buffer, with the vectors in NTT form.
 pub fn line(
     scratch: &mut [u32],
-    from: usize,
+    phi_at: usize,
     n: usize,
     count: usize,
     w: &[u32],
@@ -25,22 +25,22 @@ pub fn line(
     at: usize,
     out_at: usize,
 )
-    requires { ⌜ (now w ≡ twiddleTable) × AllValues (now scratch) at (count * n) × LineRoom (now scratch) from n count (now buffer) at «out_at» ⌝ }
-    ensures { λ _. ⌜ now (scratch .exit) ≡ splice (now (scratch .entry)) «out_at» (flat (table count (kept-row (kept-words (now (scratch .entry)) from n) (now (scratch .entry)) at n))) ⌝ }
-    ensures { λ _. ⌜ now (buffer .exit) ≡ splice (now (buffer .entry)) 0 (kept-words (now (scratch .entry)) from n) ⌝ }
+    requires { ⌜ (now w ≡ twiddleTable) × AllValues (now scratch) at (count * n) × LineRoom (now scratch) «phi_at» n count (now buffer) at «out_at» ⌝ }
+    ensures { λ _. ⌜ now (scratch .exit) ≡ splice (now (scratch .entry)) «out_at» (flat (table count (ntt-row (ntt-words (now (scratch .entry)) «phi_at» n) (now (scratch .entry)) at n))) ⌝ }
+    ensures { λ _. ⌜ now (buffer .exit) ≡ splice (now (buffer .entry)) 0 (ntt-words (now (scratch .entry)) «phi_at» n) ⌝ }
 {
-    kept_vectors::keep(scratch, from, n, w, buffer, 0);
+    kept_vectors::to_ntt_form(scratch, phi_at, n, w, buffer, 0);
     kept_vectors::row(buffer, n, count, w, scratch, at, out_at);
 }
 
 // All of them, of r vectors.
-pub fn lines(scratch: &mut [u32], from: usize, r: usize, n: usize, at: usize, out_at: usize)
-    requires { ⌜ AllValues (now scratch) at (r * n) × LinesRoom (now scratch) from r n at «out_at» ⌝ }
-    ensures { λ _. ⌜ now (scratch .exit) ≡ splice (now (scratch .entry)) «out_at» (flat (rows r r (kept-line (now (scratch .entry)) from at n))) ⌝ }
+pub fn lines(scratch: &mut [u32], phi_at: usize, r: usize, n: usize, at: usize, out_at: usize)
+    requires { ⌜ AllValues (now scratch) at (r * n) × LinesRoom (now scratch) «phi_at» r n at «out_at» ⌝ }
+    ensures { λ _. ⌜ now (scratch .exit) ≡ splice (now (scratch .entry)) «out_at» (flat (rows r r (ntt-line (now (scratch .entry)) «phi_at» at n))) ⌝ }
 {
     let w = table::twiddles();
     let mut buffer = [0u32; 12288];
-    let mut start = from;
+    let mut start = phi_at;
     let mut place = out_at;
     let mut i = 0;
     while i < r {
@@ -84,7 +84,7 @@ pub fn fold(scratch: &mut [u32], square: usize, r: usize, out_at: usize)
     }
 }
 
-// h of the vectors φ_i in the scratch and the vectors s_i in another slice, with room for the kept vectors from `at` on and for the square behind them.
+// h of the vectors φ_i in the scratch and the vectors s_i in another slice, with room for the vectors in NTT form from `at` on and for the square behind them.
 pub fn compute_h(
     s: &[u32],
     s_at: usize,
@@ -100,7 +100,7 @@ pub fn compute_h(
     ensures { λ _. ⌜ now (scratch .exit) ≡ with-h (now (scratch .entry)) «phi_at» (now (s .entry)) «s_at» r n at square «out_at» ⌝ }
 {
     let w = table::twiddles();
-    kept_vectors::keep(s, s_at, r * n, &w, scratch, at);
+    kept_vectors::to_ntt_form(s, s_at, r * n, &w, scratch, at);
     lines(scratch, phi_at, r, n, at, square);
     fold(scratch, square, r, out_at);
 }

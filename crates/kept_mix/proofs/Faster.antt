@@ -1,9 +1,9 @@
--- Where kept weights are chosen, they have room.
+-- Where weights in NTT form are chosen, they have room.
 use mathlib.Core.Path.{_≡_, refl}
 use mathlib.Core.Bool.{Bool, true, false, cond, false≢true}
 use Prim.Native.Nat.{ℕ, _+_}
 use borrow.Author.Tests.{ltb-false}
-use Rattle.kept_mix.specs.Terms.{Weights, kept-faster}
+use Rattle.kept_mix.specs.Terms.{Weights, ntt-faster}
 use lib.Dec.{ltb, leb}
 
 -- a test that did not hold, and what came after it
@@ -11,7 +11,7 @@ passed : (test rest : Bool) → cond test false rest ≡ true → (test ≡ fals
 passed true rest e = absurd (false≢true e)
 passed false rest e = (refl, e)
 
-pub faster-weights : (width alphas betas : ℕ) → kept-faster width alphas betas ≡ true → Weights alphas betas
+pub faster-weights : (width alphas betas : ℕ) → ntt-faster width alphas betas ≡ true → Weights alphas betas
 faster-weights width alphas betas e =
     let a = passed (ltb alphas 1) (cond (ltb betas 1) false (cond (ltb (alphas + betas) 4) false (cond (ltb 64 (alphas + betas)) false (leb 8 width)))) e in
     let b = passed (ltb betas 1) (cond (ltb (alphas + betas) 4) false (cond (ltb 64 (alphas + betas)) false (leb 8 width))) (a .1) in

@@ -1,5 +1,5 @@
-// φ by kept transforms: the weights alpha and beta are transformed once; of each element the constraints' terms are transformed, their products with the
-// kept weights summed, and there is one way back.
+// φ in NTT form: the weights alpha and beta are transformed once; of each element the constraints' terms are transformed, their products with the
+// weights summed, and there is one inverse NTT.
 use inner_product::Strided;
 use kept_sums;
 use kept_vectors;
@@ -12,11 +12,11 @@ ghost use Rattle.lists.specs.Part.{part, splice};
 ghost use Rattle.definitions.specs.Ring.{words};
 ghost use Rattle.inner_product.specs.Run.{Within};
 ghost use Rattle.ntt.specs.Roots.{twiddleTable};
-ghost use Rattle.kept_vectors.specs.Keeps.{AllValues};
+ghost use Rattle.kept_vectors.specs.NttForm.{AllValues};
 ghost use Rattle.aggregate.specs.Weighed.{Aggregates, mixed-words};
-ghost use Rattle.kept_mix.specs.Terms.{term-added, run-added, SumsSmall, kept-mixed, KeptMixable, kept-mixed-words, MixRoom, Weights, WeightsRoom, with-weights, KeepsWeights, kept-faster};
+ghost use Rattle.kept_mix.specs.Terms.{term-added, run-added, SumsSmall, ntt-mixed, NttMixable, ntt-mixed-words, MixRoom, Weights, WeightsRoom, with-weights, NttWeights, ntt-faster};
 
-// The product of a kept weight and the element at a place, added to 192 sums.
+// The product of a weight in NTT form and the element at a place, added to 192 sums.
 pub fn add_term(
     from: &[u32],
     at: usize,
@@ -30,11 +30,11 @@ pub fn add_term(
 {
     let mut values = [0u32; 192];
     let e = words::load(from, at).coeffs;
-    kept_vectors::store_values(e, w, &mut values, 0);
+    kept_vectors::store_ntt_form(e, w, &mut values, 0);
     kept_sums::add_product(sums, 0, weights, weight, &values, 0);
 }
 
-// Those of a run of elements, with kept weights one after the other.
+// Those of a run of elements, with weights in NTT form one after the other.
 pub fn add_terms(
     from: &[u32],
     run: Strided,
@@ -59,7 +59,7 @@ pub fn add_terms(
     }
 }
 
-// One element: the terms of a run of the ring constraints' elements and of a run of the aggregated ones, whose weights are kept one after the other.
+// One element: the terms of a run of the ring constraints' elements and of a run of the aggregated ones, whose weights are in NTT form one after the other.
 pub fn mix(
     job: &[u32],
     constraints: Strided,
@@ -68,8 +68,8 @@ pub fn mix(
     weights: &[u32],
     w: &[u32],
 ) -> Rq
-    requires { ⌜ (now w ≡ twiddleTable) × KeptMixable (now job) constraints (now scratch) aggregated (now weights) ⌝ }
-    ensures { λ r. ⌜ r .coeffs ≡ words (kept-mixed (now (job .entry)) constraints (now (scratch .entry)) aggregated (now (weights .entry))) ⌝ }
+    requires { ⌜ (now w ≡ twiddleTable) × NttMixable (now job) constraints (now scratch) aggregated (now weights) ⌝ }
+    ensures { λ r. ⌜ r .coeffs ≡ words (ntt-mixed (now (job .entry)) constraints (now (scratch .entry)) aggregated (now (weights .entry))) ⌝ }
 {
     let mut sums = [0u64; 192];
     add_terms(job, constraints, weights, 0, w, &mut sums);
@@ -81,7 +81,7 @@ pub fn mix(
         w,
         &mut sums,
     );
-    kept_sums::back(&sums, 0, w)
+    kept_sums::inverse(&sums, 0, w)
 }
 
 // All of `width` elements. The runs are those of the first.
@@ -96,7 +96,7 @@ pub fn mix_all(
     w: &[u32],
 )
     requires { ⌜ (now w ≡ twiddleTable) × MixRoom (now job) constraints (now scratch) aggregated width to (now weights) ⌝ }
-    ensures { λ _. ⌜ now (scratch .exit) ≡ splice (now (scratch .entry)) to (kept-mixed-words (now (job .entry)) constraints (now (scratch .entry)) aggregated width (now (weights .entry))) ⌝ }
+    ensures { λ _. ⌜ now (scratch .exit) ≡ splice (now (scratch .entry)) to (ntt-mixed-words (now (job .entry)) constraints (now (scratch .entry)) aggregated width (now (weights .entry))) ⌝ }
 {
     let mut c = 0;
     while c < width {
@@ -117,25 +117,25 @@ pub fn mix_all(
 }
 
 // The values of the weights alpha, and after them those of beta.
-pub fn keep_weights(
+pub fn weights_to_ntt_form(
     weights: &[u32],
     alpha: usize,
     alphas: usize,
     beta: usize,
     betas: usize,
     w: &[u32],
-    kept: &mut [u32],
+    transformed: &mut [u32],
 )
-    requires { ⌜ (now w ≡ twiddleTable) × WeightsRoom (now weights) alpha alphas beta betas (now kept) ⌝ }
-    ensures { λ _. ⌜ now (kept .exit) ≡ with-weights (now (weights .entry)) alpha alphas beta betas (now (kept .entry)) ⌝ }
-    ensures { λ _. ⌜ KeepsWeights (now (kept .exit)) (now (weights .entry)) alpha alphas beta betas ⌝ }
+    requires { ⌜ (now w ≡ twiddleTable) × WeightsRoom (now weights) alpha alphas beta betas (now transformed) ⌝ }
+    ensures { λ _. ⌜ now (transformed .exit) ≡ with-weights (now (weights .entry)) alpha alphas beta betas (now (transformed .entry)) ⌝ }
+    ensures { λ _. ⌜ NttWeights (now (transformed .exit)) (now (weights .entry)) alpha alphas beta betas ⌝ }
 {
-    kept_vectors::keep(weights, alpha, alphas, w, kept, 0);
-    kept_vectors::keep(weights, beta, betas, w, kept, 192 * alphas);
+    kept_vectors::to_ntt_form(weights, alpha, alphas, w, transformed, 0);
+    kept_vectors::to_ntt_form(weights, beta, betas, w, transformed, 192 * alphas);
 }
 
-// `aggregate::aggregate` with kept weights.
-pub fn aggregate_kept(
+// `aggregate::aggregate` with weights in NTT form.
+pub fn aggregate_ntt(
     job: &[u32],
     constraints: Strided,
     weights: &[u32],
@@ -150,23 +150,32 @@ pub fn aggregate_kept(
     ensures { λ _. ⌜ now (scratch .exit) ≡ splice (now (scratch .entry)) to (mixed-words (now (job .entry)) constraints (now (weights .entry)) alpha beta (now (scratch .entry)) aggregated width) ⌝ }
 {
     let w = table::twiddles();
-    let mut kept = [0u32; 12288];
-    keep_weights(
+    let mut transformed = [0u32; 12288];
+    weights_to_ntt_form(
         weights,
         alpha,
         constraints.count,
         beta,
         aggregated.count,
         &w,
-        &mut kept,
+        &mut transformed,
     );
-    mix_all(job, constraints, scratch, aggregated, width, to, &kept, &w);
+    mix_all(
+        job,
+        constraints,
+        scratch,
+        aggregated,
+        width,
+        to,
+        &transformed,
+        &w,
+    );
 }
 
 // From four terms and eight elements on the transforms cost less than plain products. There is room for 64 weights.
-pub fn kept_is_faster(width: usize, alphas: usize, betas: usize) -> bool
+pub fn ntt_is_faster(width: usize, alphas: usize, betas: usize) -> bool
     requires { ⌜ (alphas ≤ 2 ^ 18) × (betas ≤ 2 ^ 18) ⌝ }
-    ensures { λ r. ⌜ r ≡ kept-faster width alphas betas ⌝ }
+    ensures { λ r. ⌜ r ≡ ntt-faster width alphas betas ⌝ }
 {
     let terms = alphas + betas;
     if alphas < 1 {
@@ -197,8 +206,8 @@ pub fn aggregate(
     requires { ⌜ Aggregates (now job) constraints (now weights) alpha beta (now scratch) aggregated width to ⌝ }
     ensures { λ _. ⌜ now (scratch .exit) ≡ splice (now (scratch .entry)) to (mixed-words (now (job .entry)) constraints (now (weights .entry)) alpha beta (now (scratch .entry)) aggregated width) ⌝ }
 {
-    if kept_is_faster(width, constraints.count, aggregated.count) {
-        aggregate_kept(
+    if ntt_is_faster(width, constraints.count, aggregated.count) {
+        aggregate_ntt(
             job,
             constraints,
             weights,

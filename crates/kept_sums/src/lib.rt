@@ -1,6 +1,6 @@
-// Sums of products of values modulo the three primes (document 02, Item 7), 192 from a place on in a lent slice: a term added, and the way back.
-use fast_product::kept;
-use fast_product::kept::Sums;
+// Sums of products of values modulo the three primes (document 02, Item 7), 192 from a place on in a lent slice: a term added, and the inverse NTT.
+use fast_product::ntt_form;
+use fast_product::ntt_form::Sums;
 use rq::rq::Rq;
 use zq::wide::wide;
 ghost use mathlib.Core.Path.{_≡_};
@@ -8,11 +8,11 @@ ghost use Prim.Native.Nat.{_+_, _≤_};
 ghost use lib.ListN.{length};
 ghost use Rattle.lists.specs.Part.{part, splice};
 ghost use Rattle.ntt.specs.Roots.{twiddleTable};
-ghost use Rattle.kept_sums.specs.Sums.{KeptRoom, added, back-from};
+ghost use Rattle.kept_sums.specs.Sums.{NttRoom, added, inverse-from};
 
 // The products of 192 values added.
 pub fn add_product(sums: &mut [u64], at: usize, x: &[u32], x_at: usize, y: &[u32], y_at: usize)
-    requires { ⌜ (at + 192 ≤ length (now sums)) × («x_at» + 192 ≤ length (now x)) × («y_at» + 192 ≤ length (now y)) × KeptRoom (now sums) at (now x) «x_at» (now y) «y_at» ⌝ }
+    requires { ⌜ (at + 192 ≤ length (now sums)) × («x_at» + 192 ≤ length (now x)) × («y_at» + 192 ≤ length (now y)) × NttRoom (now sums) at (now x) «x_at» (now y) «y_at» ⌝ }
     ensures { λ _. ⌜ now (sums .exit) ≡ splice (now (sums .entry)) at (added (now (sums .entry)) at (now (x .entry)) «x_at» (now (y .entry)) «y_at») ⌝ }
 {
     for k in 0..192 {
@@ -34,9 +34,9 @@ pub fn load(sums: &[u64], at: usize) -> [u64; 64]
 }
 
 // The element whose values the sums are.
-pub fn back(sums: &[u64], at: usize, w: &[u32]) -> Rq
+pub fn inverse(sums: &[u64], at: usize, w: &[u32]) -> Rq
     requires { ⌜ (now w ≡ twiddleTable) × (at + 192 ≤ length (now sums)) ⌝ }
-    ensures { λ r. ⌜ r .coeffs ≡ back-from (now (sums .entry)) at ⌝ }
+    ensures { λ r. ⌜ r .coeffs ≡ inverse-from (now (sums .entry)) at ⌝ }
 {
     let first = load(sums, at);
     let second = load(sums, at + 64);
@@ -47,6 +47,6 @@ pub fn back(sums: &[u64], at: usize, w: &[u32]) -> Rq
         third,
     };
     Rq {
-        coeffs: kept::back(parts, w),
+        coeffs: ntt_form::inverse(parts, w),
     }
 }

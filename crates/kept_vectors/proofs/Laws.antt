@@ -1,4 +1,4 @@
--- What a slice keeps: the values of parts of it, after stores elsewhere, and the inner products of what is kept.
+-- The NTT form that a slice holds: the values of parts of it, after stores elsewhere, and the inner products of elements in NTT form.
 use mathlib.Core.Path.{_≡_, refl, sym, ap, ap₂, subst, _∙_}
 use mathlib.Core.List.{List}
 use Prim.Native.Nat.{ℕ, _+_, _*_, _≤_, _<_}
@@ -15,23 +15,23 @@ use Rattle.algebra.specs.Ops.{dot}
 use Rattle.definitions.specs.Rq.{coeff}
 use Rattle.definitions.specs.Ring.{RqOps, IsElement, canonical-mod, table-element, words, element}
 use Rattle.definitions.proofs.Bridge.{element-words, words-element}
-use Rattle.fast_product.specs.Join.{joinOf, joinedOf}
-use Rattle.fast_product.specs.Kept.{valuesOf, sumsOf, backOf}
+use Rattle.fast_product.specs.Crt.{crtOf, crtAllOf}
+use Rattle.fast_product.specs.NttForm.{nttOf, sumsOf, inverseNttOf}
 use Rattle.fast_product.proofs.Residue.{value-bound}
 use Rattle.inner_product.specs.Run.{run}
-use Rattle.kept_vectors.specs.Keeps.{Keeps, value-sums, Values, AllValues, kept-dot}
-use Rattle.kept_vectors.proofs.Sums.{back-words}
+use Rattle.kept_vectors.specs.NttForm.{NttForm, value-sums, Values, AllValues, ntt-dot}
+use Rattle.kept_vectors.proofs.Sums.{inverse-words}
 
--- the way back gives an element's words
-pub back-element : (s t u : List ℕ) → IsElement (backOf s t u)
-unfolding backOf joinedOf joinOf
-back-element s t u = table-element _ (λ k. canonical-mod _)
+-- the inverse NTT gives an element's words
+pub inverse-element : (s t u : List ℕ) → IsElement (inverseNttOf s t u)
+unfolding inverseNttOf crtAllOf crtOf
+inverse-element s t u = table-element _ (λ k. canonical-mod _)
 
-pub dot-words : (x : List ℕ) (x-at : ℕ) (y : List ℕ) (y-at n : ℕ) (r s t u : List ℕ) → r ≡ backOf s t u → s ≡ value-sums x x-at y y-at n → t ≡ value-sums x (x-at + 64) y (y-at + 64) n → u ≡ value-sums x (x-at + 128) y (y-at + 128) n
-    → r ≡ words (kept-dot x x-at y y-at n)
-unfolding kept-dot
+pub dot-words : (x : List ℕ) (x-at : ℕ) (y : List ℕ) (y-at n : ℕ) (r s t u : List ℕ) → r ≡ inverseNttOf s t u → s ≡ value-sums x x-at y y-at n → t ≡ value-sums x (x-at + 64) y (y-at + 64) n → u ≡ value-sums x (x-at + 128) y (y-at + 128) n
+    → r ≡ words (ntt-dot x x-at y y-at n)
+unfolding ntt-dot
 dot-words x x-at y y-at n r s t u e a b c =
-    e ∙ ap₂ (λ s t. backOf s t u) a b ∙ ap (backOf (value-sums x x-at y y-at n) (value-sums x (x-at + 64) y (y-at + 64) n)) c ∙ sym (words-element _ (back-element _ _ _))
+    e ∙ ap₂ (λ s t. inverseNttOf s t u) a b ∙ ap (inverseNttOf (value-sums x x-at y y-at n) (value-sums x (x-at + 64) y (y-at + 64) n)) c ∙ sym (words-element _ (inverse-element _ _ _))
 
 -- values modulo one of the primes
 pub prime-values : (slice : List ℕ) (at n : ℕ) → AllValues slice at n → (i place : ℕ) → i < 3 → place ≡ at + 64 * i → Values slice place n
@@ -66,23 +66,23 @@ values-before S S′ to new at n e h v =
     }
 
 module _ (slice : List ℕ) (at : ℕ) (xs : List ℕ) (from : ℕ) where
-  -- what is kept are values
-  pub keeps-values : (n : ℕ) → Keeps slice at xs from n → AllValues slice at n
-  keeps-values n k = record {
+  -- an NTT form is of values
+  pub ntt-form-values : (n : ℕ) → NttForm slice at xs from n → AllValues slice at n
+  ntt-form-values n k = record {
     within = k .within;
     small = λ i m o a b l.
-        subst (λ x. x ≤ 134285152) (sym (sym (getD-part 0 slice (at + 64 * i + 192 * m) 64 o l) ∙ ap (λ w. getD w o 0) (k .kept i m a b)))
+        subst (λ x. x ≤ 134285152) (sym (sym (getD-part 0 slice (at + 64 * i + 192 * m) 64 o l) ∙ ap (λ w. getD w o 0) (k .ntt i m a b)))
         (value-bound i a (part xs (from + 64 * m) 64) (λ j c. k .small m j c) o l);
   }
 
   -- vector i, of vectors of n elements
-  pub keeps-vector : (r n i place first : ℕ) → Keeps slice at xs from (r * n) → i < r → place ≡ at + 192 * (i * n) → first ≡ from + 64 * (i * n) → Keeps slice place xs first n
-  keeps-vector r n i place first k h e f =
-      subst (λ p. Keeps slice p xs first n) (sym e) (subst (λ p. Keeps slice (at + 192 * (i * n)) xs p n) (sym f) record {
-        kept = λ j m a b.
+  pub ntt-form-vector : (r n i place first : ℕ) → NttForm slice at xs from (r * n) → i < r → place ≡ at + 192 * (i * n) → first ≡ from + 64 * (i * n) → NttForm slice place xs first n
+  ntt-form-vector r n i place first k h e f =
+      subst (λ p. NttForm slice p xs first n) (sym e) (subst (λ p. NttForm slice (at + 192 * (i * n)) xs p n) (sym f) record {
+        ntt = λ j m a b.
             let there : at + 192 * (i * n) + 64 * j + 192 * m ≡ at + 64 * j + 192 * (i * n + m) = omega arith in
             let here : from + 64 * (i * n) + 64 * m ≡ from + 64 * (i * n + m) = omega arith in
-            ap (λ p. part slice p 64) there ∙ k .kept j (i * n + m) a (omega (arith, mul-le-mul-right n h)) ∙ ap (λ p. valuesOf j (part xs p 64)) (sym here);
+            ap (λ p. part slice p 64) there ∙ k .ntt j (i * n + m) a (omega (arith, mul-le-mul-right n h)) ∙ ap (λ p. nttOf j (part xs p 64)) (sym here);
         small = λ m o b.
             let here : from + 64 * (i * n) + 64 * m ≡ from + 64 * (i * n + m) = omega arith in
             subst (λ p. coeff (part xs p 64) o ≤ 4294967295) (sym here) (k .small (i * n + m) o b);
@@ -90,10 +90,10 @@ module _ (slice : List ℕ) (at : ℕ) (xs : List ℕ) (from : ℕ) where
       })
 
   -- after a store behind it
-  pub keeps-before : (S′ : List ℕ) (to : ℕ) (new : List ℕ) (n : ℕ) → S′ ≡ splice slice to new → at + 192 * n ≤ to → Keeps slice at xs from n → Keeps S′ at xs from n
-  keeps-before S′ to new n e h k =
-      subst (λ l. Keeps l at xs from n) (sym e) record {
-        kept = λ i m a b. part-splice-before 0 slice to new (at + 64 * i + 192 * m) 64 (omega arith) ∙ k .kept i m a b;
+  pub ntt-form-before : (S′ : List ℕ) (to : ℕ) (new : List ℕ) (n : ℕ) → S′ ≡ splice slice to new → at + 192 * n ≤ to → NttForm slice at xs from n → NttForm S′ at xs from n
+  ntt-form-before S′ to new n e h k =
+      subst (λ l. NttForm l at xs from n) (sym e) record {
+        ntt = λ i m a b. part-splice-before 0 slice to new (at + 64 * i + 192 * m) 64 (omega arith) ∙ k .ntt i m a b;
         small = k .small;
         within = omega (arith, k .within, length-splice slice to new);
       }
@@ -114,12 +114,12 @@ module _ (x x′ : List ℕ) (p p′ : ℕ) (y y′ : List ℕ) (q q′ n : ℕ)
           let there′ : a′ + 192 * m + k ≡ p′ + (64 * i + 192 * m + k) = omega arith in
           ap (λ j. getD z j 0) there ∙ same (64 * i + 192 * m + k) (omega arith) ∙ ap (λ j. getD z′ j 0) (sym there′)
 
-  pub dot-same : kept-dot x p y q n ≡ kept-dot x′ p′ y′ q′ n
-  unfolding kept-dot
+  pub dot-same : ntt-dot x p y q n ≡ ntt-dot x′ p′ y′ q′ n
+  unfolding ntt-dot
   dot-same =
       ap element
-      (ap₂ (λ a b. backOf a b (value-sums x (p + 128) y (q + 128) n)) (sums-same 0 (omega arith) p p′ q q′ (omega arith) (omega arith) (omega arith) (omega arith)) (sums-same 1 (omega arith) (p + 64) (p′ + 64) (q + 64) (q′ + 64) (omega arith) (omega arith) (omega arith) (omega arith))
-      ∙ ap (backOf (value-sums x′ p′ y′ q′ n) (value-sums x′ (p′ + 64) y′ (q′ + 64) n)) (sums-same 2 (omega arith) (p + 128) (p′ + 128) (q + 128) (q′ + 128) (omega arith) (omega arith) (omega arith) (omega arith)))
+      (ap₂ (λ a b. inverseNttOf a b (value-sums x (p + 128) y (q + 128) n)) (sums-same 0 (omega arith) p p′ q q′ (omega arith) (omega arith) (omega arith) (omega arith)) (sums-same 1 (omega arith) (p + 64) (p′ + 64) (q + 64) (q′ + 64) (omega arith) (omega arith) (omega arith) (omega arith))
+      ∙ ap (inverseNttOf (value-sums x′ p′ y′ q′ n) (value-sums x′ (p′ + 64) y′ (q′ + 64) n)) (sums-same 2 (omega arith) (p + 128) (p′ + 128) (q + 128) (q′ + 128) (omega arith) (omega arith) (omega arith) (omega arith)))
 
 -- values that stand before a store
 pub same-before : (S S′ : List ℕ) (to : ℕ) (new : List ℕ) (q n : ℕ) → S′ ≡ splice S to new → q + n ≤ to → (o : ℕ) → o < n → getD S′ (q + o) 0 ≡ getD S (q + o) 0
@@ -131,11 +131,11 @@ same-copied B B′ ws n e size h o l =
     ap (λ s. getD s (0 + o) 0) e ∙ getD-splice-within B 0 ws o 0 (omega arith) (omega arith) ∙ ap (λ j. getD ws j 0) (sym (zero-add o))
 
 -- inner products with what stands before a store
-pub dot-before : (v S S′ : List ℕ) (to : ℕ) (new : List ℕ) → S′ ≡ splice S to new → (n p q : ℕ) → q + 192 * n ≤ to → kept-dot v p S′ q n ≡ kept-dot v p S q n
+pub dot-before : (v S S′ : List ℕ) (to : ℕ) (new : List ℕ) → S′ ≡ splice S to new → (n p q : ℕ) → q + 192 * n ≤ to → ntt-dot v p S′ q n ≡ ntt-dot v p S q n
 dot-before v S S′ to new e n p q h = dot-same v v p p S′ S q q n (λ o l. refl) (same-before S S′ to new q (192 * n) e h)
 
--- the inner product of what is kept is that of the elements
-module _ (x : List ℕ) (x-at : ℕ) (xs : List ℕ) (xs-at : ℕ) (y : List ℕ) (y-at : ℕ) (ys : List ℕ) (ys-at n : ℕ) (few : n ≤ 64) (kx : Keeps x x-at xs xs-at n) (ky : Keeps y y-at ys ys-at n) where
+-- the inner product in NTT form is that of the elements
+module _ (x : List ℕ) (x-at : ℕ) (xs : List ℕ) (xs-at : ℕ) (y : List ℕ) (y-at : ℕ) (ys : List ℕ) (ys-at n : ℕ) (few : n ≤ 64) (kx : NttForm x x-at xs xs-at n) (ky : NttForm y y-at ys ys-at n) where
   abbrev a : ℕ → List ℕ
   a m = part xs (xs-at + 64 * m) 64
 
@@ -146,15 +146,15 @@ module _ (x : List ℕ) (x-at : ℕ) (xs : List ℕ) (xs-at : ℕ) (y : List ℕ
   unfolding value-sums sumsOf
   sums-are i p q h e f =
       ap₂ (λ p q. table 64 (λ k. Σ n (λ m. getD x (p + 192 * m + k) 0 * getD y (q + 192 * m + k) 0))) e f
-      ∙ table-ext 64 (λ k. Σ n (λ m. getD x (x-at + 64 * i + 192 * m + k) 0 * getD y (y-at + 64 * i + 192 * m + k) 0)) (λ k. Σ n (λ m. getD (valuesOf i (a m)) k 0 * getD (valuesOf i (b m)) k 0)) (λ k l.
-      Σ-ext n (λ m. getD x (x-at + 64 * i + 192 * m + k) 0 * getD y (y-at + 64 * i + 192 * m + k) 0) (λ m. getD (valuesOf i (a m)) k 0 * getD (valuesOf i (b m)) k 0) (λ m c.
-      ap₂ _*_ (sym (getD-part 0 x (x-at + 64 * i + 192 * m) 64 k l) ∙ ap (λ w. getD w k 0) (kx .kept i m h c)) (sym (getD-part 0 y (y-at + 64 * i + 192 * m) 64 k l) ∙ ap (λ w. getD w k 0) (ky .kept i m h c))))
+      ∙ table-ext 64 (λ k. Σ n (λ m. getD x (x-at + 64 * i + 192 * m + k) 0 * getD y (y-at + 64 * i + 192 * m + k) 0)) (λ k. Σ n (λ m. getD (nttOf i (a m)) k 0 * getD (nttOf i (b m)) k 0)) (λ k l.
+      Σ-ext n (λ m. getD x (x-at + 64 * i + 192 * m + k) 0 * getD y (y-at + 64 * i + 192 * m + k) 0) (λ m. getD (nttOf i (a m)) k 0 * getD (nttOf i (b m)) k 0) (λ m c.
+      ap₂ _*_ (sym (getD-part 0 x (x-at + 64 * i + 192 * m) 64 k l) ∙ ap (λ w. getD w k 0) (kx .ntt i m h c)) (sym (getD-part 0 y (y-at + 64 * i + 192 * m) 64 k l) ∙ ap (λ w. getD w k 0) (ky .ntt i m h c))))
 
-  pub kept-dot-is : kept-dot x x-at y y-at n ≡ dot RqOps n (run xs xs-at 64) (run ys ys-at 64)
-  unfolding kept-dot
-  kept-dot-is =
+  pub ntt-dot-is : ntt-dot x x-at y y-at n ≡ dot RqOps n (run xs xs-at 64) (run ys ys-at 64)
+  unfolding ntt-dot
+  ntt-dot-is =
       ap element
-      (ap₂ (λ s t. backOf s t (value-sums x (x-at + 128) y (y-at + 128) n)) (sums-are 0 x-at y-at (omega arith) (omega arith) (omega arith)) (sums-are 1 (x-at + 64) (y-at + 64) (omega arith) (omega arith) (omega arith))
-      ∙ ap (backOf (sumsOf 0 n a b) (sumsOf 1 n a b)) (sums-are 2 (x-at + 128) (y-at + 128) (omega arith) (omega arith) (omega arith))
-      ∙ back-words n few a b (kx .small) (ky .small))
+      (ap₂ (λ s t. inverseNttOf s t (value-sums x (x-at + 128) y (y-at + 128) n)) (sums-are 0 x-at y-at (omega arith) (omega arith) (omega arith)) (sums-are 1 (x-at + 64) (y-at + 64) (omega arith) (omega arith) (omega arith))
+      ∙ ap (inverseNttOf (sumsOf 0 n a b) (sumsOf 1 n a b)) (sums-are 2 (x-at + 128) (y-at + 128) (omega arith) (omega arith) (omega arith))
+      ∙ inverse-words n few a b (kx .small) (ky .small))
       ∙ element-words (dot RqOps n (run xs xs-at 64) (run ys ys-at 64))

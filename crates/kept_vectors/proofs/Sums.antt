@@ -16,10 +16,10 @@ use Rattle.definitions.specs.Zq.{Q, zsub}
 use Rattle.definitions.specs.Rq.{coeff, low, high, rmul}
 use Rattle.definitions.specs.Ring.{RqOps, words, element}
 use Rattle.definitions.proofs.Bridge.{words-sum, words-element, element-rmul, rmul-element}
-use Rattle.fast_product.specs.Kept.{sumsOf, backOf}
+use Rattle.fast_product.specs.NttForm.{sumsOf, inverseNttOf}
 use Rattle.fast_product.proofs.Residue.{product-small}
-use Rattle.fast_product.proofs.Inner.{back-is}
-use Rattle.kept_vectors.specs.Keeps.{SumsRoom, values-added, value-sums, Values}
+use Rattle.fast_product.proofs.Inner.{inverse-is}
+use Rattle.kept_vectors.specs.NttForm.{SumsRoom, values-added, value-sums, Values}
 
 -- no product yet
 pub sums-none : (x : List ℕ) (x-at : ℕ) (y : List ℕ) (y-at : ℕ) → replicate 64 0 ≡ value-sums x x-at y y-at 0
@@ -113,7 +113,7 @@ products-words n a b =
         ap (λ l. coeff l k) (words-element (rmul (a m) (b m)) (rmul-element (a m) (b m)))
         ∙ (unfold rmul in getD-table 64 (λ k. zsub (low (a m) (b m) k) (high (a m) (b m) k)) k 0 h)
 
--- the way back from the sums of n products of values gives the inner product's words
-pub back-words : (n : ℕ) → n ≤ 64 → (a b : ℕ → List ℕ) → ((m k : ℕ) → k < 64 → coeff (a m) k ≤ 4294967295) → ((m k : ℕ) → k < 64 → coeff (b m) k ≤ 4294967295)
-    → backOf (sumsOf 0 n a b) (sumsOf 1 n a b) (sumsOf 2 n a b) ≡ words (dot RqOps n (λ m. element (a m)) (λ m. element (b m)))
-back-words n few a b wa wb = back-is n few a b (λ m k l. wa m k l) (λ m k l. wb m k l) ∙ products-words n a b
+-- the inverse NTT of the sums of n products of values gives the inner product's words
+pub inverse-words : (n : ℕ) → n ≤ 64 → (a b : ℕ → List ℕ) → ((m k : ℕ) → k < 64 → coeff (a m) k ≤ 4294967295) → ((m k : ℕ) → k < 64 → coeff (b m) k ≤ 4294967295)
+    → inverseNttOf (sumsOf 0 n a b) (sumsOf 1 n a b) (sumsOf 2 n a b) ≡ words (dot RqOps n (λ m. element (a m)) (λ m. element (b m)))
+inverse-words n few a b wa wb = inverse-is n few a b (λ m k l. wa m k l) (λ m k l. wb m k l) ∙ products-words n a b

@@ -1,6 +1,6 @@
-// Vectors kept transformed in a lent slice (document 02, Item 7): 192 words an element, its values modulo the three primes.
-use fast_product::kept;
-use fast_product::kept::Sums;
+// Vectors in NTT form in a lent slice (document 02, Item 7): 192 words an element, its values modulo the three primes.
+use fast_product::ntt_form;
+use fast_product::ntt_form::Sums;
 use rq::rq::Rq;
 use zq::wide::wide;
 ghost use mathlib.Core.Path.{_≡_};
@@ -11,14 +11,14 @@ ghost use Rattle.lists.specs.Part.{splice};
 ghost use Rattle.definitions.specs.Ring.{words};
 ghost use Rattle.protocol.specs.Formulas.{flat};
 ghost use Rattle.ntt.specs.Roots.{twiddleTable};
-ghost use Rattle.kept_vectors.specs.Keeps.{values, kept-words, Keeps, SumsRoom, values-added, value-sums, Values, AllValues, kept-dot, kept-row, RowRoom};
+ghost use Rattle.kept_vectors.specs.NttForm.{ntt-form, ntt-words, NttForm, SumsRoom, values-added, value-sums, Values, AllValues, ntt-dot, ntt-row, RowRoom};
 
 // The values of an element stored from `at` on.
-pub fn store_values(a: [u32; 64], w: &[u32], out: &mut [u32], at: usize)
+pub fn store_ntt_form(a: [u32; 64], w: &[u32], out: &mut [u32], at: usize)
     requires { ⌜ (now w ≡ twiddleTable) × (at + 192 ≤ length (now out)) ⌝ }
-    ensures { λ _. ⌜ now (out .exit) ≡ splice (now (out .entry)) at (values a) ⌝ }
+    ensures { λ _. ⌜ now (out .exit) ≡ splice (now (out .entry)) at (ntt-form a) ⌝ }
 {
-    let t = kept::transform(a, w);
+    let t = ntt_form::transform(a, w);
     let first = t.first;
     let second = t.second;
     let third = t.third;
@@ -28,17 +28,17 @@ pub fn store_values(a: [u32; 64], w: &[u32], out: &mut [u32], at: usize)
 }
 
 // The values of n elements, one after the other.
-pub fn keep(from: &[u32], from_at: usize, n: usize, w: &[u32], out: &mut [u32], at: usize)
+pub fn to_ntt_form(from: &[u32], from_at: usize, n: usize, w: &[u32], out: &mut [u32], at: usize)
     requires { ⌜ (now w ≡ twiddleTable) × («from_at» + 64 * n ≤ length (now from)) × (at + 192 * n ≤ length (now out)) ⌝ }
-    ensures { λ _. ⌜ now (out .exit) ≡ splice (now (out .entry)) at (kept-words (now (from .entry)) «from_at» n) ⌝ }
-    ensures { λ _. ⌜ Keeps (now (out .exit)) at (now (from .entry)) «from_at» n ⌝ }
+    ensures { λ _. ⌜ now (out .exit) ≡ splice (now (out .entry)) at (ntt-words (now (from .entry)) «from_at» n) ⌝ }
+    ensures { λ _. ⌜ NttForm (now (out .exit)) at (now (from .entry)) «from_at» n ⌝ }
 {
     let mut i = from_at;
     let mut place = at;
     let mut m = 0;
     while m < n {
         let a = words::load(from, i).coeffs;
-        store_values(a, w, out, place);
+        store_ntt_form(a, w, out, place);
         i += 64;
         place += 192;
         m += 1;
@@ -74,10 +74,10 @@ pub fn value_sums(x: &[u32], x_at: usize, y: &[u32], y_at: usize, n: usize) -> [
     sums
 }
 
-// The inner product of n elements with n others, all kept.
+// The inner product of n elements with n others, all in NTT form.
 pub fn inner_product(x: &[u32], x_at: usize, y: &[u32], y_at: usize, n: usize, w: &[u32]) -> Rq
     requires { ⌜ (now w ≡ twiddleTable) × AllValues (now x) «x_at» n × AllValues (now y) «y_at» n × (n ≤ 64) ⌝ }
-    ensures { λ r. ⌜ r .coeffs ≡ words (kept-dot (now (x .entry)) «x_at» (now (y .entry)) «y_at» n) ⌝ }
+    ensures { λ r. ⌜ r .coeffs ≡ words (ntt-dot (now (x .entry)) «x_at» (now (y .entry)) «y_at» n) ⌝ }
 {
     let first = value_sums(x, x_at, y, y_at, n);
     let second = value_sums(x, x_at + 64, y, y_at + 64, n);
@@ -88,11 +88,11 @@ pub fn inner_product(x: &[u32], x_at: usize, y: &[u32], y_at: usize, n: usize, w
         third,
     };
     Rq {
-        coeffs: kept::back(sums, w),
+        coeffs: ntt_form::inverse(sums, w),
     }
 }
 
-// The inner products of a kept vector with `count` vectors that the scratch keeps, stored after them.
+// The inner products of a vector in NTT form with `count` vectors that the scratch holds so, stored after them.
 pub fn row(
     v: &[u32],
     n: usize,
@@ -103,7 +103,7 @@ pub fn row(
     out_at: usize,
 )
     requires { ⌜ (now w ≡ twiddleTable) × AllValues (now v) 0 n × AllValues (now scratch) at (count * n) × (n ≤ 64) × (count ≤ 64) × RowRoom (now scratch) at n count «out_at» ⌝ }
-    ensures { λ _. ⌜ now (scratch .exit) ≡ splice (now (scratch .entry)) «out_at» (flat (table count (kept-row (now (v .entry)) (now (scratch .entry)) at n))) ⌝ }
+    ensures { λ _. ⌜ now (scratch .exit) ≡ splice (now (scratch .entry)) «out_at» (flat (table count (ntt-row (now (v .entry)) (now (scratch .entry)) at n))) ⌝ }
 {
     let mut place = at;
     let mut to = out_at;

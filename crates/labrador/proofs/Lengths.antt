@@ -18,11 +18,11 @@ use Rattle.call_answers.specs.Calls.{labradorAnswer, labradorNeed}
 
 module _ (J : List ℕ) (x : Admitted) where
   -- the parameters of a job that is refused nothing
-  module _ (p : EnvironmentParameters) (e : ofAdmitted x ≡ job-refusal J) (at : At x (λ p. parametersOf p ≡ parameters J)) (is : x ≡ A.Fit p) where
+  module _ (params : EnvironmentParameters) (e : ofAdmitted x ≡ job-refusal J) (at : At x (λ params. parametersOf params ≡ parameters J)) (is : x ≡ A.Fit params) where
     -- give the length
-    pub need-of : (need : Parameters → ℕ) {words : ℕ} → words ≡ need (parametersOf p) → record { number = 0; place = 0; words = words } ≡ labradorNeed (job-refusal J) (need (parameters J))
+    pub need-of : (need : Parameters → ℕ) {words : ℕ} → words ≡ need (parametersOf params) → record { number = 0; place = 0; words = words } ≡ labradorNeed (job-refusal J) (need (parameters J))
     need-of need h =
-        (λ i. record { number = 0; place = 0; words = (h ∙ ap need (fit-same J x p e at is)) i })
+        (λ i. record { number = 0; place = 0; words = (h ∙ ap need (fit-same J x params e at is)) i })
         ∙ ap (λ a. labradorNeed a (need (parameters J))) (sym (ap ofAdmitted is) ∙ e)
 
   -- a job that is refused

@@ -32,10 +32,10 @@ module _ (G : Given) (x : SectionOne) (e : (ofSectionOne x ≡ needs-refusal G) 
       })
       ∙ ap (λ a. record { number = number a; place = place a; job = result a (job-need G) 0; witness = result a (witness-need G) 0; randomness = result a (randomness-need G) 0 }) (sym (ap ofSectionOne is) ∙ e .0)
 
-  pub load-lengths : (p : EnvironmentParameters) (n : Needs) → x ≡ S.Read p → Lengths (parametersOf p) n
+  pub load-lengths : (params : EnvironmentParameters) (n : Needs) → x ≡ S.Read params → Lengths (parametersOf params) n
       → record { number = 0; place = 0; job = n .job; witness = n .witness; randomness = n .randomness } ≡ labradorLoadNeed G
-  load-lengths p n is h =
-      let same = ready G p x is e .same in
+  load-lengths params n is h =
+      let same = ready G params x is e .same in
       let l : Lengths (load-parameters G) n = subst (λ P. Lengths P n) same h in
       (λ i. record { number = 0; place = 0; job = l .job i; witness = l .witness i; randomness = l .randomness i })
       ∙ ap (λ a. record { number = number a; place = place a; job = result a (job-need G) 0; witness = result a (witness-need G) 0; randomness = result a (randomness-need G) 0 }) (sym (ap ofSectionOne is) ∙ e .0)

@@ -48,8 +48,8 @@ pub extern "C" fn labrador_load_needs(parameters: LabradorParameters) -> Labrado
                 randomness: 0,
             }
         }
-        SectionOne::Read(p) => {
-            let needs = load_needs::lengths(p);
+        SectionOne::Read(params) => {
+            let needs = load_needs::lengths(params);
             LabradorLoadNeed {
                 number: 0,
                 place: 0,

@@ -23,10 +23,10 @@ pub extern "C" fn labrador_scratch_need(job: &[u32]) -> LabradorNeed
                 words: 0,
             }
         }
-        Admitted::Fit(p) => LabradorNeed {
+        Admitted::Fit(params) => LabradorNeed {
             number: 0,
             place: 0,
-            words: buffers::scratch_length(p) as u64,
+            words: buffers::scratch_length(params) as u64,
         },
     }
 }
@@ -45,10 +45,10 @@ pub extern "C" fn labrador_output_need(job: &[u32]) -> LabradorNeed
                 words: 0,
             }
         }
-        Admitted::Fit(p) => LabradorNeed {
+        Admitted::Fit(params) => LabradorNeed {
             number: 0,
             place: 0,
-            words: buffers::output_length(p, 0, 8) as u64,
+            words: buffers::output_length(params, 0, 8) as u64,
         },
     }
 }

@@ -55,8 +55,8 @@ length-row-words base parts a =
     ∙ Σ-const 32 64
 
 -- the words beyond never change
-pub beyond-kept : (base parts : ℕ) (a out : List ℕ) → drop 2048 (wordsWritten base parts a out) ≡ drop 2048 out
-beyond-kept base parts a out =
+pub beyond-unchanged : (base parts : ℕ) (a out : List ℕ) → drop 2048 (wordsWritten base parts a out) ≡ drop 2048 out
+beyond-unchanged base parts a out =
     ltb-cases (λ t. drop 2048 (cond t out (splice out 0 words)) ≡ drop 2048 out) (length out) 2048 (λ l. refl)
     (λ l. ap (drop 2048) (splice-eq out 0 words (omega (arith, n))) ∙ drop-at words (drop (0 + length words) out) 2048 n ∙ ap (λ k. drop k out) (zero-add (length words) ∙ n))
   where

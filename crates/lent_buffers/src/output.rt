@@ -12,12 +12,12 @@ ghost use Rattle.sizes.specs.Sizes.{Sized};
 ghost use Rattle.admission.specs.Admission.{callOf, ofSliceChecked};
 
 // "Place is the length needed."
-pub fn check(lent: usize, p: EnvironmentParameters, call: Call) -> SliceChecked
-    requires { ⌜ Sized (parametersOf p) ⌝ }
-    ensures { λ r. ⌜ ofSliceChecked r ≡ output-refusal (made-sections (callOf call) (parametersOf p)) lent ⌝ }
+pub fn check(lent: usize, params: EnvironmentParameters, call: Call) -> SliceChecked
+    requires { ⌜ Sized (parametersOf params) ⌝ }
+    ensures { λ r. ⌜ ofSliceChecked r ≡ output-refusal (made-sections (callOf call) (parametersOf params)) lent ⌝ }
 {
     let made = calls::makes(call);
-    let need = sizes::buffers::output_length(p, made.from, made.makes);
+    let need = sizes::buffers::output_length(params, made.from, made.makes);
     if lent < need {
         SliceChecked::Refused(Refusal::OutputTooShort(need))
     } else {

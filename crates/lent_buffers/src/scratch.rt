@@ -9,11 +9,11 @@ ghost use Rattle.sizes.specs.Sizes.{Sized};
 ghost use Rattle.admission.specs.Admission.{ofSliceChecked};
 
 // "Place is the length needed."
-pub fn check(lent: usize, p: EnvironmentParameters) -> SliceChecked
-    requires { ⌜ Sized (parametersOf p) ⌝ }
-    ensures { λ r. ⌜ ofSliceChecked r ≡ scratch-refusal (parametersOf p) lent ⌝ }
+pub fn check(lent: usize, params: EnvironmentParameters) -> SliceChecked
+    requires { ⌜ Sized (parametersOf params) ⌝ }
+    ensures { λ r. ⌜ ofSliceChecked r ≡ scratch-refusal (parametersOf params) lent ⌝ }
 {
-    let need = sizes::buffers::scratch_length(p);
+    let need = sizes::buffers::scratch_length(params);
     if lent < need {
         SliceChecked::Refused(Refusal::ScratchTooShort(need))
     } else {

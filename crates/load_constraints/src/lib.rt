@@ -91,7 +91,7 @@ fn add_terms(
     }
 }
 
-// The same for b0 alone, and then for b with the witness's elements kept transformed.
+// The same for b0 alone, and then for b with the witness's elements in NTT form.
 fn add_line(job: &mut [u32], t: Target, base0: usize, base: usize, m: usize, s: &[u32], s_at: usize)
     requires { ⌜ Placed (now job) t base0 base m × Reduced (now job) t × («s_at» + 64 * m ≤ length (now s)) ⌝ }
     ensures { λ _. ⌜ now (job .exit) ≡ plus-both (now (job .entry)) t base0 base (λ at. terms (now (job .entry)) at m 0 m (run (now (s .entry)) «s_at» 64)) ⌝ }

@@ -21,7 +21,7 @@ use Rattle.sizes.proofs.Sized.{sized}
 use Rattle.admission.specs.declared.answers.Admitted.{Admitted}
 use Rattle.admission.specs.declared.answers.Admitted.the-variants as A
 use Rattle.admission.specs.Admission.{At}
-use Rattle.load_needs.specs.Given.{one-of, fits-refusal, Ready, Kept}
+use Rattle.load_needs.specs.Given.{one-of, fits-refusal, Ready, Unchanged}
 
 module _ (lent need : ℕ) {needed : ℕ} (e : need ≡ needed) where
   -- a buffer that is too short
@@ -41,11 +41,11 @@ pub read-as : (words : List ℕ) (G : Given) (r : SectionOne) → words ≡ one-
 read-as words G r e h = (h .0 ∙ ap section-one e ∙ only-limits G, subst (λ w. Reads w r) e (h .1))
 
 -- parameters that are read are the load's, and within their limits
-pub ready : (G : Given) (p : EnvironmentParameters) (r : SectionOne) → r ≡ S.Read p → (ofSectionOne r ≡ needs-refusal G) × Reads (one-of G) r → Ready G p
-ready G p r is h =
-    let same : parametersOf p ≡ load-parameters G = subst (Reads (one-of G)) is (h .1) in
+pub ready : (G : Given) (params : EnvironmentParameters) (r : SectionOne) → r ≡ S.Read params → (ofSectionOne r ≡ needs-refusal G) × Reads (one-of G) r → Ready G params
+ready G params r is h =
+    let same : parametersOf params ≡ load-parameters G = subst (Reads (one-of G)) is (h .1) in
     let no : fine ≡ needs-refusal G = sym (ap ofSectionOne is) ∙ h .0 in
-    record { same = same; sized = sized (one-of G) (parametersOf p) (sound (one-of G) (only-limits G ∙ sym no)) same }
+    record { same = same; sized = sized (one-of G) (parametersOf params) (sound (one-of G) (only-limits G ∙ sym no)) same }
 
 -- the refusals of a load: of the parameters, then of the buffers
 pub all-refusals : (G : Given) (job witness randomness : ℕ) → load-refusal G job witness randomness ≡ needs-refusal G then fits-refusal (load-parameters G) job witness randomness
@@ -58,9 +58,9 @@ all-refusals G job witness randomness =
     ap (λ a. a then randomness-room) (then-assoc (needs-refusal G) job-room witness-room) ∙ then-assoc (needs-refusal G) (job-room then witness-room) randomness-room
 
 -- what was kept is what was read
-pub kept-ready : (G : Given) (p : EnvironmentParameters) (r : Admitted) → Ready G p → At r (Kept p) → At r (Ready G)
-kept-ready G p (A.Refused x) ready h = tt
-kept-ready G p (A.Fit q) ready h = subst (Ready G) (sym h) ready
+pub unchanged-ready : (G : Given) (params : EnvironmentParameters) (r : Admitted) → Ready G params → At r (Unchanged params) → At r (Ready G)
+unchanged-ready G params (A.Refused x) ready h = tt
+unchanged-ready G params (A.Fit q) ready h = subst (Ready G) (sym h) ready
 
 -- buffers of a load that is refused nothing are long enough
 pub record LongEnough (G : Given) (job witness randomness : ℕ) : Type 0 where

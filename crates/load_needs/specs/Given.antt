@@ -47,10 +47,10 @@ fits-refusal P job witness randomness =
     then output-refusal (randomness-sections P) randomness
 
 -- the parameters handed on are those that were read
-abbrev pub Kept : EnvironmentParameters → EnvironmentParameters → Type 0
-Kept p q = q ≡ p
+abbrev pub Unchanged : EnvironmentParameters → EnvironmentParameters → Type 0
+Unchanged params q = q ≡ params
 
 -- what the work needs of the parameters
-pub record Ready (G : Given) (p : EnvironmentParameters) : Type 0 where
-  pub same : parametersOf p ≡ load-parameters G
-  pub sized : Sized (parametersOf p)
+pub record Ready (G : Given) (params : EnvironmentParameters) : Type 0 where
+  pub same : parametersOf params ≡ load-parameters G
+  pub sized : Sized (parametersOf params)

@@ -7,13 +7,13 @@ use Rattle.definitions.specs.Rq.{Element}
 use Rattle.definitions.specs.Ring.{element}
 use Rattle.protocol.specs.Views.{element-at}
 use Rattle.protocol.specs.Formulas.{_⊕_}
-use Rattle.kept_sums.specs.Sums.{back-from}
+use Rattle.kept_sums.specs.Sums.{inverse-from}
 use Rattle.kept_mix.specs.Terms.{terms-added}
 use Rattle.load_sums.specs.Sums.{terms}
 
--- the element whose values are the sums of the products of n kept weights with the elements from a place on
-unfoldable pub kept-line : List ℕ → (at n : ℕ) → List ℕ → Element
-kept-line J at n kept = element (back-from (terms-added (replicate 192 0) kept 0 J at 64 n) 0)
+-- the element whose values are the sums of the products of n weights in NTT form with the elements from a place on
+unfoldable pub ntt-line : List ℕ → (at n : ℕ) → List ℕ → Element
+ntt-line J at n transformed = element (inverse-from (terms-added (replicate 192 0) transformed 0 J at 64 n) 0)
 
 -- the elements that are multiplied stand before the sums: count times m of them
 pub record Before (J : List ℕ) (base m to count : ℕ) : Type 0 where
@@ -26,9 +26,9 @@ pub record Before (J : List ℕ) (base m to count : ℕ) : Type 0 where
 abbrev pub Canonical : List ℕ → (to count : ℕ) → Type 0
 Canonical J to count = (x : ℕ) → x < 64 * count → getD J (to + x) 0 < Q
 
--- element k of the sums and the products of kept weights with n elements of constraint k from one on, together
+-- element k of the sums and the products of weights in NTT form with n elements of constraint k from one on, together
 abbrev pub with-line : List ℕ → (base m to cell n : ℕ) → List ℕ → ℕ → Element
-with-line J base m to cell n kept k = element-at J to k ⊕ kept-line J (base + 64 * (k * m + cell)) n kept
+with-line J base m to cell n transformed k = element-at J to k ⊕ ntt-line J (base + 64 * (k * m + cell)) n transformed
 
 -- the same of weights that are elements
 abbrev pub with-terms : List ℕ → (base m to cell n : ℕ) → (ℕ → Element) → ℕ → Element

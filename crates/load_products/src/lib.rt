@@ -1,5 +1,5 @@
-// To every element of b: the products of a constraint's elements with weights. The weights are kept transformed (document 02, Item 7), 32 at a time, and of
-// those each constraint takes one way back.
+// To every element of b: the products of a constraint's elements with weights. The weights are in NTT form (document 02, Item 7), 32 at a time, and for
+// those each constraint takes one inverse NTT.
 use inner_product::Strided;
 use kept_mix;
 use kept_sums;
@@ -15,13 +15,13 @@ ghost use Rattle.definitions.specs.Ring.{words};
 ghost use Rattle.inner_product.specs.Run.{Run, run};
 ghost use Rattle.protocol.specs.Formulas.{flat};
 ghost use Rattle.ntt.specs.Roots.{twiddleTable};
-ghost use Rattle.kept_vectors.specs.Keeps.{AllValues};
-ghost use Rattle.load_products.specs.Products.{kept-line, Before, Canonical, with-line, with-terms};
+ghost use Rattle.kept_vectors.specs.NttForm.{AllValues};
+ghost use Rattle.load_products.specs.Products.{ntt-line, Before, Canonical, with-line, with-terms};
 
-// The inner product of n kept weights with the elements from `at` on.
-fn line(job: &[u32], at: usize, n: usize, kept: &[u32], w: &[u32]) -> Rq
-    requires { ⌜ (now w ≡ twiddleTable) × Run (now job) at 64 n × AllValues (now kept) 0 n × (n ≤ 64) ⌝ }
-    ensures { λ r. ⌜ r .coeffs ≡ words (kept-line (now (job .entry)) at n (now (kept .entry))) ⌝ }
+// The inner product of n weights in NTT form with the elements from `at` on.
+fn line(job: &[u32], at: usize, n: usize, transformed: &[u32], w: &[u32]) -> Rq
+    requires { ⌜ (now w ≡ twiddleTable) × Run (now job) at 64 n × AllValues (now transformed) 0 n × (n ≤ 64) ⌝ }
+    ensures { λ r. ⌜ r .coeffs ≡ words (ntt-line (now (job .entry)) at n (now (transformed .entry))) ⌝ }
 {
     let run = Strided {
         at,
@@ -29,12 +29,12 @@ fn line(job: &[u32], at: usize, n: usize, kept: &[u32], w: &[u32]) -> Rq
         count: n,
     };
     let mut sums = [0u64; 192];
-    kept_mix::add_terms(job, run, kept, 0, w, &mut sums);
-    kept_sums::back(&sums, 0, w)
+    kept_mix::add_terms(job, run, transformed, 0, w, &mut sums);
+    kept_sums::inverse(&sums, 0, w)
 }
 
-// To each of `count` elements from `to` on: the inner product of n kept weights with elements `cell` and on of m, of constraint after constraint from `base` on.
-fn add_kept(
+// To each of `count` elements from `to` on: the inner product of n weights in NTT form with elements `cell` and on of m, of constraint after constraint from `base` on.
+fn add_ntt(
     job: &mut [u32],
     base: usize,
     m: usize,
@@ -42,17 +42,17 @@ fn add_kept(
     n: usize,
     to: usize,
     count: usize,
-    kept: &[u32],
+    transformed: &[u32],
     w: &[u32],
 )
-    requires { ⌜ (now w ≡ twiddleTable) × Before (now job) base m to count × (cell + n ≤ m) × AllValues (now kept) 0 n × (n ≤ 64) ⌝ }
-    ensures { λ _. ⌜ now (job .exit) ≡ splice (now (job .entry)) to (flat (table count (with-line (now (job .entry)) base m to cell n (now (kept .entry))))) ⌝ }
+    requires { ⌜ (now w ≡ twiddleTable) × Before (now job) base m to count × (cell + n ≤ m) × AllValues (now transformed) 0 n × (n ≤ 64) ⌝ }
+    ensures { λ _. ⌜ now (job .exit) ≡ splice (now (job .entry)) to (flat (table count (with-line (now (job .entry)) base m to cell n (now (transformed .entry))))) ⌝ }
 {
     let mut at = base + 64 * cell;
     let mut place = to;
     let mut k = 0;
     while k < count {
-        let sum = words::load(job, place).add(line(job, at, n, kept, w));
+        let sum = words::load(job, place).add(line(job, at, n, transformed, w));
         words::store(job, place, sum);
         at += 64 * m;
         place += 64;
@@ -76,12 +76,12 @@ fn add_block(
     requires { ⌜ (now w ≡ twiddleTable) × Before (now job) base m to count × (cell + n ≤ m) × («s_at» + 64 * n ≤ length (now s)) × (n ≤ 32) ⌝ }
     ensures { λ _. ⌜ now (job .exit) ≡ splice (now (job .entry)) to (flat (table count (with-terms (now (job .entry)) base m to cell n (run (now (s .entry)) «s_at» 64)))) ⌝ }
 {
-    let mut kept = [0u32; 6144];
-    kept_vectors::keep(s, s_at, n, w, &mut kept, 0);
-    add_kept(job, base, m, cell, n, to, count, &kept, w);
+    let mut transformed = [0u32; 6144];
+    kept_vectors::to_ntt_form(s, s_at, n, w, &mut transformed, 0);
+    add_ntt(job, base, m, cell, n, to, count, &transformed, w);
 }
 
-// How many of the weights that are left are kept next.
+// How many of the weights that are left are transformed next.
 fn block(left: usize) -> usize
     ensures { λ r. ⌜ (r ≤ 32) × (r ≤ left) × (0 < left → 0 < r) ⌝ }
 {

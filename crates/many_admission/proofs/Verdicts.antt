@@ -65,8 +65,8 @@ module _ (J : List ℕ) (count : ℕ) (R T : List ℕ) (m : ℕ) (fit : job-refu
     unfolding part-refusal
     lent-fine = ap₂ (λ R T. randomness-refusal (parameters J) 7 R then transcript-refusal (parameters J) T) e f ∙ h
 
-    pub part-verifiable : (p : EnvironmentParameters) → parametersOf p ≡ parameters J → Verifiable J R′ T′ (scratch-need (parameters J)) p
-    part-verifiable p same = verifiable J R′ T′ (scratch-need (parameters J)) p same (unrefused J R′ T′ fit lent-fine)
+    pub part-verifiable : (params : EnvironmentParameters) → parametersOf params ≡ parameters J → Verifiable J R′ T′ (scratch-need (parameters J)) params
+    part-verifiable params same = verifiable J R′ T′ (scratch-need (parameters J)) params same (unrefused J R′ T′ fit lent-fine)
 
     pub part-judged : verdict-of J R′ T′ ≡ part-verdict J count R T m
     unfolding part-verdict

@@ -20,12 +20,12 @@ use Rattle.many_admission.specs.declared.whole.ManyAdmitted.the-variants
 abbrev pub ofManyAdmitted : ManyAdmitted → Answer
 ofManyAdmitted A.Count = refused 35 0
 ofManyAdmitted (A.Refused r) = ofRefusal r
-ofManyAdmitted (A.Fit p) = fine
+ofManyAdmitted (A.Fit params) = fine
 
 -- a call that is not refused as a whole: its parameters are the job's, and the scratch is long enough
-pub record Many-given (J : List ℕ) (count scratch : ℕ) (p : EnvironmentParameters) : Type 0 where
+pub record Many-given (J : List ℕ) (count scratch : ℕ) (params : EnvironmentParameters) : Type 0 where
   pub fit : job-refusal J ≡ fine
-  pub same : parametersOf p ≡ parameters J
+  pub same : parametersOf params ≡ parameters J
   pub few : count ≤ 8
   pub room : many-need (parameters J) count ≤ scratch
 
@@ -33,7 +33,7 @@ pub record Many-given (J : List ℕ) (count scratch : ℕ) (p : EnvironmentParam
 abbrev pub AtMany : ManyAdmitted → (EnvironmentParameters → Type 0) → Type 0
 AtMany A.Count F = Unit {0}
 AtMany (A.Refused r) F = Unit {0}
-AtMany (A.Fit p) F = F p
+AtMany (A.Fit params) F = F params
 
 -- what is found of transcript m, of so many
 abbrev pub found-of : List SliceChecked → ℕ → SliceChecked

@@ -12,16 +12,16 @@ ghost use Rattle.many_admission.specs.Admitted.{TranscriptsFound, found-
 // 9 and 10 of each transcript: "A transcript that is refused doesn't alter the others".
 pub fn check_transcripts(
     transcripts: &[u32],
-    p: EnvironmentParameters,
+    params: EnvironmentParameters,
     count: usize,
 ) -> [SliceChecked; 8]
-    requires { ⌜ Sized (parametersOf p) × (count ≤ 8) ⌝ }
-    ensures { λ r. ⌜ TranscriptsFound (parametersOf p) count (now (transcripts .entry)) r ⌝ }
+    requires { ⌜ Sized (parametersOf params) × (count ≤ 8) ⌝ }
+    ensures { λ r. ⌜ TranscriptsFound (parametersOf params) count (now (transcripts .entry)) r ⌝ }
 {
     let mut found = [SliceChecked::Fine; 8];
     let mut m = 0;
     while m < count {
-        let v = check_transcript(transcripts, p, count, m);
+        let v = check_transcript(transcripts, params, count, m);
         found[m] = v;
         m += 1;
     }

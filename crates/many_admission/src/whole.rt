@@ -24,20 +24,20 @@ pub enum ManyAdmitted {
 }
 
 // "Scratch is the single need times that number".
-pub fn need(p: EnvironmentParameters, count: usize) -> usize
-    requires { ⌜ Sized (parametersOf p) × (count ≤ 8) ⌝ }
-    ensures { λ r. ⌜ r ≡ many-need (parametersOf p) count ⌝ }
+pub fn need(params: EnvironmentParameters, count: usize) -> usize
+    requires { ⌜ Sized (parametersOf params) × (count ≤ 8) ⌝ }
+    ensures { λ r. ⌜ r ≡ many-need (parametersOf params) count ⌝ }
 {
-    let one = buffers::scratch_length(p);
+    let one = buffers::scratch_length(params);
     count * one
 }
 
 // 1, with the length that all need.
-fn check_scratch(lent: usize, p: EnvironmentParameters, count: usize) -> SliceChecked
-    requires { ⌜ Sized (parametersOf p) × (count ≤ 8) ⌝ }
-    ensures { λ r. ⌜ ofSliceChecked r ≡ need-refusal (parametersOf p) count lent ⌝ }
+fn check_scratch(lent: usize, params: EnvironmentParameters, count: usize) -> SliceChecked
+    requires { ⌜ Sized (parametersOf params) × (count ≤ 8) ⌝ }
+    ensures { λ r. ⌜ ofSliceChecked r ≡ need-refusal (parametersOf params) count lent ⌝ }
 {
-    let needed = need(p, count);
+    let needed = need(params, count);
     if lent < needed {
         SliceChecked::Refused(Refusal::ScratchTooShort(needed))
     } else {
@@ -53,9 +53,9 @@ fn admit_job(job: &[u32], count: usize, scratch: usize) -> Admitted
 {
     match job::check(job) {
         Admitted::Refused(refusal) => Admitted::Refused(refusal),
-        Admitted::Fit(p) => match check_scratch(scratch, p, count) {
+        Admitted::Fit(params) => match check_scratch(scratch, params, count) {
             SliceChecked::Refused(refusal) => Admitted::Refused(refusal),
-            SliceChecked::Fine => Admitted::Fit(p),
+            SliceChecked::Fine => Admitted::Fit(params),
         },
     }
 }
@@ -73,6 +73,6 @@ pub fn admit(job: &[u32], count: u32, scratch: usize) -> ManyAdmitted
     }
     match admit_job(job, count as usize, scratch) {
         Admitted::Refused(refusal) => ManyAdmitted::Refused(refusal),
-        Admitted::Fit(p) => ManyAdmitted::Fit(p),
+        Admitted::Fit(params) => ManyAdmitted::Fit(params),
     }
 }

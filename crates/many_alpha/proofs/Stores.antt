@@ -21,11 +21,11 @@ use Rattle.protocol.specs.Formulas.{flat}
 use Rattle.protocol.proofs.Flat.{length-words, length-flat-table}
 use Rattle.protocol.proofs.Stored.{flat-append, flat-one}
 use Rattle.rq_matrix.proofs.Place.{rows-within}
-use Rattle.workspace.specs.Holds.{Holds, Kept}
-use Rattle.workspace.proofs.Kept.{kept-refl, kept-trans, kept-stored}
-use Rattle.kept_vectors.specs.Keeps.{Keeps, AllValues, kept-words, kept-dot}
-use Rattle.kept_vectors.proofs.Stored.{length-kept}
-use Rattle.kept_vectors.proofs.Laws.{dot-same, keeps-before, kept-dot-is}
+use Rattle.workspace.specs.Holds.{Holds, Unchanged}
+use Rattle.workspace.proofs.Unchanged.{unchanged-refl, unchanged-trans, unchanged-stored}
+use Rattle.kept_vectors.specs.NttForm.{NttForm, AllValues, ntt-words, ntt-dot}
+use Rattle.kept_vectors.proofs.Stored.{length-ntt-words}
+use Rattle.kept_vectors.proofs.Laws.{dot-same, ntt-form-before, ntt-dot-is}
 use Rattle.many_alpha.specs.declared.Windows.{Windows}
 use Rattle.many_alpha.specs.Alpha.{Gathered, Column, Fitting, Alphas, Storable, Stored, Beside, alpha-element, Weighed}
 
@@ -45,15 +45,15 @@ gathered-next out out′ from at step m start place e p s h room g i l = by (dec
         (ap₂ (λ x q. part x q 64) e (sym p) ∙ ap (λ n. part (splice out place (part from start 64)) place n) (sym size) ∙ part-splice-same 0 out place (part from start 64) (omega (arith, size)) ∙ ap (λ q. part from q 64) s)
 
 -- values stored from the start on
-pub column-stored : (out out′ xs : List ℕ) (n : ℕ) → out′ ≡ splice out 0 (kept-words xs 0 n) → Kept (192 * n) out out′
-column-stored out out′ xs n e = kept-stored (192 * n) out out out′ 0 (kept-words xs 0 n) (kept-refl (192 * n) out) e (omega (arith, length-kept xs 0 n))
+pub column-stored : (out out′ xs : List ℕ) (n : ℕ) → out′ ≡ splice out 0 (ntt-words xs 0 n) → Unchanged (192 * n) out out′
+column-stored out out′ xs n e = unchanged-stored (192 * n) out out out′ 0 (ntt-words xs 0 n) (unchanged-refl (192 * n) out) e (omega (arith, length-ntt-words xs 0 n))
 
--- what is kept stays where its words do
-pub keeps-same : (S S′ : List ℕ) (at : ℕ) (xs : List ℕ) (from n : ℕ) → length S′ ≡ length S → ((o m : ℕ) → o + m ≤ 192 * n → part S′ (at + o) m ≡ part S (at + o) m) → Keeps S at xs from n → Keeps S′ at xs from n
-keeps-same S S′ at xs from n size same k = record {
-  kept = λ i m a b.
+-- an NTT form stays where its words do
+pub ntt-form-same : (S S′ : List ℕ) (at : ℕ) (xs : List ℕ) (from n : ℕ) → length S′ ≡ length S → ((o m : ℕ) → o + m ≤ 192 * n → part S′ (at + o) m ≡ part S (at + o) m) → NttForm S at xs from n → NttForm S′ at xs from n
+ntt-form-same S S′ at xs from n size same k = record {
+  ntt = λ i m a b.
       let there : at + 64 * i + 192 * m ≡ at + (64 * i + 192 * m) = omega arith in
-      ap (λ p. part S′ p 64) there ∙ same (64 * i + 192 * m) 64 (omega arith) ∙ ap (λ p. part S p 64) (sym there) ∙ k .kept i m a b;
+      ap (λ p. part S′ p 64) there ∙ same (64 * i + 192 * m) 64 (omega arith) ∙ ap (λ p. part S p 64) (sym there) ∙ k .ntt i m a b;
   small = k .small;
   within = omega (arith, k .within, size);
 }
@@ -97,7 +97,7 @@ module _ (v : Windows) where
     pub beside-next : Beside v S₀ S → Beside v S₀ S′
     beside-next b = record {
       products = λ i l. ap (λ x. part x (i * v .need + (v .need - 4096)) 4096) e ∙ by i (decLt i m) ∙ b .products i l;
-      kept = kept-stored (v .count * v .need) S₀ S S′ place new (b .kept) e (omega (arith, at, rows-within m (v .count) (v .need) h));
+      unchanged = unchanged-stored (v .count * v .need) S₀ S S′ place new (b .unchanged) e (omega (arith, at, rows-within m (v .count) (v .need) h));
     }
       where
         by : (i : ℕ) → Dec (i < m) → part (splice S place new) (i * v .need + (v .need - 4096)) 4096 ≡ part S (i * v .need + (v .need - 4096)) 4096
@@ -106,37 +106,37 @@ module _ (v : Windows) where
 
   -- nothing stored, and stored twice
   pub beside-refl : (S : List ℕ) → Beside v S S
-  beside-refl S = record { products = λ i l. refl; kept = kept-refl (v .count * v .need) S }
+  beside-refl S = record { products = λ i l. refl; unchanged = unchanged-refl (v .count * v .need) S }
 
   pub beside-trans : (S S′ S″ : List ℕ) → Beside v S S′ → Beside v S′ S″ → Beside v S S″
-  beside-trans S S′ S″ a b = record { products = λ i l. b .products i l ∙ a .products i l; kept = kept-trans (v .count * v .need) S S′ S″ (a .kept) (b .kept) }
+  beside-trans S S′ S″ a b = record { products = λ i l. b .products i l ∙ a .products i l; unchanged = unchanged-trans (v .count * v .need) S S′ S″ (a .unchanged) (b .unchanged) }
 
   -- one more transcript's alphas
-  pub alphas-next : (takes : ℕ → Bool) (R S S′ : List ℕ) (m place from : ℕ) → place ≡ m * v .need → from ≡ m * v .len + v .alpha → 192 * v .k ≤ v .need → S′ ≡ splice S place (kept-words R from (v .k)) → Keeps S′ place R from (v .k)
+  pub alphas-next : (takes : ℕ → Bool) (R S S′ : List ℕ) (m place from : ℕ) → place ≡ m * v .need → from ≡ m * v .len + v .alpha → 192 * v .k ≤ v .need → S′ ≡ splice S place (ntt-words R from (v .k)) → NttForm S′ place R from (v .k)
       → Alphas v takes R S m → Alphas v takes R S′ (m + 1)
   alphas-next takes R S S′ m place from p f small e k before i l t = by (decLt i m)
     where
-      by : Dec (i < m) → Keeps S′ (i * v .need) R (i * v .len + v .alpha) (v .k)
-      by (yes less) = keeps-before S (i * v .need) R (i * v .len + v .alpha) S′ place (kept-words R from (v .k)) (v .k) e (omega (arith, p, rows-within i m (v .need) less)) (before i less t)
+      by : Dec (i < m) → NttForm S′ (i * v .need) R (i * v .len + v .alpha) (v .k)
+      by (yes less) = ntt-form-before S (i * v .need) R (i * v .len + v .alpha) S′ place (ntt-words R from (v .k)) (v .k) e (omega (arith, p, rows-within i m (v .need) less)) (before i less t)
       by (no more) =
           let same : m ≡ i = omega arith in
-          subst (λ i. Keeps S′ (i * v .need) R (i * v .len + v .alpha) (v .k)) same (subst (λ q. Keeps S′ q R (m * v .len + v .alpha) (v .k)) p (subst (λ q. Keeps S′ place R q (v .k)) f k))
+          subst (λ i. NttForm S′ (i * v .need) R (i * v .len + v .alpha) (v .k)) same (subst (λ q. NttForm S′ q R (m * v .len + v .alpha) (v .k)) p (subst (λ q. NttForm S′ place R q (v .k)) f k))
 
   -- one that takes no part
   pub alphas-skip : (takes : ℕ → Bool) (R S : List ℕ) (m : ℕ) → takes m ≡ false → Alphas v takes R S m → Alphas v takes R S (m + 1)
   alphas-skip takes R S m no-part before i l t = before i (below takes m i no-part l t) t
 
   pub stored-none : (takes : ℕ → Bool) (S column : List ℕ) (at : ℕ) → Stored v takes S column at S 0
-  stored-none takes S column at = record { stored = λ i l. absurd (omega arith); others = λ i o m h d. refl; kept = kept-refl (v .count * v .need) S }
+  stored-none takes S column at = record { stored = λ i l. absurd (omega arith); others = λ i o m h d. refl; unchanged = unchanged-refl (v .count * v .need) S }
 
   -- one more window's element
-  module _ (takes : ℕ → Bool) (S₀ S S′ column : List ℕ) (at m start : ℕ) (new : List ℕ) (p : start ≡ m * v .need) (h : m < v .count) (e : S′ ≡ splice S (start + at) new) (made : new ≡ words (kept-dot S start column 0 (v .k))) (g : Storable v takes S₀ column at)
+  module _ (takes : ℕ → Bool) (S₀ S S′ column : List ℕ) (at m start : ℕ) (new : List ℕ) (p : start ≡ m * v .need) (h : m < v .count) (e : S′ ≡ splice S (start + at) new) (made : new ≡ words (ntt-dot S start column 0 (v .k))) (g : Storable v takes S₀ column at)
       (before : Stored v takes S₀ column at S m) where
     size : length new ≡ 64
-    size = ap length made ∙ length-words (kept-dot S start column 0 (v .k))
+    size = ap length made ∙ length-words (ntt-dot S start column 0 (v .k))
 
     -- what is read is as it was
-    same-dot : kept-dot S start column 0 (v .k) ≡ kept-dot S₀ (m * v .need) column 0 (v .k)
+    same-dot : ntt-dot S start column 0 (v .k) ≡ ntt-dot S₀ (m * v .need) column 0 (v .k)
     same-dot = dot-same S S₀ start (m * v .need) column column 0 0 (v .k) one (λ o l. refl)
       where
         one : (o : ℕ) → o < 192 * v .k → getD S (start + o) 0 ≡ getD S₀ (m * v .need + o) 0
@@ -147,7 +147,7 @@ module _ (v : Windows) where
             ap (λ q. getD S (q + o) 0) p ∙ sym (getD-part 0 S (m * v .need) (192 * v .k) o l) ∙ ap (λ w. getD w o 0) words-same ∙ getD-part 0 S₀ (m * v .need) (192 * v .k) o l
 
     within : start + at + 64 ≤ length S
-    within = omega (arith, p, g .inside, g .room, before .kept .size, rows-within m (v .count) (v .need) h)
+    within = omega (arith, p, g .inside, g .room, before .unchanged .size, rows-within m (v .count) (v .need) h)
 
     others-next : (i o n : ℕ) → o + n ≤ v .need → (o + n ≤ at) ⊎ (at + 64 ≤ o) → Dec (i < m) → Dec (m < i) → part (splice S (start + at) new) (i * v .need + o) n ≡ part S (i * v .need + o) n
     others-next i o n l d (yes less) _ = part-splice-before 0 S (start + at) new (i * v .need + o) n (omega (arith, p, rows-within i m (v .need) less))
@@ -159,22 +159,22 @@ module _ (v : Windows) where
     stored-next = record {
       stored = λ i l t. by i l t (decLt i m);
       others = λ i o n l d. ap (λ x. part x (i * v .need + o) n) e ∙ others-next i o n l d (decLt i m) (decLt m i) ∙ before .others i o n l d;
-      kept = kept-stored (v .count * v .need) S₀ S S′ (start + at) new (before .kept) e (omega (arith, p, size, g .inside, rows-within m (v .count) (v .need) h));
+      unchanged = unchanged-stored (v .count * v .need) S₀ S S′ (start + at) new (before .unchanged) e (omega (arith, p, size, g .inside, rows-within m (v .count) (v .need) h));
     }
       where
-        by : (i : ℕ) → i < m + 1 → takes i ≡ true → Dec (i < m) → part S′ (i * v .need + at) 64 ≡ words (kept-dot S₀ (i * v .need) column 0 (v .k))
+        by : (i : ℕ) → i < m + 1 → takes i ≡ true → Dec (i < m) → part S′ (i * v .need + at) 64 ≡ words (ntt-dot S₀ (i * v .need) column 0 (v .k))
         by i l t (yes less) =
             ap (λ x. part x (i * v .need + at) 64) e
             ∙ part-splice-before 0 S (start + at) new (i * v .need + at) 64 (omega (arith, p, g .inside, rows-within i m (v .need) less))
             ∙ before .stored i less t
         by i l t (no more) =
             let k : m ≡ i = omega arith in
-            subst (λ i. part S′ (i * v .need + at) 64 ≡ words (kept-dot S₀ (i * v .need) column 0 (v .k))) k
+            subst (λ i. part S′ (i * v .need + at) 64 ≡ words (ntt-dot S₀ (i * v .need) column 0 (v .k))) k
             (ap₂ (λ x q. part x (q + at) 64) e (sym p) ∙ ap (λ n. part (splice S (start + at) new) (start + at) n) (sym size) ∙ part-splice-same 0 S (start + at) new (omega (arith, size, within)) ∙ made ∙ ap words same-dot)
 
   -- the next window, left out
   pub stored-skip : (takes : ℕ → Bool) (S₀ S column : List ℕ) (at m : ℕ) → takes m ≡ false → Stored v takes S₀ column at S m → Stored v takes S₀ column at S (m + 1)
-  stored-skip takes S₀ S column at m no-part before = record { stored = λ i l t. before .stored i (below takes m i no-part l t) t; others = before .others; kept = before .kept }
+  stored-skip takes S₀ S column at m no-part before = record { stored = λ i l t. before .stored i (below takes m i no-part l t) t; others = before .others; unchanged = before .unchanged }
 
   -- none yet
   pub weighed-none : (takes : ℕ → Bool) (J : List ℕ) (place : ℕ) (R S : List ℕ) → Weighed v takes J place R S 0
@@ -188,12 +188,12 @@ module _ (v : Windows) where
 
     pub alphas-stay : Alphas v takes R S (v .count) → Alphas v takes R S′ (v .count)
     alphas-stay a i l t =
-        keeps-same S S′ (i * v .need) R (i * v .len + v .alpha) (v .k) (done .kept .size) (λ o m b. done .others i o m (omega (arith, fit .values, fit .elements)) (inl (omega (arith, fit .values)))) (a i l t)
+        ntt-form-same S S′ (i * v .need) R (i * v .len + v .alpha) (v .k) (done .unchanged .size) (λ o m b. done .others i o m (omega (arith, fit .values, fit .elements)) (inl (omega (arith, fit .values)))) (a i l t)
 
     pub beside-stay : (S₀ : List ℕ) → Beside v S₀ S → Beside v S₀ S′
     beside-stay S₀ b = beside-trans S₀ S S′ b record {
       products = λ i l. done .others i (v .need - 4096) 4096 (omega (arith, fit .elements)) (inr (omega (arith, fit .elements, h)));
-      kept = done .kept;
+      unchanged = done .unchanged;
     }
 
     pub weighed-next : Alphas v takes R S (v .count) → Weighed v takes J place R S c → Weighed v takes J place R S′ (c + 1)
@@ -208,8 +208,8 @@ module _ (v : Windows) where
         there : i * v .need + v .phi + 64 * c ≡ i * v .need + at
         there = omega arith
 
-        product : kept-dot S (i * v .need) column 0 (v .k) ≡ alpha-element v J place R i c
+        product : ntt-dot S (i * v .need) column 0 (v .k) ≡ alpha-element v J place R i c
         product =
-            kept-dot-is S (i * v .need) R (i * v .len + v .alpha) column 0 (col .gathered) 0 (v .k) (fit .few) (a i l t) (col .keeps)
+            ntt-dot-is S (i * v .need) R (i * v .len + v .alpha) column 0 (col .gathered) 0 (v .k) (fit .few) (a i l t) (col .form)
             ∙ dot-ext RqOps (v .k) (run R (i * v .len + v .alpha) 64) (run R (i * v .len + v .alpha) 64) (run (col .gathered) 0 64) (run J (place + 64 * c) (64 * v .width)) (λ m b. refl)
             (λ m b. ap (λ q. element (part (col .gathered) q 64)) (zero-add (64 * m)) ∙ ap element (col .same m b))

@@ -11,8 +11,8 @@ use Rattle.definitions.specs.Rq.{Element}
 use Rattle.definitions.specs.Ring.{words}
 use Rattle.inner_product.specs.Run.{run}
 use Rattle.protocol.specs.Formulas.{dot, flat}
-use Rattle.protocol.specs.Kept.{Kept}
-use Rattle.kept_vectors.specs.Keeps.{Keeps, AllValues, kept-dot}
+use Rattle.protocol.specs.Unchanged.{Unchanged}
+use Rattle.kept_vectors.specs.NttForm.{NttForm, AllValues, ntt-dot}
 use Rattle.workspace.specs.Holds.{Holds}
 use Rattle.many_alpha.specs.declared.Windows.{Windows}
 
@@ -20,11 +20,11 @@ use Rattle.many_alpha.specs.declared.Windows.{Windows}
 abbrev pub Gathered : (out from : List ℕ) → (at step n : ℕ) → Type 0
 Gathered out from at step n = (m : ℕ) → m < n → part out (64 * m) 64 ≡ part from (at + step * m) 64
 
--- a slice keeps those elements
+-- a slice holds those elements in NTT form
 pub record Column (slice from : List ℕ) (at step n : ℕ) : Type 0 where
   pub gathered : List ℕ
   pub same : Gathered gathered from at step n
-  pub keeps : Keeps slice 0 gathered 0 n
+  pub form : NttForm slice 0 gathered 0 n
 
 -- Σ_k alpha_k·φ_k of elements alpha one after the other and elements φ a step apart
 abbrev pub weighed-by : List ℕ → (alpha : ℕ) → List ℕ → (at step n : ℕ) → Element
@@ -54,7 +54,7 @@ module _ (v : Windows) where
   -- the rows' products, and what lies beyond the windows, are as they were
   pub record Beside (S S′ : List ℕ) : Type 0 where
     pub products : (i : ℕ) → i < v .count → part S′ (window-at i + (v .need - 4096)) 4096 ≡ part S (window-at i + (v .need - 4096)) 4096
-    pub kept : Kept (v .count * v .need) S S′
+    pub unchanged : Unchanged (v .count * v .need) S S′
 
   -- element c of the φ_k weighed by the alphas of transcript i
   abbrev pub alpha-element : (J : List ℕ) → (at : ℕ) → List ℕ → (i c : ℕ) → Element
@@ -62,9 +62,9 @@ module _ (v : Windows) where
 
 -- of the transcripts that take part
 module _ (v : Windows) (takes : ℕ → Bool) where
-  -- the alphas of those of the first n are kept, each at its window's start
+  -- the alphas of those of the first n are in NTT form, each at its window's start
   abbrev pub Alphas : (R S : List ℕ) → ℕ → Type 0
-  Alphas R S n = (i : ℕ) → i < n → takes i ≡ true → Keeps S (window-at v i) R (alpha-at v i) (v .k)
+  Alphas R S n = (i : ℕ) → i < n → takes i ≡ true → NttForm S (window-at v i) R (alpha-at v i) (v .k)
 
   -- values as small as those of alphas, and a place behind them in every window
   pub record Storable (S column : List ℕ) (at : ℕ) : Type 0 where
@@ -78,9 +78,9 @@ module _ (v : Windows) (takes : ℕ → Bool) where
 
   -- an element is stored in their windows at one place: the inner product of alpha with the column; beside it each window is as it was
   pub record Stored (S column : List ℕ) (at : ℕ) (S′ : List ℕ) (n : ℕ) : Type 0 where
-    pub stored : (i : ℕ) → i < n → takes i ≡ true → part S′ (window-at v i + at) 64 ≡ words (kept-dot S (window-at v i) column 0 (v .k))
+    pub stored : (i : ℕ) → i < n → takes i ≡ true → part S′ (window-at v i + at) 64 ≡ words (ntt-dot S (window-at v i) column 0 (v .k))
     pub others : (i o m : ℕ) → o + m ≤ v .need → (o + m ≤ at) ⊎ (at + 64 ≤ o) → part S′ (window-at v i + o) m ≡ part S (window-at v i + o) m
-    pub kept : Kept (v .count * v .need) S S′
+    pub unchanged : Unchanged (v .count * v .need) S S′
 
   -- the first n elements of the φ_k weighed by alpha stand in each of their windows
   abbrev pub Weighed : (J : List ℕ) → (at : ℕ) → (R S : List ℕ) → ℕ → Type 0

@@ -1,5 +1,5 @@
 // Σ_k alpha_k·φ_k of the transcripts of a call that take part (document 02, Item 11): each φ_k of the job is transformed once, and taken with the alphas of
-// all of them, which are kept transformed in their windows of the scratch.
+// all of them, which are in NTT form in their windows of the scratch.
 use kept_vectors;
 use ntt::table;
 use words;
@@ -8,7 +8,7 @@ ghost use mathlib.Core.Bool.{false};
 ghost use Prim.Native.Nat.{_*_, _≤_};
 ghost use lib.ListN.{length, getD};
 ghost use Rattle.inner_product.specs.Run.{Run};
-ghost use Rattle.protocol.specs.Kept.{Kept};
+ghost use Rattle.protocol.specs.Unchanged.{Unchanged};
 ghost use Rattle.ntt.specs.Roots.{twiddleTable};
 ghost use Rattle.aggregate_psi.specs.Grid.{Grid};
 ghost use Rattle.many_alpha.specs.Alpha.{Gathered, Column, Fitting, Alphas, Storable, Stored, Beside, Weighed};
@@ -32,7 +32,7 @@ pub struct Windows {
 pub fn gather(from: &[u32], at: usize, step: usize, n: usize, out: &mut [u32])
     requires { ⌜ Run (now from) at step n × (64 * n ≤ length (now out)) ⌝ }
     ensures { λ _. ⌜ Gathered (now (out .exit)) (now (from .entry)) at step n ⌝ }
-    ensures { λ _. ⌜ Kept (64 * n) (now (out .entry)) (now (out .exit)) ⌝ }
+    ensures { λ _. ⌜ Unchanged (64 * n) (now (out .entry)) (now (out .exit)) ⌝ }
 {
     let mut start = at;
     let mut place = 0;
@@ -46,7 +46,13 @@ pub fn gather(from: &[u32], at: usize, step: usize, n: usize, out: &mut [u32])
 }
 
 // The alphas of every transcript that takes part, transformed into its window.
-pub fn keep_alphas(randomness: &[u32], v: Windows, takes: [bool; 8], w: &[u32], scratch: &mut [u32])
+pub fn alphas_to_ntt_form(
+    randomness: &[u32],
+    v: Windows,
+    takes: [bool; 8],
+    w: &[u32],
+    scratch: &mut [u32],
+)
     requires { ⌜ (now w ≡ twiddleTable) × Fitting v (length (now randomness)) (length (now scratch)) ⌝ }
     ensures { λ _. ⌜ Alphas v (λ m. getD takes m false) (now (randomness .entry)) (now (scratch .exit)) (v .count) ⌝ }
     ensures { λ _. ⌜ Beside v (now (scratch .entry)) (now (scratch .exit)) ⌝ }
@@ -56,7 +62,7 @@ pub fn keep_alphas(randomness: &[u32], v: Windows, takes: [bool; 8], w: &[u32], 
     let mut m = 0;
     while m < v.count {
         if takes[m] {
-            kept_vectors::keep(randomness, from, v.k, w, scratch, start);
+            kept_vectors::to_ntt_form(randomness, from, v.k, w, scratch, start);
         }
         from += v.len;
         start += v.need;
@@ -65,17 +71,24 @@ pub fn keep_alphas(randomness: &[u32], v: Windows, takes: [bool; 8], w: &[u32], 
 }
 
 // n elements a step apart transformed, one after the other.
-pub fn keep_column(from: &[u32], at: usize, step: usize, n: usize, w: &[u32], out: &mut [u32])
+pub fn column_to_ntt_form(
+    from: &[u32],
+    at: usize,
+    step: usize,
+    n: usize,
+    w: &[u32],
+    out: &mut [u32],
+)
     requires { ⌜ (now w ≡ twiddleTable) × Run (now from) at step n × (n ≤ 64) × (192 * n ≤ length (now out)) ⌝ }
     ensures { λ _. ⌜ Column (now (out .exit)) (now (from .entry)) at step n ⌝ }
-    ensures { λ _. ⌜ Kept (192 * n) (now (out .entry)) (now (out .exit)) ⌝ }
+    ensures { λ _. ⌜ Unchanged (192 * n) (now (out .entry)) (now (out .exit)) ⌝ }
 {
     let mut gathered = [0u32; 4096];
     gather(from, at, step, n, &mut gathered);
-    kept_vectors::keep(&gathered, 0, n, w, out, 0);
+    kept_vectors::to_ntt_form(&gathered, 0, n, w, out, 0);
 }
 
-// The inner products of their alphas with a kept column, each stored at one place of its window.
+// The inner products of their alphas with a column in NTT form, each stored at one place of its window.
 pub fn store_element(
     column: &[u32],
     v: Windows,
@@ -114,10 +127,10 @@ pub fn weigh(
 {
     let w = table::twiddles();
     let mut column = [0u32; 12288];
-    keep_alphas(randomness, v, takes, &w, scratch);
+    alphas_to_ntt_form(randomness, v, takes, &w, scratch);
     let mut c = 0;
     while c < v.width {
-        keep_column(job, at + 64 * c, 64 * v.width, v.k, &w, &mut column);
+        column_to_ntt_form(job, at + 64 * c, 64 * v.width, v.k, &w, &mut column);
         store_element(&column, v, takes, v.phi + 64 * c, &w, scratch);
         c += 1;
     }

@@ -14,7 +14,7 @@ ghost use Rattle.definitions.specs.Answer.{ofChecked};
 ghost use Rattle.protocol.specs.Parameters.{parameters};
 ghost use Rattle.protocol.specs.Layout.{scratch-need};
 ghost use Rattle.workspace.specs.Ready.{Ready, Drawn};
-ghost use Rattle.workspace.specs.Holds.{Holds, Kept};
+ghost use Rattle.workspace.specs.Holds.{Holds, Unchanged};
 ghost use Rattle.workspace.specs.Aggregated.{φ″-words, φ-words};
 ghost use Rattle.verifier_common.specs.Work.{Sent};
 ghost use Rattle.verifier_relations.specs.Held.{Challenged};
@@ -29,11 +29,11 @@ pub fn add_beta(
     scratch: &mut [u32],
     from: usize,
     width: usize,
-    number: usize,
+    count: usize,
     to: usize,
 )
-    requires { ⌜ Addable (now weights) beta (now scratch) from width number to ⌝ }
-    ensures { λ _. ⌜ now (scratch .exit) ≡ splice (now (scratch .entry)) to (added-words (now (scratch .entry)) to (now (weights .entry)) beta from width number) ⌝ }
+    requires { ⌜ Addable (now weights) beta (now scratch) from width count to ⌝ }
+    ensures { λ _. ⌜ now (scratch .exit) ≡ splice (now (scratch .entry)) to (added-words (now (scratch .entry)) to (now (weights .entry)) beta from width count) ⌝ }
 {
     let mut c = 0;
     while c < width {
@@ -44,7 +44,7 @@ pub fn add_beta(
             scratch,
             from + 64 * c,
             64 * width,
-            number,
+            count,
         );
         let sum = words::load(scratch, to + 64 * c).add(e);
         words::store(scratch, to + 64 * c, sum);
@@ -56,29 +56,29 @@ pub fn add_beta(
 pub fn phi(
     job: &[u32],
     randomness: &[u32],
-    p: EnvironmentParameters,
-    q: Regions,
+    params: EnvironmentParameters,
+    regions: Regions,
     window: &mut [u32],
     weighed: bool,
 )
-    requires { ⌜ Ready (now job) p q (now window) × Drawn 5 (now job) (now randomness) × Holds (now window) (q .phi2) (φ″-words (now job) (now randomness)) ⌝ }
-    requires { ⌜ Alpha-if weighed (now job) (now randomness) (q .phi) (now window) ⌝ }
-    ensures { λ _. ⌜ now (window .exit) ≡ splice (now (window .entry)) (q .phi) (φ-words (now (job .entry)) (now (randomness .entry))) ⌝ }
+    requires { ⌜ Ready (now job) params regions (now window) × Drawn 5 (now job) (now randomness) × Holds (now window) (regions .phi2) (φ″-words (now job) (now randomness)) ⌝ }
+    requires { ⌜ Alpha-if weighed (now job) (now randomness) (regions .phi) (now window) ⌝ }
+    ensures { λ _. ⌜ now (window .exit) ≡ splice (now (window .entry)) (regions .phi) (φ-words (now (job .entry)) (now (randomness .entry))) ⌝ }
 {
     if weighed {
-        let beta = offsets::of_randomness(p, names::BETA);
-        let width = p.multiplicity * p.rank;
+        let beta = offsets::of_randomness(params, names::BETA);
+        let width = params.multiplicity * params.rank;
         add_beta(
             randomness,
             beta,
             window,
-            q.phi2,
+            regions.phi2,
             width,
-            p.const_agg_length,
-            q.phi,
+            params.const_agg_length,
+            regions.phi,
         );
     } else {
-        workspace::phi(job, randomness, p, q, window);
+        workspace::phi(job, randomness, params, regions, window);
     }
 }
 
@@ -87,17 +87,17 @@ pub fn check_aggregated(
     job: &[u32],
     randomness: &[u32],
     transcript: &[u32],
-    p: EnvironmentParameters,
-    q: Regions,
+    params: EnvironmentParameters,
+    regions: Regions,
     window: &mut [u32],
     weighed: bool,
 ) -> Checked
-    requires { ⌜ Sent (now job) (now randomness) (now transcript) p × Ready (now job) p q (now window) × Challenged (now job) (now randomness) q (now window) ⌝ }
-    requires { ⌜ Alpha-if weighed (now job) (now randomness) (q .phi) (now window) ⌝ }
+    requires { ⌜ Sent (now job) (now randomness) (now transcript) params × Ready (now job) params regions (now window) × Challenged (now job) (now randomness) regions (now window) ⌝ }
+    requires { ⌜ Alpha-if weighed (now job) (now randomness) (regions .phi) (now window) ⌝ }
     ensures { λ v. ⌜ ofChecked v ≡ aggregated (now (job .entry)) (now (randomness .entry)) (now (transcript .entry)) ⌝ }
-    ensures { λ v. ⌜ Kept (scratch-need (parameters (now (job .entry)))) (now (window .entry)) (now (window .exit)) ⌝ }
+    ensures { λ v. ⌜ Unchanged (scratch-need (parameters (now (job .entry)))) (now (window .entry)) (now (window .exit)) ⌝ }
 {
-    workspace::double_prime(job, randomness, p, q, window);
-    phi(job, randomness, p, q, window, weighed);
-    relations::check_phi_and_relation(job, randomness, transcript, p, q, window)
+    workspace::double_prime(job, randomness, params, regions, window);
+    phi(job, randomness, params, regions, window, weighed);
+    relations::check_phi_and_relation(job, randomness, transcript, params, regions, window)
 }

@@ -76,29 +76,29 @@ u1-test J X k = require (same (message (parameters J) X .u₁ k) (of-B J X k ⊕
 abbrev pub u2-test : (J X : List ℕ) → ℕ → Answer
 u2-test J X k = require (same (message (parameters J) X .u₂ k) (of-D J X k)) (failed 29 [])
 
-module _ (J X : List ℕ) (p : EnvironmentParameters) (s : Posed J X p) where
+module _ (J X : List ℕ) (params : EnvironmentParameters) (s : Posed J X params) where
   -- all rows' tests are the check
-  pub u1-is : first (p .«kappa_1») (u1-test J X) ≡ u1-differs J X
+  pub u1-is : first (params .«kappa_1») (u1-test J X) ≡ u1-differs J X
   unfolding check-28 u₁-of
   u1-is = ap (λ Q. first (Q .κ₁) (u1-test J X)) (s .same)
 
-  pub u2-is : first (p .«kappa_2») (u2-test J X) ≡ u2-differs J X
+  pub u2-is : first (params .«kappa_2») (u2-test J X) ≡ u2-differs J X
   unfolding check-29 u₂-of
   u2-is = ap (λ Q. first (Q .κ₂) (u2-test J X)) (s .same)
 
   -- the rows are few
-  pub rows-few : (p .kappa ≤ 16) × (p .«kappa_1» ≤ 16) × (p .«kappa_2» ≤ 16)
+  pub rows-few : (params .kappa ≤ 16) × (params .«kappa_1» ≤ 16) × (params .«kappa_2» ≤ 16)
   rows-few =
       let w = reckoned s .within in
       (w .κ .1, w .κ₁ .1, w .κ₂ .1)
 
   -- the length needed, by the parameters that the code holds
-  pub need-within : (W : List ℕ) → scratch-need (parameters J) ≤ length W → scratch-need (parametersOf p) ≤ length W
+  pub need-within : (W : List ℕ) → scratch-need (parameters J) ≤ length W → scratch-need (parametersOf params) ≤ length W
   need-within W h = subst (λ Q. scratch-need Q ≤ length W) (sym (s .same)) h
 
   -- a row's product, read
   module _ (W : List ℕ) (done : Rows-done J X W (row-count (parameters J))) where
-    read : (ρ : ℕ) (l : List ℕ) → ρ < row-count (parametersOf p) → l ≡ part W (products-at (parametersOf p) + 64 * ρ) 64 → l ≡ words (row-product J X ρ)
+    read : (ρ : ℕ) (l : List ℕ) → ρ < row-count (parametersOf params) → l ≡ part W (products-at (parametersOf params) + 64 * ρ) 64 → l ≡ words (row-product J X ρ)
     unfolding Rows-done
     read ρ l h e =
         e
@@ -107,53 +107,54 @@ module _ (J X : List ℕ) (p : EnvironmentParameters) (s : Posed J X p) where
         ∙ element-words (drop (products-at (parameters J)) W) _ (row-count (parameters J)) ρ (row-product J X) done (subst (λ Q. ρ < row-count Q) (s .same) h)
 
     -- of A with z, as check 24 takes it
-    pub read-a : (k : ℕ) (l : List ℕ) → k < p .kappa → l ≡ part W (products-at (parametersOf p) + 64 * k) 64
-        → l ≡ words (dot (p .rank) (run J (job-at (parametersOf p) 6 + 64 * (k * p .rank)) 64) (run X (transcript-at (parametersOf p) 4) 64))
+    pub read-a : (k : ℕ) (l : List ℕ) → k < params .kappa → l ≡ part W (products-at (parametersOf params) + 64 * k) 64
+        → l ≡ words (dot (params .rank) (run J (job-at (parametersOf params) 6 + 64 * (k * params .rank)) 64) (run X (transcript-at (parametersOf params) 4) 64))
     read-a k l h e =
-        read k l (omega arith) e ∙ ap words (sym (a-row J X p s k h)) ∙ sym (a-is J X p s (job-at (parametersOf p) 6) (transcript-at (parametersOf p) 4) k _ refl refl refl)
+        read k l (omega arith) e ∙ ap words (sym (a-row J X params s k h)) ∙ sym (a-is J X params s (job-at (parametersOf params) 6) (transcript-at (parametersOf params) 4) k _ refl refl refl)
 
     -- of B with the digits of t
-    read-b : (k : ℕ) (l : List ℕ) → k < p .«kappa_1» → l ≡ part W (products-at (parametersOf p) + 64 * (p .kappa + k)) 64 → l ≡ words (of-B J X k)
+    read-b : (k : ℕ) (l : List ℕ) → k < params .«kappa_1» → l ≡ part W (products-at (parametersOf params) + 64 * (params .kappa + k)) 64 → l ≡ words (of-B J X k)
     read-b k l h e =
-        let back : p .kappa + k - p .kappa ≡ k = omega arith in
-        read (p .kappa + k) l (omega arith) e ∙ ap words (sym (b-row J X p s (p .kappa + k) (omega arith) (omega arith)) ∙ ap (of-B J X) back)
+        let back : params .kappa + k - params .kappa ≡ k = omega arith in
+        read (params .kappa + k) l (omega arith) e ∙ ap words (sym (b-row J X params s (params .kappa + k) (omega arith) (omega arith)) ∙ ap (of-B J X) back)
 
     -- of C with the digits of g
-    read-c : (k : ℕ) (l : List ℕ) → k < p .«kappa_1» → l ≡ part W (products-at (parametersOf p) + 64 * (p .kappa + p .«kappa_1» + k)) 64 → l ≡ words (of-C J X k)
+    read-c : (k : ℕ) (l : List ℕ) → k < params .«kappa_1» → l ≡ part W (products-at (parametersOf params) + 64 * (params .kappa + params .«kappa_1» + k)) 64 → l ≡ words (of-C J X k)
     read-c k l h e =
-        let back : p .kappa + p .«kappa_1» + k - (p .kappa + p .«kappa_1») ≡ k = omega arith in
-        read (p .kappa + p .«kappa_1» + k) l (omega arith) e ∙ ap words (sym (c-row J X p s (p .kappa + p .«kappa_1» + k) (omega arith) (omega arith)) ∙ ap (of-C J X) back)
+        let back : params .kappa + params .«kappa_1» + k - (params .kappa + params .«kappa_1») ≡ k = omega arith in
+        read (params .kappa + params .«kappa_1» + k) l (omega arith) e ∙ ap words (sym (c-row J X params s (params .kappa + params .«kappa_1» + k) (omega arith) (omega arith)) ∙ ap (of-C J X) back)
 
     -- of D with the digits of h
-    read-d : (k : ℕ) (l : List ℕ) → k < p .«kappa_2» → l ≡ part W (products-at (parametersOf p) + 64 * (p .kappa + p .«kappa_1» + p .«kappa_1» + k)) 64 → l ≡ words (of-D J X k)
+    read-d : (k : ℕ) (l : List ℕ) → k < params .«kappa_2» → l ≡ part W (products-at (parametersOf params) + 64 * (params .kappa + params .«kappa_1» + params .«kappa_1» + k)) 64
+        → l ≡ words (of-D J X k)
     read-d k l h e =
-        let back : p .kappa + p .«kappa_1» + p .«kappa_1» + k - (p .kappa + p .«kappa_1» + p .«kappa_1») ≡ k = omega arith in
-        read (p .kappa + p .«kappa_1» + p .«kappa_1» + k) l (omega arith) e
-        ∙ ap words (sym (d-row J X p s (p .kappa + p .«kappa_1» + p .«kappa_1» + k) (omega arith)) ∙ ap (of-D J X) back)
+        let back : params .kappa + params .«kappa_1» + params .«kappa_1» + k - (params .kappa + params .«kappa_1» + params .«kappa_1») ≡ k = omega arith in
+        read (params .kappa + params .«kappa_1» + params .«kappa_1» + k) l (omega arith) e
+        ∙ ap words (sym (d-row J X params s (params .kappa + params .«kappa_1» + params .«kappa_1» + k) (omega arith)) ∙ ap (of-D J X) back)
 
     -- check 28 for row k by the boolean's value, of the words that are compared
-    pub u1-tested : (u-at k : ℕ) (sent b c sum : List ℕ) (t : Bool) → k < p .«kappa_1» → u-at ≡ transcript-at (parametersOf p) 0
+    pub u1-tested : (u-at k : ℕ) (sent b c sum : List ℕ) (t : Bool) → k < params .«kappa_1» → u-at ≡ transcript-at (parametersOf params) 0
         → sent ≡ part X (u-at + 64 * k) 64
-        → b ≡ part W (products-at (parametersOf p) + 64 * (p .kappa + k)) 64
-        → c ≡ part W (products-at (parametersOf p) + 64 * (p .kappa + p .«kappa_1» + k)) 64
+        → b ≡ part W (products-at (parametersOf params) + 64 * (params .kappa + k)) 64
+        → c ≡ part W (products-at (parametersOf params) + 64 * (params .kappa + params .«kappa_1» + k)) 64
         → sum ≡ radd b c → t ≡ equal sent sum → u1-test J X k ≡ cond t fine (failed 28 [])
     u1-tested u-at k sent b c sum t h eu es eb ec e v =
         let l : sent ≡ words (message (parameters J) X .u₁ k) =
         es
-        ∙ sent-words X u-at (p .«kappa_1») k (u₁-within J X p s u-at eu) (u₁-canonical J X p s u-at eu) h
+        ∙ sent-words X u-at (params .«kappa_1») k (u₁-within J X params s u-at eu) (u₁-canonical J X params s u-at eu) h
         ∙ ap (λ a. words (run X a 64 k)) (eu ∙ ap (λ Q. transcript-at Q 0) (s .same)) in
         let r : sum ≡ words (of-B J X k ⊕ of-C J X k) =
         words-of-sum sum b c (of-B J X k) (of-C J X k) e (stands-for b (of-B J X k) (read-b k b h eb)) (stands-for c (of-C J X k) (read-c k c h ec)) in
         require-equal (words (message (parameters J) X .u₁ k)) (words (of-B J X k ⊕ of-C J X k)) (failed 28 []) t (v ∙ ap₂ equal l r)
 
     -- check 29 for row k
-    pub u2-tested : (u-at k : ℕ) (sent d : List ℕ) (t : Bool) → k < p .«kappa_2» → u-at ≡ transcript-at (parametersOf p) 3
+    pub u2-tested : (u-at k : ℕ) (sent d : List ℕ) (t : Bool) → k < params .«kappa_2» → u-at ≡ transcript-at (parametersOf params) 3
         → sent ≡ part X (u-at + 64 * k) 64
-        → d ≡ part W (products-at (parametersOf p) + 64 * (p .kappa + p .«kappa_1» + p .«kappa_1» + k)) 64
+        → d ≡ part W (products-at (parametersOf params) + 64 * (params .kappa + params .«kappa_1» + params .«kappa_1» + k)) 64
         → t ≡ equal sent d → u2-test J X k ≡ cond t fine (failed 29 [])
     u2-tested u-at k sent d t h eu es ed v =
         let l : sent ≡ words (message (parameters J) X .u₂ k) =
         es
-        ∙ sent-words X u-at (p .«kappa_2») k (u₂-within J X p s u-at eu) (u₂-canonical J X p s u-at eu) h
+        ∙ sent-words X u-at (params .«kappa_2») k (u₂-within J X params s u-at eu) (u₂-canonical J X params s u-at eu) h
         ∙ ap (λ a. words (run X a 64 k)) (eu ∙ ap (λ Q. transcript-at Q 3) (s .same)) in
         require-equal (words (message (parameters J) X .u₂ k)) (words (of-D J X k)) (failed 29 []) t (v ∙ ap₂ equal l (read-d k d h ed))

@@ -26,11 +26,11 @@ ghost use Rattle.verifier_common.specs.Answers.{u1-differs, u2-differs};
 ghost use Rattle.verifier_relations.specs.Weighed.{az-of, challenges-in};
 
 // The product of a row.
-fn product(window: &[u32], p: EnvironmentParameters, row: usize) -> Rq
-    requires { ⌜ Sized (parametersOf p) × (row < 64) × (scratch-need (parametersOf p) ≤ length (now window)) ⌝ }
-    ensures { λ r. ⌜ r .coeffs ≡ part (now (window .entry)) (products-at (parametersOf p) + 64 * row) 64 ⌝ }
+fn product(window: &[u32], params: EnvironmentParameters, row: usize) -> Rq
+    requires { ⌜ Sized (parametersOf params) × (row < 64) × (scratch-need (parametersOf params) ≤ length (now window)) ⌝ }
+    ensures { λ r. ⌜ r .coeffs ≡ part (now (window .entry)) (products-at (parametersOf params) + 64 * row) 64 ⌝ }
 {
-    let at = buffers::scratch_length(p) - 4096;
+    let at = buffers::scratch_length(params) - 4096;
     words::load(window, at + 64 * row)
 }
 
@@ -38,27 +38,27 @@ fn product(window: &[u32], p: EnvironmentParameters, row: usize) -> Rq
 pub fn check_az(
     job: &[u32],
     transcript: &[u32],
-    p: EnvironmentParameters,
-    q: Regions,
+    params: EnvironmentParameters,
+    regions: Regions,
     window: &[u32],
 ) -> Checked
-    requires { ⌜ Posed (now job) (now transcript) p × Ready (now job) p q (now window) ⌝ }
+    requires { ⌜ Posed (now job) (now transcript) params × Ready (now job) params regions (now window) ⌝ }
     requires { ⌜ Rows-done (now job) (now transcript) (now window) (row-count (parameters (now job))) ⌝ }
-    ensures { λ v. ⌜ ofChecked v ≡ az-of (now (job .entry)) (now (transcript .entry)) (challenges-in (now (window .entry)) q) ⌝ }
+    ensures { λ v. ⌜ ofChecked v ≡ az-of (now (job .entry)) (now (transcript .entry)) (challenges-in (now (window .entry)) regions) ⌝ }
 {
-    let t_at = offsets::of_transcript(p, names::T);
-    let kappa = p.kappa;
+    let t_at = offsets::of_transcript(params, names::T);
+    let kappa = params.kappa;
     let mut k = 0;
     while k < kappa {
-        let left = product(window, p, k);
+        let left = product(window, params, k);
         let right = rq_matrix::column_sum(
             transcript,
             t_at,
             kappa,
             k,
             window,
-            q.challenges,
-            p.multiplicity,
+            regions.challenges,
+            params.multiplicity,
         );
         if !equal::same(left, right) {
             return Checked::Failed(FailedCheck::Az);
@@ -72,22 +72,22 @@ pub fn check_az(
 pub fn check_u1(
     job: &[u32],
     transcript: &[u32],
-    p: EnvironmentParameters,
+    params: EnvironmentParameters,
     window: &[u32],
 ) -> Checked
-    requires { ⌜ Posed (now job) (now transcript) p × (scratch-need (parameters (now job)) ≤ length (now window)) ⌝ }
+    requires { ⌜ Posed (now job) (now transcript) params × (scratch-need (parameters (now job)) ≤ length (now window)) ⌝ }
     requires { ⌜ Rows-done (now job) (now transcript) (now window) (row-count (parameters (now job))) ⌝ }
     ensures { λ v. ⌜ ofChecked v ≡ u1-differs (now (job .entry)) (now (transcript .entry)) ⌝ }
 {
-    let u_at = offsets::of_transcript(p, names::U1);
-    let rows = p.kappa_1;
-    let b = p.kappa;
+    let u_at = offsets::of_transcript(params, names::U1);
+    let rows = params.kappa_1;
+    let b = params.kappa;
     let c = b + rows;
     let mut k = 0;
     while k < rows {
         let sent = words::load(transcript, u_at + 64 * k);
-        let left = product(window, p, b + k);
-        let right = product(window, p, c + k);
+        let left = product(window, params, b + k);
+        let right = product(window, params, c + k);
         if !equal::same(sent, left.add(right)) {
             return Checked::Failed(FailedCheck::OuterCommitU1);
         }
@@ -100,20 +100,20 @@ pub fn check_u1(
 pub fn check_u2(
     job: &[u32],
     transcript: &[u32],
-    p: EnvironmentParameters,
+    params: EnvironmentParameters,
     window: &[u32],
 ) -> Checked
-    requires { ⌜ Posed (now job) (now transcript) p × (scratch-need (parameters (now job)) ≤ length (now window)) ⌝ }
+    requires { ⌜ Posed (now job) (now transcript) params × (scratch-need (parameters (now job)) ≤ length (now window)) ⌝ }
     requires { ⌜ Rows-done (now job) (now transcript) (now window) (row-count (parameters (now job))) ⌝ }
     ensures { λ v. ⌜ ofChecked v ≡ u2-differs (now (job .entry)) (now (transcript .entry)) ⌝ }
 {
-    let u_at = offsets::of_transcript(p, names::U2);
-    let rows = p.kappa_2;
-    let d = p.kappa + p.kappa_1 + p.kappa_1;
+    let u_at = offsets::of_transcript(params, names::U2);
+    let rows = params.kappa_2;
+    let d = params.kappa + params.kappa_1 + params.kappa_1;
     let mut k = 0;
     while k < rows {
         let sent = words::load(transcript, u_at + 64 * k);
-        if !equal::same(sent, product(window, p, d + k)) {
+        if !equal::same(sent, product(window, params, d + k)) {
             return Checked::Failed(FailedCheck::OuterCommitU2);
         }
         k += 1;

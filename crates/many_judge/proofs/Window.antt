@@ -15,7 +15,7 @@ use Rattle.relation.specs.declared.env_params.EnvironmentParameters.{Environmen
 use Rattle.relation.specs.Parameters.{parametersOf}
 use Rattle.workspace.specs.Ready.{Ready}
 use Rattle.workspace.specs.Aggregated.{c-words}
-use Rattle.workspace.proofs.Kept.{kept-refl, kept-stored}
+use Rattle.workspace.proofs.Unchanged.{unchanged-refl, unchanged-stored}
 use Rattle.workspace.specs.Holds.{Holds}
 use Rattle.workspace.proofs.Holds.{holds-before}
 use Rattle.workspace.proofs.Ready.{length-c, φ-end, a-end, g-end}
@@ -27,37 +27,38 @@ use Rattle.verifier_digits.specs.declared.SentDigits.{SentDigits}
 use Rattle.verifier_digits.specs.Taken.{Taken, t-and-g-found, h-found}
 use Rattle.verifier_digits.proofs.Digits.{t-and-g-is, h-is}
 
-module _ (J R X : List ℕ) (p : EnvironmentParameters) (q : Regions) (W W′ : List ℕ) (ready : Ready J p q W) where
+module _ (J R X : List ℕ) (params : EnvironmentParameters) (regions : Regions) (W W′ : List ℕ) (ready : Ready J params regions W) where
   -- the challenges' region ends before the products
-  before-products : q .challenges + 64 * parameters J .r ≤ products-at (parameters J)
+  before-products : regions .challenges + 64 * parameters J .r ≤ products-at (parameters J)
   before-products =
-      let laid = ready .regions in
-      omega (arith, laid .first, laid .a2, laid .phi, laid .a, laid .g, laid .challenges, mul-le-mul-left (parameters J .r) (ready .sound .within .n .0))
+      let laid = ready .laid in
+      omega (arith, laid .first, laid .a2, laid .phi, laid .a-or-h, laid .g, laid .challenges, mul-le-mul-left (parameters J .r) (ready .sound .within .n .0))
 
   -- so the products stay
-  pub products-stay : W′ ≡ splice W (q .challenges) (c-words J R) → (n : ℕ) → Rows-done J X W n → Rows-done J X W′ n
+  pub products-stay : W′ ≡ splice W (regions .challenges) (c-words J R) → (n : ℕ) → Rows-done J X W n → Rows-done J X W′ n
   unfolding Rows-done
   products-stay e n done =
-      kept-stored (products-at (parameters J)) W W W′ (q .challenges) (c-words J R) (kept-refl (products-at (parameters J)) W) e (omega (arith, length-c J R, before-products)) .beyond ∙ done
+      unchanged-stored (products-at (parameters J)) W W W′ (regions .challenges) (c-words J R) (unchanged-refl (products-at (parameters J)) W) e (omega (arith, length-c J R, before-products)) .beyond
+      ∙ done
 
 -- alpha's part of φ stands there too
-pub alpha-stays : (weighed : Bool) (J R : List ℕ) (p : EnvironmentParameters) (q : Regions) (W W′ : List ℕ) → Ready J p q W → W′ ≡ splice W (q .challenges) (c-words J R) → Alpha-if weighed J R (q .phi) W → Alpha-if weighed J R (q .phi) W′
-alpha-stays weighed J R p q W W′ ready e held t =
-    subst (λ l. Holds l (q .phi) (alpha-words J R)) (sym e)
-    (holds-before W (q .phi) (alpha-words J R) (q .challenges) (c-words J R) (omega (arith, length-alpha J R, φ-end J p q W ready, a-end J p q W ready, g-end J p q W ready)) (held t))
+pub alpha-stays : (weighed : Bool) (J R : List ℕ) (params : EnvironmentParameters) (regions : Regions) (W W′ : List ℕ) → Ready J params regions W → W′ ≡ splice W (regions .challenges) (c-words J R) → Alpha-if weighed J R (regions .phi) W → Alpha-if weighed J R (regions .phi) W′
+alpha-stays weighed J R params regions W W′ ready e held t =
+    subst (λ l. Holds l (regions .phi) (alpha-words J R)) (sym e)
+    (holds-before W (regions .phi) (alpha-words J R) (regions .challenges) (c-words J R) (omega (arith, length-alpha J R, φ-end J params regions W ready, a-end J params regions W ready, g-end J params regions W ready)) (held t))
 
 -- by the place of φ that the job's parameters fix
-pub alpha-placed : (weighed : Bool) (J R : List ℕ) (p : EnvironmentParameters) (q : Regions) (W : List ℕ) → Ready J p q W → Alpha-if weighed J R (phi-at (parameters J)) W → Alpha-if weighed J R (q .phi) W
-alpha-placed weighed J R p q W ready held t =
-    let laid = ready .regions in
-    let place : phi-at (parameters J) ≡ q .phi = omega (arith, laid .first, laid .a2, laid .phi) in
+pub alpha-placed : (weighed : Bool) (J R : List ℕ) (params : EnvironmentParameters) (regions : Regions) (W : List ℕ) → Ready J params regions W → Alpha-if weighed J R (phi-at (parameters J)) W → Alpha-if weighed J R (regions .phi) W
+alpha-placed weighed J R params regions W ready held t =
+    let laid = ready .laid in
+    let place : phi-at (parameters J) ≡ regions .phi = omega (arith, laid .first, laid .a2, laid .phi) in
     subst (λ a. Holds W a (alpha-words J R)) place (held t)
 
 -- the checks of the commitments by what is found of the digits, of 28 and of 29
-pub found : (J X : List ℕ) (p : EnvironmentParameters) → parametersOf p ≡ parameters J → (d : SentDigits) → Taken (parametersOf p) X d
+pub found : (J X : List ℕ) (params : EnvironmentParameters) → parametersOf params ≡ parameters J → (d : SentDigits) → Taken (parametersOf params) X d
     → (u1 u2 : Checked) → ofChecked u1 ≡ u1-differs J X → ofChecked u2 ≡ u2-differs J X
     → (t-and-g-found d then ofChecked u1) then (h-found d then ofChecked u2) ≡ commitments J X
-found J X p e d taken u1 u2 f g =
-    ap₂ (λ a b. (a then ofChecked u1) then (b then ofChecked u2)) (t-and-g-is (parametersOf p) X d taken) (h-is (parametersOf p) X d taken)
-    ∙ ap₂ (λ a b. (t-and-g-bounds (parametersOf p) X then a) then (h-bound (parametersOf p) X then b)) f g
+found J X params e d taken u1 u2 f g =
+    ap₂ (λ a b. (a then ofChecked u1) then (b then ofChecked u2)) (t-and-g-is (parametersOf params) X d taken) (h-is (parametersOf params) X d taken)
+    ∙ ap₂ (λ a b. (t-and-g-bounds (parametersOf params) X then a) then (h-bound (parametersOf params) X then b)) f g
     ∙ ap (λ P. (t-and-g-bounds P X then u1-differs J X) then (h-bound P X then u2-differs J X)) e

@@ -21,7 +21,7 @@ ghost use Rattle.protocol.specs.Many.{row-count, Rows-done};
 ghost use Rattle.relation.specs.Parameters.{parametersOf};
 ghost use Rattle.admission.specs.Admission.{Verifiable};
 ghost use Rattle.workspace.specs.Ready.{Ready};
-ghost use Rattle.workspace.specs.Holds.{Kept};
+ghost use Rattle.workspace.specs.Holds.{Unchanged};
 ghost use Rattle.verifier_common.specs.Work.{Sent};
 ghost use Rattle.verifier_common.specs.Answers.{az};
 ghost use Rattle.verifier_digits.specs.Taken.{Taken, t-and-g-found, h-found};
@@ -35,25 +35,33 @@ fn check_relations(
     job: &[u32],
     randomness: &[u32],
     transcript: &[u32],
-    p: EnvironmentParameters,
-    q: Regions,
+    params: EnvironmentParameters,
+    regions: Regions,
     window: &mut [u32],
     opened: Checked,
     weighed: bool,
 ) -> Checked
-    requires { ⌜ Sent (now job) (now randomness) (now transcript) p × Ready (now job) p q (now window) × Challenged (now job) (now randomness) q (now window) ⌝ }
-    requires { ⌜ ofChecked opened ≡ az (now job) (now randomness) (now transcript) × Alpha-if weighed (now job) (now randomness) (q .phi) (now window) ⌝ }
+    requires { ⌜ Sent (now job) (now randomness) (now transcript) params × Ready (now job) params regions (now window) × Challenged (now job) (now randomness) regions (now window) ⌝ }
+    requires { ⌜ ofChecked opened ≡ az (now job) (now randomness) (now transcript) × Alpha-if weighed (now job) (now randomness) (regions .phi) (now window) ⌝ }
     ensures { λ v. ⌜ ofChecked v ≡ relations (now (job .entry)) (now (randomness .entry)) (now (transcript .entry)) ⌝ }
-    ensures { λ v. ⌜ Kept (scratch-need (parameters (now (job .entry)))) (now (window .entry)) (now (window .exit)) ⌝ }
+    ensures { λ v. ⌜ Unchanged (scratch-need (parameters (now (job .entry)))) (now (window .entry)) (now (window .exit)) ⌝ }
 {
     let Checked::Passed = opened else {
         return opened;
     };
-    let second = relations::check_z_inner(transcript, p, q, window);
+    let second = relations::check_z_inner(transcript, params, regions, window);
     let Checked::Passed = second else {
         return second;
     };
-    many_beta::check_aggregated(job, randomness, transcript, p, q, window, weighed)
+    many_beta::check_aggregated(
+        job,
+        randomness,
+        transcript,
+        params,
+        regions,
+        window,
+        weighed,
+    )
 }
 
 // 14, 15, 28, 16 and 29, in order, with what is found of the digits, of 28 and of 29.
@@ -79,22 +87,31 @@ fn check_rest(
     job: &[u32],
     randomness: &[u32],
     transcript: &[u32],
-    p: EnvironmentParameters,
-    q: Regions,
+    params: EnvironmentParameters,
+    regions: Regions,
     window: &mut [u32],
     weighed: bool,
     digits: SentDigits,
 ) -> Checked
-    requires { ⌜ Sent (now job) (now randomness) (now transcript) p × Ready (now job) p q (now window) × Taken (parametersOf p) (now transcript) digits ⌝ }
-    requires { ⌜ Rows-done (now job) (now transcript) (now window) (row-count (parameters (now job))) × Alpha-if weighed (now job) (now randomness) (q .phi) (now window) ⌝ }
+    requires { ⌜ Sent (now job) (now randomness) (now transcript) params × Ready (now job) params regions (now window) × Taken (parametersOf params) (now transcript) digits ⌝ }
+    requires { ⌜ Rows-done (now job) (now transcript) (now window) (row-count (parameters (now job))) × Alpha-if weighed (now job) (now randomness) (regions .phi) (now window) ⌝ }
     ensures { λ v. ⌜ ofChecked v ≡ rest (now (job .entry)) (now (randomness .entry)) (now (transcript .entry)) ⌝ }
-    ensures { λ v. ⌜ Kept (scratch-need (parameters (now (job .entry)))) (now (window .entry)) (now (window .exit)) ⌝ }
+    ensures { λ v. ⌜ Unchanged (scratch-need (parameters (now (job .entry)))) (now (window .entry)) (now (window .exit)) ⌝ }
 {
-    workspace::generate_challenges(randomness, p, q, window);
-    let opened = many_checks::check_az(job, transcript, p, q, window);
-    let u1 = many_checks::check_u1(job, transcript, p, window);
-    let u2 = many_checks::check_u2(job, transcript, p, window);
-    let first = check_relations(job, randomness, transcript, p, q, window, opened, weighed);
+    workspace::generate_challenges(randomness, params, regions, window);
+    let opened = many_checks::check_az(job, transcript, params, regions, window);
+    let u1 = many_checks::check_u1(job, transcript, params, window);
+    let u2 = many_checks::check_u2(job, transcript, params, window);
+    let first = check_relations(
+        job,
+        randomness,
+        transcript,
+        params,
+        regions,
+        window,
+        opened,
+        weighed,
+    );
     let Checked::Passed = first else {
         return first;
     };
@@ -106,24 +123,38 @@ pub fn judge(
     job: &[u32],
     randomness: &[u32],
     transcript: &[u32],
-    p: EnvironmentParameters,
+    params: EnvironmentParameters,
     window: &mut [u32],
     weighed: bool,
 ) -> Verdict
-    requires { ⌜ Verifiable (now job) (now randomness) (now transcript) (length (now window)) p ⌝ }
+    requires { ⌜ Verifiable (now job) (now randomness) (now transcript) (length (now window)) params ⌝ }
     requires { ⌜ length (now window) ≡ scratch-need (parameters (now job)) ⌝ }
     requires { ⌜ Rows-done (now job) (now transcript) (now window) (row-count (parameters (now job))) ⌝ }
     requires { ⌜ Alpha-if weighed (now job) (now randomness) (phi-at (parameters (now job))) (now window) ⌝ }
     ensures { λ v. ⌜ ofVerdict v ≡ verdict-of (now (job .entry)) (now (randomness .entry)) (now (transcript .entry)) ⌝ }
     ensures { λ v. ⌜ length (now (window .exit)) ≡ length (now (window .entry)) ⌝ }
 {
-    let q = regions::lay_out(p.rank, p.multiplicity, p.kappa, p.const_agg_length);
-    let norms = norm_checks::check_norms(job, randomness, transcript, p);
+    let regions = regions::lay_out(
+        params.rank,
+        params.multiplicity,
+        params.kappa,
+        params.const_agg_length,
+    );
+    let norms = norm_checks::check_norms(job, randomness, transcript, params);
     let first = norms.checked;
     let Checked::Passed = first else {
         return verdict::verdict_of(first, 0);
     };
     let digits = norms.digits;
-    let rest = check_rest(job, randomness, transcript, p, q, window, weighed, digits);
+    let rest = check_rest(
+        job,
+        randomness,
+        transcript,
+        params,
+        regions,
+        window,
+        weighed,
+        digits,
+    );
     verdict::verdict_of(rest, digits.cells_left)
 }

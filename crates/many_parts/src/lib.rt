@@ -54,62 +54,77 @@ pub fn bounds_of(handed: usize, len: usize, count: usize, m: usize) -> Bounds
 }
 
 // The bounds of randomness m in a slice of `handed` words.
-pub fn randomness_bounds(handed: usize, p: EnvironmentParameters, count: usize, m: usize) -> Bounds
-    requires { ⌜ (m < count) × (count ≤ 8) × Sized (parametersOf p) ⌝ }
-    ensures { λ r. ⌜ r ≡ bounded handed (span (randomness-sections (parametersOf p))) count m ⌝ }
+pub fn randomness_bounds(
+    handed: usize,
+    params: EnvironmentParameters,
+    count: usize,
+    m: usize,
+) -> Bounds
+    requires { ⌜ (m < count) × (count ≤ 8) × Sized (parametersOf params) ⌝ }
+    ensures { λ r. ⌜ r ≡ bounded handed (span (randomness-sections (parametersOf params))) count m ⌝ }
 {
-    let len = sections::span(slices::randomness_sections(p, 7), 0, 7);
+    let len = sections::span(slices::randomness_sections(params, 7), 0, 7);
     bounds_of(handed, len, count, m)
 }
 
 // The bounds of transcript m in a slice of `handed` words.
-pub fn transcript_bounds(handed: usize, p: EnvironmentParameters, count: usize, m: usize) -> Bounds
-    requires { ⌜ (m < count) × (count ≤ 8) × Sized (parametersOf p) ⌝ }
-    ensures { λ r. ⌜ r ≡ bounded handed (span (transcript-sections (parametersOf p))) count m ⌝ }
+pub fn transcript_bounds(
+    handed: usize,
+    params: EnvironmentParameters,
+    count: usize,
+    m: usize,
+) -> Bounds
+    requires { ⌜ (m < count) × (count ≤ 8) × Sized (parametersOf params) ⌝ }
+    ensures { λ r. ⌜ r ≡ bounded handed (span (transcript-sections (parametersOf params))) count m ⌝ }
 {
-    let len = sections::span(slices::transcript_sections(p), 0, 8);
+    let len = sections::span(slices::transcript_sections(params), 0, 8);
     bounds_of(handed, len, count, m)
 }
 
 // 7 and 8 of randomness m.
-fn check_randomness(words: &[u32], p: EnvironmentParameters, count: usize, m: usize) -> SliceChecked
-    requires { ⌜ (m < count) × (count ≤ 8) × Sized (parametersOf p) ⌝ }
-    ensures { λ r. ⌜ ofSliceChecked r ≡ randomness-refusal (parametersOf p) 7 (randomness-part (parametersOf p) count (now (words .entry)) m) ⌝ }
+fn check_randomness(
+    words: &[u32],
+    params: EnvironmentParameters,
+    count: usize,
+    m: usize,
+) -> SliceChecked
+    requires { ⌜ (m < count) × (count ≤ 8) × Sized (parametersOf params) ⌝ }
+    ensures { λ r. ⌜ ofSliceChecked r ≡ randomness-refusal (parametersOf params) 7 (randomness-part (parametersOf params) count (now (words .entry)) m) ⌝ }
 {
-    let b = randomness_bounds(words.len(), p, count, m);
+    let b = randomness_bounds(words.len(), params, count, m);
     let from = b.from;
     let to = b.to;
-    randomness::check(&words[from..to], p, Call::Whole)
+    randomness::check(&words[from..to], params, Call::Whole)
 }
 
 // 9 and 10 of transcript m: "places count from a transcript's own start".
 pub fn check_transcript(
     words: &[u32],
-    p: EnvironmentParameters,
+    params: EnvironmentParameters,
     count: usize,
     m: usize,
 ) -> SliceChecked
-    requires { ⌜ (m < count) × (count ≤ 8) × Sized (parametersOf p) ⌝ }
-    ensures { λ r. ⌜ ofSliceChecked r ≡ transcript-refusal (parametersOf p) (transcript-part (parametersOf p) count (now (words .entry)) m) ⌝ }
+    requires { ⌜ (m < count) × (count ≤ 8) × Sized (parametersOf params) ⌝ }
+    ensures { λ r. ⌜ ofSliceChecked r ≡ transcript-refusal (parametersOf params) (transcript-part (parametersOf params) count (now (words .entry)) m) ⌝ }
 {
-    let b = transcript_bounds(words.len(), p, count, m);
+    let b = transcript_bounds(words.len(), params, count, m);
     let from = b.from;
     let to = b.to;
-    transcript::check(&words[from..to], p)
+    transcript::check(&words[from..to], params)
 }
 
 // 7 and 8 of randomness m, then what is found of transcript m.
 pub fn check_part(
     randomness: &[u32],
-    p: EnvironmentParameters,
+    params: EnvironmentParameters,
     count: usize,
     m: usize,
     sent: SliceChecked,
 ) -> SliceChecked
-    requires { ⌜ (m < count) × (count ≤ 8) × Sized (parametersOf p) ⌝ }
-    ensures { λ r. ⌜ ofSliceChecked r ≡ randomness-refusal (parametersOf p) 7 (randomness-part (parametersOf p) count (now (randomness .entry)) m) then ofSliceChecked sent ⌝ }
+    requires { ⌜ (m < count) × (count ≤ 8) × Sized (parametersOf params) ⌝ }
+    ensures { λ r. ⌜ ofSliceChecked r ≡ randomness-refusal (parametersOf params) 7 (randomness-part (parametersOf params) count (now (randomness .entry)) m) then ofSliceChecked sent ⌝ }
 {
-    match check_randomness(randomness, p, count, m) {
+    match check_randomness(randomness, params, count, m) {
         SliceChecked::Refused(refusal) => SliceChecked::Refused(refusal),
         SliceChecked::Fine => sent,
     }

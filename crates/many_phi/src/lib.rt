@@ -13,7 +13,7 @@ ghost use mathlib.Core.Bool.{true, false};
 ghost use Prim.Native.Nat.{_≤_, _<_, _^_};
 ghost use lib.ListN.{length, getD};
 ghost use Rattle.protocol.specs.Parameters.{parameters};
-ghost use Rattle.protocol.specs.Kept.{Kept};
+ghost use Rattle.protocol.specs.Unchanged.{Unchanged};
 ghost use Rattle.protocol.specs.Many.{many-need};
 ghost use Rattle.relation.specs.Parameters.{parametersOf};
 ghost use Rattle.sizes.specs.Sizes.{Sized};
@@ -21,20 +21,25 @@ ghost use Rattle.many_admission.specs.Admitted.{Many-given};
 ghost use Rattle.many_phi.specs.AlphaPart.{windows-of, shares, Alpha-parts, Products-stay};
 
 // The windows of so many transcripts.
-pub fn windows(p: EnvironmentParameters, count: usize) -> Windows
-    requires { ⌜ Sized (parametersOf p) ⌝ }
-    ensures { λ v. ⌜ v ≡ windows-of (parametersOf p) count ⌝ }
+pub fn windows(params: EnvironmentParameters, count: usize) -> Windows
+    requires { ⌜ Sized (parametersOf params) ⌝ }
+    ensures { λ v. ⌜ v ≡ windows-of (parametersOf params) count ⌝ }
     ensures { λ v. ⌜ v .len < 2 ^ 32 ⌝ }
 {
-    let q = regions::lay_out(p.rank, p.multiplicity, p.kappa, p.const_agg_length);
+    let regions = regions::lay_out(
+        params.rank,
+        params.multiplicity,
+        params.kappa,
+        params.const_agg_length,
+    );
     Windows {
         count,
-        need: buffers::scratch_length(p),
-        len: sections::span(slices::randomness_sections(p, 7), 0, 7),
-        alpha: offsets::of_randomness(p, names::ALPHA),
-        k: p.constraint_k,
-        phi: q.phi,
-        width: p.multiplicity * p.rank,
+        need: buffers::scratch_length(params),
+        len: sections::span(slices::randomness_sections(params, 7), 0, 7),
+        alpha: offsets::of_randomness(params, names::ALPHA),
+        k: params.constraint_k,
+        phi: regions.phi,
+        width: params.multiplicity * params.rank,
     }
 }
 
@@ -59,22 +64,22 @@ pub fn shared(v: Windows, handed: usize) -> bool
 pub fn alpha_parts(
     job: &[u32],
     randomness: &[u32],
-    p: EnvironmentParameters,
+    params: EnvironmentParameters,
     count: usize,
     passes: [bool; 8],
     scratch: &mut [u32],
 ) -> bool
-    requires { ⌜ Many-given (now job) count (length (now scratch)) p ⌝ }
+    requires { ⌜ Many-given (now job) count (length (now scratch)) params ⌝ }
     ensures { λ r. ⌜ r ≡ shares (windows-of (parameters (now (job .entry))) count) (length (now (randomness .entry))) ⌝ }
     ensures { λ r. ⌜ (r ≡ true → Alpha-parts (now (job .entry)) count (λ m. getD passes m false) (now (randomness .entry)) (now (scratch .exit))) ⌝ }
     ensures { λ r. ⌜ Products-stay (parameters (now (job .entry))) count (now (scratch .entry)) (now (scratch .exit)) ⌝ }
-    ensures { λ r. ⌜ Kept (many-need (parameters (now (job .entry))) count) (now (scratch .entry)) (now (scratch .exit)) ⌝ }
+    ensures { λ r. ⌜ Unchanged (many-need (parameters (now (job .entry))) count) (now (scratch .entry)) (now (scratch .exit)) ⌝ }
 {
-    let v = windows(p, count);
+    let v = windows(params, count);
     if shared(v, randomness.len()) {
         many_alpha::weigh(
             job,
-            offsets::of_job(p, names::RING_PHI),
+            offsets::of_job(params, names::RING_PHI),
             randomness,
             v,
             passes,

@@ -56,100 +56,103 @@ stored-row J X at row k d b S S′ place e h =
     ∙ ap (splice S place) (flat-table-one (digits-product J row X d b))
     ∙ ap (λ x. splice S place (words x)) (row-from J at row (width d) k (digits-at X d b) e)
 
-module _ (J X : List ℕ) (p : EnvironmentParameters) (s : Posed J X p) where
+module _ (J X : List ℕ) (params : EnvironmentParameters) (s : Posed J X params) where
   -- row k of A lies within the job
-  a-end : (at k : ℕ) → at ≡ job-at (parametersOf p) 6 → k < p .kappa → at + 64 * (k * p .rank) + 64 * p .rank ≤ length J
-  a-end at k e h = omega (arith, job-room s 6 at (omega arith) e, rows-within k (p .kappa) (p .rank) h)
+  a-end : (at k : ℕ) → at ≡ job-at (parametersOf params) 6 → k < params .kappa → at + 64 * (k * params .rank) + 64 * params .rank ≤ length J
+  a-end at k e h = omega (arith, job-room s 6 at (omega arith) e, rows-within k (params .kappa) (params .rank) h)
 
   -- and its place is small
-  pub a-bounds : (at k : ℕ) → length J < 2 ^ 61 → at ≡ job-at (parametersOf p) 6 → k < p .kappa → (k * p .rank ≤ 1024) × (at + 64 * (k * p .rank) ≤ 2 ^ 62)
+  pub a-bounds : (at k : ℕ) → length J < 2 ^ 61 → at ≡ job-at (parametersOf params) 6 → k < params .kappa → (k * params .rank ≤ 1024) × (at + 64 * (k * params .rank) ≤ 2 ^ 62)
   a-bounds at k j e h =
       let w = reckoned s .within in
       let few : k ≤ 16 = omega (arith, w .κ .1) in
-      let small : k * p .rank ≤ 1024 = mul-le-mul few (w .n .1) in
+      let small : k * params .rank ≤ 1024 = mul-le-mul few (w .n .1) in
       (small, omega (arith, a-end at k e h))
 
   -- what its inner product with z requires
-  pub a-requires : (at z-at k : ℕ) → length J < 2 ^ 61 → length X < 2 ^ 61 → at ≡ job-at (parametersOf p) 6 → z-at ≡ transcript-at (parametersOf p) 4 → k < p .kappa
-      → Run J (at + 64 * (k * p .rank)) 64 (p .rank) × Run X z-at 64 (p .rank)
+  pub a-requires : (at z-at k : ℕ) → length J < 2 ^ 61 → length X < 2 ^ 61 → at ≡ job-at (parametersOf params) 6 → z-at ≡ transcript-at (parametersOf params) 4 → k < params .kappa
+      → Run J (at + 64 * (k * params .rank)) 64 (params .rank) × Run X z-at 64 (params .rank)
   a-requires at z-at k j x ea ez h =
-      let few : p .rank ≤ 2 ^ 18 = omega (arith, reckoned s .within .n .1) in
-      (row-run J (at + 64 * (k * p .rank)) (p .rank) (a-end at k ea h) few j, z-run X p (received s) z-at ez x)
+      let few : params .rank ≤ 2 ^ 18 = omega (arith, reckoned s .within .n .1) in
+      (row-run J (at + 64 * (k * params .rank)) (params .rank) (a-end at k ea h) few j, z-run X params (received s) z-at ez x)
 
   -- row k of B, of C and of D lies within the job
-  pub b-room : (at k : ℕ) → at ≡ job-at (parametersOf p) 7 → k < p .«kappa_1» → Room J at (k * (p .multiplicity * p .kappa * p .«t_1») + p .multiplicity * p .kappa * p .«t_1»)
-  b-room at k e h = omega (arith, B-within J X p s at e, rows-within k (p .«kappa_1») (p .multiplicity * p .kappa * p .«t_1») h)
+  pub b-room : (at k : ℕ) → at ≡ job-at (parametersOf params) 7 → k < params .«kappa_1»
+      → Room J at (k * (params .multiplicity * params .kappa * params .«t_1») + params .multiplicity * params .kappa * params .«t_1»)
+  b-room at k e h = omega (arith, B-within J X params s at e, rows-within k (params .«kappa_1») (params .multiplicity * params .kappa * params .«t_1») h)
 
-  pub c-room : (at cells k : ℕ) → at ≡ job-at (parametersOf p) 8 → cells ≡ triangular (p .multiplicity) → k < p .«kappa_1» → Room J at (k * (cells * p .«t_2») + cells * p .«t_2»)
-  c-room at cells k e f h = omega (arith, C-within J X p s at cells e f, rows-within k (p .«kappa_1») (cells * p .«t_2») h)
+  pub c-room : (at cells k : ℕ) → at ≡ job-at (parametersOf params) 8 → cells ≡ triangular (params .multiplicity) → k < params .«kappa_1»
+      → Room J at (k * (cells * params .«t_2») + cells * params .«t_2»)
+  c-room at cells k e f h = omega (arith, C-within J X params s at cells e f, rows-within k (params .«kappa_1») (cells * params .«t_2») h)
 
-  pub d-room : (at cells k : ℕ) → at ≡ job-at (parametersOf p) 9 → cells ≡ triangular (p .multiplicity) → k < p .«kappa_2» → Room J at (k * (cells * p .«t_1») + cells * p .«t_1»)
-  d-room at cells k e f h = omega (arith, D-within J X p s at cells e f, rows-within k (p .«kappa_2») (cells * p .«t_1») h)
+  pub d-room : (at cells k : ℕ) → at ≡ job-at (parametersOf params) 9 → cells ≡ triangular (params .multiplicity) → k < params .«kappa_2»
+      → Room J at (k * (cells * params .«t_1») + cells * params .«t_1»)
+  d-room at cells k e f h = omega (arith, D-within J X params s at cells e f, rows-within k (params .«kappa_2») (cells * params .«t_1») h)
 
   -- row k of A with z
-  pub a-is : (at z-at k : ℕ) (l : List ℕ) → at ≡ job-at (parametersOf p) 6 → z-at ≡ transcript-at (parametersOf p) 4
-      → l ≡ words (dot (p .rank) (run J (at + 64 * (k * p .rank)) 64) (run X z-at 64)) → l ≡ words (of-A J X k)
+  pub a-is : (at z-at k : ℕ) (l : List ℕ) → at ≡ job-at (parametersOf params) 6 → z-at ≡ transcript-at (parametersOf params) 4
+      → l ≡ words (dot (params .rank) (run J (at + 64 * (k * params .rank)) 64) (run X z-at 64)) → l ≡ words (of-A J X k)
   a-is at z-at k l ea ez h =
       h
-      ∙ ap (λ f. words (dot (p .rank) f (run X z-at 64))) (run-vector J at (p .rank) k (at + 64 * (k * p .rank)) refl)
-      ∙ ap₂ (λ a z. words (dot (p .rank) (vector J a (p .rank) k) (run X z 64))) ea ez
+      ∙ ap (λ f. words (dot (params .rank) f (run X z-at 64))) (run-vector J at (params .rank) k (at + 64 * (k * params .rank)) refl)
+      ∙ ap₂ (λ a z. words (dot (params .rank) (vector J a (params .rank) k) (run X z 64))) ea ez
       ∙ ap (λ Q. words (dot (Q .n) (vector J (job-at Q 6) (Q .n) k) (run X (transcript-at Q 4) 64))) (s .same)
 
   -- of B with the digits of t
-  pub b-is : (at t-at k : ℕ) → at ≡ job-at (parametersOf p) 7 → t-at ≡ transcript-at (parametersOf p) 5
-      → digits-product J at X (digits t-at (p .multiplicity * p .kappa) (p .«t_1»)) (p .b) k ≡ of-B J X k
+  pub b-is : (at t-at k : ℕ) → at ≡ job-at (parametersOf params) 7 → t-at ≡ transcript-at (parametersOf params) 5
+      → digits-product J at X (digits t-at (params .multiplicity * params .kappa) (params .«t_1»)) (params .b) k ≡ of-B J X k
   b-is at t-at k ea et =
-      ap₂ (λ a t. digits-product J a X (digits t (p .multiplicity * p .kappa) (p .«t_1»)) (p .b) k) ea et
+      ap₂ (λ a t. digits-product J a X (digits t (params .multiplicity * params .kappa) (params .«t_1»)) (params .b) k) ea et
       ∙ ap (λ Q. digits-product J (job-at Q 7) X (digits (transcript-at Q 5) (Q .r * Q .κ) (Q .t₁)) (Q .b) k) (s .same)
       ∙ ap (λ v. times (public J [] .B) (digits-of (parameters J .b) (parameters J .t₁) v) k)
       (vectors-cells X (transcript-at (parameters J) 5) (parameters J .r) (parameters J .κ) (message (parameters J) X .t) (λ i k l m. refl))
 
   -- of C with the digits of g
-  pub c-is : (at g-at cells k : ℕ) → at ≡ job-at (parametersOf p) 8 → g-at ≡ transcript-at (parametersOf p) 6 → cells ≡ triangular (p .multiplicity)
-      → digits-product J at X (digits g-at cells (p .«t_2»)) (p .b) k ≡ of-C J X k
+  pub c-is : (at g-at cells k : ℕ) → at ≡ job-at (parametersOf params) 8 → g-at ≡ transcript-at (parametersOf params) 6 → cells ≡ triangular (params .multiplicity)
+      → digits-product J at X (digits g-at cells (params .«t_2»)) (params .b) k ≡ of-C J X k
   c-is at g-at cells k ea eg en =
-      ap₂ (λ a g. digits-product J a X (digits g cells (p .«t_2»)) (p .b) k) ea eg
-      ∙ ap (λ n. digits-product J (job-at (parametersOf p) 8) X (digits (transcript-at (parametersOf p) 6) n (p .«t_2»)) (p .b) k) en
+      ap₂ (λ a g. digits-product J a X (digits g cells (params .«t_2»)) (params .b) k) ea eg
+      ∙ ap (λ n. digits-product J (job-at (parametersOf params) 8) X (digits (transcript-at (parametersOf params) 6) n (params .«t_2»)) (params .b) k) en
       ∙ ap (λ Q. digits-product J (job-at Q 8) X (digits (transcript-at Q 6) (triangular (Q .r)) (Q .t₂)) (Q .b) k) (s .same)
       ∙ ap (λ v. times (public J [] .C) (digits-of (parameters J .b) (parameters J .t₂) v) k)
       (triangle-cells X (transcript-at (parameters J) 6) (parameters J .r) (message (parameters J) X .g) (λ i j l m. refl))
 
   -- of D with the digits of h
-  pub d-is : (at h-at cells k : ℕ) → at ≡ job-at (parametersOf p) 9 → h-at ≡ transcript-at (parametersOf p) 7 → cells ≡ triangular (p .multiplicity)
-      → digits-product J at X (digits h-at cells (p .«t_1»)) (p .b) k ≡ of-D J X k
+  pub d-is : (at h-at cells k : ℕ) → at ≡ job-at (parametersOf params) 9 → h-at ≡ transcript-at (parametersOf params) 7 → cells ≡ triangular (params .multiplicity)
+      → digits-product J at X (digits h-at cells (params .«t_1»)) (params .b) k ≡ of-D J X k
   d-is at h-at cells k ea eh en =
-      ap₂ (λ a h. digits-product J a X (digits h cells (p .«t_1»)) (p .b) k) ea eh
-      ∙ ap (λ n. digits-product J (job-at (parametersOf p) 9) X (digits (transcript-at (parametersOf p) 7) n (p .«t_1»)) (p .b) k) en
+      ap₂ (λ a h. digits-product J a X (digits h cells (params .«t_1»)) (params .b) k) ea eh
+      ∙ ap (λ n. digits-product J (job-at (parametersOf params) 9) X (digits (transcript-at (parametersOf params) 7) n (params .«t_1»)) (params .b) k) en
       ∙ ap (λ Q. digits-product J (job-at Q 9) X (digits (transcript-at Q 7) (triangular (Q .r)) (Q .t₁)) (Q .b) k) (s .same)
       ∙ ap (λ v. times (public J [] .D) (digits-of (parameters J .b) (parameters J .t₁) v) k)
       (triangle-cells X (transcript-at (parameters J) 7) (parameters J .r) (message (parameters J) X .h) (λ i j l m. refl))
 
 -- stored digits by the places and parameters that the code holds
-module _ (J X : List ℕ) (p : EnvironmentParameters) (s : Posed J X p) (S : List ℕ) (h : Held) (all : AllHeld J X S h) where
+module _ (J X : List ℕ) (params : EnvironmentParameters) (s : Posed J X params) (S : List ℕ) (h : Held) (all : AllHeld J X S h) where
   abbrev Q′ : Parameters
   Q′ = parameters J
 
-  pub t-held : (t-at : ℕ) → t-at ≡ transcript-at (parametersOf p) 5 → DigitsHeld S (h .t) X (digits t-at (p .multiplicity * p .kappa) (p .«t_1»)) (p .b)
+  pub t-held : (t-at : ℕ) → t-at ≡ transcript-at (parametersOf params) 5 → DigitsHeld S (h .t) X (digits t-at (params .multiplicity * params .kappa) (params .«t_1»)) (params .b)
   t-held t-at e =
-      subst (λ a. DigitsHeld S (h .t) X (digits a (p .multiplicity * p .kappa) (p .«t_1»)) (p .b)) (sym e)
+      subst (λ a. DigitsHeld S (h .t) X (digits a (params .multiplicity * params .kappa) (params .«t_1»)) (params .b)) (sym e)
       (subst (λ Q. DigitsHeld S (h .t) X (digits (transcript-at Q 5) (Q .r * Q .κ) (Q .t₁)) (Q .b)) (sym (s .same)) (record {
         room = all .t-room;
         held = subst (λ v. Holds S (h .t) (flat (digits-of (Q′ .b) (Q′ .t₁) v))) (sym (vectors-cells X (transcript-at Q′ 5) (Q′ .r) (Q′ .κ) (message Q′ X .t) (λ i k l m. refl))) (all .t);
       }))
 
-  pub g-held : (g-at cells : ℕ) → g-at ≡ transcript-at (parametersOf p) 6 → cells ≡ triangular (p .multiplicity) → DigitsHeld S (h .g) X (digits g-at cells (p .«t_2»)) (p .b)
+  pub g-held : (g-at cells : ℕ) → g-at ≡ transcript-at (parametersOf params) 6 → cells ≡ triangular (params .multiplicity) → DigitsHeld S (h .g) X (digits g-at cells (params .«t_2»)) (params .b)
   g-held g-at cells e f =
-      subst (λ a. DigitsHeld S (h .g) X (digits a cells (p .«t_2»)) (p .b)) (sym e)
-      (subst (λ n. DigitsHeld S (h .g) X (digits (transcript-at (parametersOf p) 6) n (p .«t_2»)) (p .b)) (sym f)
+      subst (λ a. DigitsHeld S (h .g) X (digits a cells (params .«t_2»)) (params .b)) (sym e)
+      (subst (λ n. DigitsHeld S (h .g) X (digits (transcript-at (parametersOf params) 6) n (params .«t_2»)) (params .b)) (sym f)
       (subst (λ Q. DigitsHeld S (h .g) X (digits (transcript-at Q 6) (triangular (Q .r)) (Q .t₂)) (Q .b)) (sym (s .same)) (record {
         room = all .g-room;
         held = subst (λ v. Holds S (h .g) (flat (digits-of (Q′ .b) (Q′ .t₂) v))) (sym (triangle-cells X (transcript-at Q′ 6) (Q′ .r) (message Q′ X .g) (λ i j l m. refl))) (all .g);
       })))
 
-  pub h-held : (h-at cells : ℕ) → h-at ≡ transcript-at (parametersOf p) 7 → cells ≡ triangular (p .multiplicity) → DigitsHeld S (h .h) X (digits h-at cells (p .«t_1»)) (p .b)
+  pub h-held : (h-at cells : ℕ) → h-at ≡ transcript-at (parametersOf params) 7 → cells ≡ triangular (params .multiplicity) → DigitsHeld S (h .h) X (digits h-at cells (params .«t_1»)) (params .b)
   h-held h-at cells e f =
-      subst (λ a. DigitsHeld S (h .h) X (digits a cells (p .«t_1»)) (p .b)) (sym e)
-      (subst (λ n. DigitsHeld S (h .h) X (digits (transcript-at (parametersOf p) 7) n (p .«t_1»)) (p .b)) (sym f)
+      subst (λ a. DigitsHeld S (h .h) X (digits a cells (params .«t_1»)) (params .b)) (sym e)
+      (subst (λ n. DigitsHeld S (h .h) X (digits (transcript-at (parametersOf params) 7) n (params .«t_1»)) (params .b)) (sym f)
       (subst (λ Q. DigitsHeld S (h .h) X (digits (transcript-at Q 7) (triangular (Q .r)) (Q .t₁)) (Q .b)) (sym (s .same)) (record {
         room = all .h-room;
         held = subst (λ v. Holds S (h .h) (flat (digits-of (Q′ .b) (Q′ .t₁) v))) (sym (triangle-cells X (transcript-at Q′ 7) (Q′ .r) (message Q′ X .h) (λ i j l m. refl))) (all .h);
@@ -187,18 +190,18 @@ module _ (J X : List ℕ) (ρ : ℕ) where
       let mid : κ + κ₁ ≤ ρ = omega arith in
       passed _ _ low ∙ passed _ _ mid ∙ passed _ _ h
 
-module _ (J X : List ℕ) (p : EnvironmentParameters) (s : Posed J X p) (ρ : ℕ) where
+module _ (J X : List ℕ) (params : EnvironmentParameters) (s : Posed J X params) (ρ : ℕ) where
   -- the same by the parameters that the code holds
-  pub a-row : ρ < p .kappa → of-A J X ρ ≡ row-product J X ρ
+  pub a-row : ρ < params .kappa → of-A J X ρ ≡ row-product J X ρ
   a-row h = sym (row-of-a J X ρ (subst (λ Q. ρ < Q .κ) (s .same) h))
 
-  pub b-row : p .kappa ≤ ρ → ρ < p .kappa + p .«kappa_1» → of-B J X (ρ - p .kappa) ≡ row-product J X ρ
+  pub b-row : params .kappa ≤ ρ → ρ < params .kappa + params .«kappa_1» → of-B J X (ρ - params .kappa) ≡ row-product J X ρ
   b-row = subst (λ Q. Q .κ ≤ ρ → ρ < Q .κ + Q .κ₁ → of-B J X (ρ - Q .κ) ≡ row-product J X ρ) (sym (s .same)) (λ h h′. sym (row-of-b J X ρ h h′))
 
-  pub c-row : p .kappa + p .«kappa_1» ≤ ρ → ρ < p .kappa + p .«kappa_1» + p .«kappa_1» → of-C J X (ρ - (p .kappa + p .«kappa_1»)) ≡ row-product J X ρ
+  pub c-row : params .kappa + params .«kappa_1» ≤ ρ → ρ < params .kappa + params .«kappa_1» + params .«kappa_1» → of-C J X (ρ - (params .kappa + params .«kappa_1»)) ≡ row-product J X ρ
   c-row =
       subst (λ Q. Q .κ + Q .κ₁ ≤ ρ → ρ < Q .κ + Q .κ₁ + Q .κ₁ → of-C J X (ρ - (Q .κ + Q .κ₁)) ≡ row-product J X ρ) (sym (s .same))
       (λ h h′. sym (row-of-c J X ρ h h′))
 
-  pub d-row : p .kappa + p .«kappa_1» + p .«kappa_1» ≤ ρ → of-D J X (ρ - (p .kappa + p .«kappa_1» + p .«kappa_1»)) ≡ row-product J X ρ
+  pub d-row : params .kappa + params .«kappa_1» + params .«kappa_1» ≤ ρ → of-D J X (ρ - (params .kappa + params .«kappa_1» + params .«kappa_1»)) ≡ row-product J X ρ
   d-row = subst (λ Q. Q .κ + Q .κ₁ + Q .κ₁ ≤ ρ → of-D J X (ρ - (Q .κ + Q .κ₁ + Q .κ₁)) ≡ row-product J X ρ) (sym (s .same)) (λ h. sym (row-of-d J X ρ h))

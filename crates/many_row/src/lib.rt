@@ -63,18 +63,18 @@ fn store_digits(
 // Row k of A with z.
 pub fn store_of_a(
     job: &[u32],
-    p: EnvironmentParameters,
+    params: EnvironmentParameters,
     k: usize,
     transcript: &[u32],
     scratch: &mut [u32],
     place: usize,
 )
-    requires { ⌜ Posed (now job) (now transcript) p × (k < p .kappa) × Room (now scratch) place 1 ⌝ }
+    requires { ⌜ Posed (now job) (now transcript) params × (k < params .kappa) × Room (now scratch) place 1 ⌝ }
     ensures { λ _. ⌜ now (scratch .exit) ≡ splice (now (scratch .entry)) place (words (of-A (now (job .entry)) (now (transcript .entry)) k)) ⌝ }
 {
-    let n = p.rank;
-    let row = offsets::of_job(p, names::MATRIX_A) + 64 * (k * n);
-    let z_at = offsets::of_transcript(p, names::Z);
+    let n = params.rank;
+    let row = offsets::of_job(params, names::MATRIX_A) + 64 * (k * n);
+    let z_at = offsets::of_transcript(params, names::Z);
     let product = inner_product::inner_product(job, row, 64, transcript, z_at, 64, n);
     words::store(scratch, place, product);
 }
@@ -82,30 +82,30 @@ pub fn store_of_a(
 // Row k of B with the digits of t.
 pub fn store_of_b(
     job: &[u32],
-    p: EnvironmentParameters,
+    params: EnvironmentParameters,
     k: usize,
     transcript: &[u32],
     scratch: &mut [u32],
     place: usize,
     held: Held,
 )
-    requires { ⌜ Posed (now job) (now transcript) p × (k < p .«kappa_1») × Room (now scratch) place 1 ⌝ }
+    requires { ⌜ Posed (now job) (now transcript) params × (k < params .«kappa_1») × Room (now scratch) place 1 ⌝ }
     requires { ⌜ (held .stored ≡ true → AllHeld (now job) (now transcript) (now scratch) held) ⌝ }
     ensures { λ _. ⌜ now (scratch .exit) ≡ splice (now (scratch .entry)) place (words (of-B (now (job .entry)) (now (transcript .entry)) k)) ⌝ }
 {
     let t = Digits {
-        at: offsets::of_transcript(p, names::T),
-        cells: p.multiplicity * p.kappa,
-        parts: p.t_1,
+        at: offsets::of_transcript(params, names::T),
+        cells: params.multiplicity * params.kappa,
+        parts: params.t_1,
     };
-    let b_at = offsets::of_job(p, names::MATRIX_B);
+    let b_at = offsets::of_job(params, names::MATRIX_B);
     store_digits(
         job,
         b_at,
         k,
         transcript,
         t,
-        p.b,
+        params.b,
         scratch,
         place,
         held.stored,
@@ -116,30 +116,30 @@ pub fn store_of_b(
 // Row k of C with the digits of g.
 pub fn store_of_c(
     job: &[u32],
-    p: EnvironmentParameters,
+    params: EnvironmentParameters,
     k: usize,
     transcript: &[u32],
     scratch: &mut [u32],
     place: usize,
     held: Held,
 )
-    requires { ⌜ Posed (now job) (now transcript) p × (k < p .«kappa_1») × Room (now scratch) place 1 ⌝ }
+    requires { ⌜ Posed (now job) (now transcript) params × (k < params .«kappa_1») × Room (now scratch) place 1 ⌝ }
     requires { ⌜ (held .stored ≡ true → AllHeld (now job) (now transcript) (now scratch) held) ⌝ }
     ensures { λ _. ⌜ now (scratch .exit) ≡ splice (now (scratch .entry)) place (words (of-C (now (job .entry)) (now (transcript .entry)) k)) ⌝ }
 {
     let g = Digits {
-        at: offsets::of_transcript(p, names::G),
-        cells: slices::triangle(p.multiplicity),
-        parts: p.t_2,
+        at: offsets::of_transcript(params, names::G),
+        cells: slices::triangle(params.multiplicity),
+        parts: params.t_2,
     };
-    let c_at = offsets::of_job(p, names::MATRIX_C);
+    let c_at = offsets::of_job(params, names::MATRIX_C);
     store_digits(
         job,
         c_at,
         k,
         transcript,
         g,
-        p.b,
+        params.b,
         scratch,
         place,
         held.stored,
@@ -150,30 +150,30 @@ pub fn store_of_c(
 // Row k of D with the digits of h.
 pub fn store_of_d(
     job: &[u32],
-    p: EnvironmentParameters,
+    params: EnvironmentParameters,
     k: usize,
     transcript: &[u32],
     scratch: &mut [u32],
     place: usize,
     held: Held,
 )
-    requires { ⌜ Posed (now job) (now transcript) p × (k < p .«kappa_2») × Room (now scratch) place 1 ⌝ }
+    requires { ⌜ Posed (now job) (now transcript) params × (k < params .«kappa_2») × Room (now scratch) place 1 ⌝ }
     requires { ⌜ (held .stored ≡ true → AllHeld (now job) (now transcript) (now scratch) held) ⌝ }
     ensures { λ _. ⌜ now (scratch .exit) ≡ splice (now (scratch .entry)) place (words (of-D (now (job .entry)) (now (transcript .entry)) k)) ⌝ }
 {
     let h = Digits {
-        at: offsets::of_transcript(p, names::H),
-        cells: slices::triangle(p.multiplicity),
-        parts: p.t_1,
+        at: offsets::of_transcript(params, names::H),
+        cells: slices::triangle(params.multiplicity),
+        parts: params.t_1,
     };
-    let d_at = offsets::of_job(p, names::MATRIX_D);
+    let d_at = offsets::of_job(params, names::MATRIX_D);
     store_digits(
         job,
         d_at,
         k,
         transcript,
         h,
-        p.b,
+        params.b,
         scratch,
         place,
         held.stored,
@@ -184,27 +184,27 @@ pub fn store_of_d(
 // Row `row` of A, B, C and D, one after another.
 pub fn store_row(
     job: &[u32],
-    p: EnvironmentParameters,
+    params: EnvironmentParameters,
     row: usize,
     transcript: &[u32],
     scratch: &mut [u32],
     place: usize,
     held: Held,
 )
-    requires { ⌜ Posed (now job) (now transcript) p × (row < row-count (parametersOf p)) × Room (now scratch) place 1 ⌝ }
+    requires { ⌜ Posed (now job) (now transcript) params × (row < row-count (parametersOf params)) × Room (now scratch) place 1 ⌝ }
     requires { ⌜ (held .stored ≡ true → AllHeld (now job) (now transcript) (now scratch) held) ⌝ }
     ensures { λ _. ⌜ now (scratch .exit) ≡ splice (now (scratch .entry)) place (words (row-product (now (job .entry)) (now (transcript .entry)) row)) ⌝ }
 {
-    let b = p.kappa;
-    let c = b + p.kappa_1;
-    let d = c + p.kappa_1;
+    let b = params.kappa;
+    let c = b + params.kappa_1;
+    let d = c + params.kappa_1;
     if row < b {
-        store_of_a(job, p, row, transcript, scratch, place);
+        store_of_a(job, params, row, transcript, scratch, place);
     } else if row < c {
-        store_of_b(job, p, row - b, transcript, scratch, place, held);
+        store_of_b(job, params, row - b, transcript, scratch, place, held);
     } else if row < d {
-        store_of_c(job, p, row - c, transcript, scratch, place, held);
+        store_of_c(job, params, row - c, transcript, scratch, place, held);
     } else {
-        store_of_d(job, p, row - d, transcript, scratch, place, held);
+        store_of_d(job, params, row - d, transcript, scratch, place, held);
     }
 }

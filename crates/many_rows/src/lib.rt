@@ -12,7 +12,7 @@ ghost use mathlib.Core.Bool.{true, false};
 ghost use Prim.Native.Nat.{_+_, _≤_, _<_};
 ghost use lib.ListN.{length, getD};
 ghost use Rattle.protocol.specs.Parameters.{parameters};
-ghost use Rattle.protocol.specs.Kept.{Kept};
+ghost use Rattle.protocol.specs.Unchanged.{Unchanged};
 ghost use Rattle.protocol.specs.Many.{many-need, transcript-part, row-count, All-rows-done};
 ghost use Rattle.relation.specs.Parameters.{parametersOf};
 ghost use Rattle.commitments.specs.Cells.{Room};
@@ -25,7 +25,7 @@ ghost use Rattle.many_rows.specs.Rows.{Rowable, stored-for, Products-zer
 // One row's product for transcript m, where it passes, in the window that starts at `start`.
 fn row_of_one(
     job: &[u32],
-    p: EnvironmentParameters,
+    params: EnvironmentParameters,
     row: usize,
     count: usize,
     m: usize,
@@ -35,23 +35,31 @@ fn row_of_one(
     place: usize,
     held: Held,
 )
-    requires { ⌜ (m < count) × (count ≤ 8) × (row < row-count (parametersOf p)) × Room (now scratch) place 1 ⌝ }
-    requires { ⌜ (pass ≡ true → Posed (now job) (transcript-part (parameters (now job)) count (now transcripts) m) p) ⌝ }
+    requires { ⌜ (m < count) × (count ≤ 8) × (row < row-count (parametersOf params)) × Room (now scratch) place 1 ⌝ }
+    requires { ⌜ (pass ≡ true → Posed (now job) (transcript-part (parameters (now job)) count (now transcripts) m) params) ⌝ }
     requires { ⌜ (pass ≡ true → held .stored ≡ true → AllHeld (now job) (transcript-part (parameters (now job)) count (now transcripts) m) (now scratch) held) ⌝ }
     ensures { λ _. ⌜ now (scratch .exit) ≡ stored-for (now (job .entry)) (now (transcripts .entry)) count row m place pass (now (scratch .entry)) ⌝ }
 {
     if pass {
-        let b = many_parts::transcript_bounds(transcripts.len(), p, count, m);
+        let b = many_parts::transcript_bounds(transcripts.len(), params, count, m);
         let from = b.from;
         let to = b.to;
-        many_row::store_row(job, p, row, &transcripts[from..to], scratch, place, held);
+        many_row::store_row(
+            job,
+            params,
+            row,
+            &transcripts[from..to],
+            scratch,
+            place,
+            held,
+        );
     }
 }
 
 // One row's products for every transcript that passes.
 fn row_of_all(
     job: &[u32],
-    p: EnvironmentParameters,
+    params: EnvironmentParameters,
     row: usize,
     count: usize,
     passes: [bool; 8],
@@ -59,23 +67,23 @@ fn row_of_all(
     scratch: &mut [u32],
     stored: bool,
 )
-    requires { ⌜ Rowable (now job) (now transcripts) count (λ m. getD passes m false) (length (now scratch)) p × (row < row-count (parametersOf p)) ⌝ }
+    requires { ⌜ Rowable (now job) (now transcripts) count (λ m. getD passes m false) (length (now scratch)) params × (row < row-count (parametersOf params)) ⌝ }
     requires { ⌜ All-rows-done (now job) count (λ m. getD passes m false) (now transcripts) (now scratch) row ⌝ }
     requires { ⌜ Stored-digits (now job) count (λ m. getD passes m false) (now transcripts) (now scratch) stored ⌝ }
     ensures { λ _. ⌜ All-rows-done (now (job .entry)) count (λ m. getD passes m false) (now (transcripts .entry)) (now (scratch .exit)) (row + 1) ⌝ }
     ensures { λ _. ⌜ Stored-digits (now (job .entry)) count (λ m. getD passes m false) (now (transcripts .entry)) (now (scratch .exit)) stored ⌝ }
-    ensures { λ _. ⌜ Kept (many-need (parameters (now (job .entry))) count) (now (scratch .entry)) (now (scratch .exit)) ⌝ }
+    ensures { λ _. ⌜ Unchanged (many-need (parameters (now (job .entry))) count) (now (scratch .entry)) (now (scratch .exit)) ⌝ }
 {
-    let need = buffers::scratch_length(p);
+    let need = buffers::scratch_length(params);
     let mut m = 0;
     let mut start = 0;
     while m < count {
         let pass = passes[m];
         let place = start + need - 4096 + 64 * row;
-        let held = many_windows::places(p, start, stored);
+        let held = many_windows::places(params, start, stored);
         row_of_one(
             job,
-            p,
+            params,
             row,
             count,
             m,
@@ -93,7 +101,7 @@ fn row_of_all(
 // The rows from `first` to before `last`, one after another.
 fn some_rows(
     job: &[u32],
-    p: EnvironmentParameters,
+    params: EnvironmentParameters,
     first: usize,
     last: usize,
     count: usize,
@@ -102,26 +110,35 @@ fn some_rows(
     scratch: &mut [u32],
     stored: bool,
 )
-    requires { ⌜ Rowable (now job) (now transcripts) count (λ m. getD passes m false) (length (now scratch)) p × (first ≤ last) × (last ≤ row-count (parametersOf p)) ⌝ }
+    requires { ⌜ Rowable (now job) (now transcripts) count (λ m. getD passes m false) (length (now scratch)) params × (first ≤ last) × (last ≤ row-count (parametersOf params)) ⌝ }
     requires { ⌜ All-rows-done (now job) count (λ m. getD passes m false) (now transcripts) (now scratch) first ⌝ }
     requires { ⌜ Stored-digits (now job) count (λ m. getD passes m false) (now transcripts) (now scratch) stored ⌝ }
     ensures { λ _. ⌜ All-rows-done (now (job .entry)) count (λ m. getD passes m false) (now (transcripts .entry)) (now (scratch .exit)) last ⌝ }
-    ensures { λ _. ⌜ Kept (many-need (parameters (now (job .entry))) count) (now (scratch .entry)) (now (scratch .exit)) ⌝ }
+    ensures { λ _. ⌜ Unchanged (many-need (parameters (now (job .entry))) count) (now (scratch .entry)) (now (scratch .exit)) ⌝ }
 {
     let mut row = first;
     while row < last {
-        row_of_all(job, p, row, count, passes, transcripts, scratch, stored);
+        row_of_all(
+            job,
+            params,
+            row,
+            count,
+            passes,
+            transcripts,
+            scratch,
+            stored,
+        );
         row += 1;
     }
 }
 
 // The products' part of every window set to zero.
-fn clear_products(p: EnvironmentParameters, count: usize, scratch: &mut [u32])
-    requires { ⌜ Sized (parametersOf p) × (many-need (parametersOf p) count ≤ length (now scratch)) ⌝ }
-    ensures { λ _. ⌜ Products-zero (parametersOf p) count (now (scratch .exit)) ⌝ }
-    ensures { λ _. ⌜ Kept (many-need (parametersOf p) count) (now (scratch .entry)) (now (scratch .exit)) ⌝ }
+fn clear_products(params: EnvironmentParameters, count: usize, scratch: &mut [u32])
+    requires { ⌜ Sized (parametersOf params) × (many-need (parametersOf params) count ≤ length (now scratch)) ⌝ }
+    ensures { λ _. ⌜ Products-zero (parametersOf params) count (now (scratch .exit)) ⌝ }
+    ensures { λ _. ⌜ Unchanged (many-need (parametersOf params) count) (now (scratch .entry)) (now (scratch .exit)) ⌝ }
 {
-    let need = buffers::scratch_length(p);
+    let need = buffers::scratch_length(params);
     let mut m = 0;
     let mut start = 0;
     while m < count {
@@ -131,28 +148,28 @@ fn clear_products(p: EnvironmentParameters, count: usize, scratch: &mut [u32])
     }
 }
 
-// The rows of A, by kept transforms where these cost less.
+// The rows of A, in NTT form where this costs less.
 fn rows_of_a(
     job: &[u32],
-    p: EnvironmentParameters,
+    params: EnvironmentParameters,
     count: usize,
     passes: [bool; 8],
     transcripts: &[u32],
     scratch: &mut [u32],
 )
-    requires { ⌜ Rowable (now job) (now transcripts) count (λ m. getD passes m false) (length (now scratch)) p ⌝ }
+    requires { ⌜ Rowable (now job) (now transcripts) count (λ m. getD passes m false) (length (now scratch)) params ⌝ }
     requires { ⌜ All-rows-done (now job) count (λ m. getD passes m false) (now transcripts) (now scratch) 0 ⌝ }
     ensures { λ _. ⌜ All-rows-done (now (job .entry)) count (λ m. getD passes m false) (now (transcripts .entry)) (now (scratch .exit)) (parameters (now (job .entry)) .κ) ⌝ }
-    ensures { λ _. ⌜ Kept (many-need (parameters (now (job .entry))) count) (now (scratch .entry)) (now (scratch .exit)) ⌝ }
+    ensures { λ _. ⌜ Unchanged (many-need (parameters (now (job .entry))) count) (now (scratch .entry)) (now (scratch .exit)) ⌝ }
 {
-    if many_a_rows::shared(p, count) {
-        many_a_rows::rows_of_a(job, p, count, passes, transcripts, scratch);
+    if many_a_rows::shared(params, count) {
+        many_a_rows::rows_of_a(job, params, count, passes, transcripts, scratch);
     } else {
         some_rows(
             job,
-            p,
+            params,
             0,
-            p.kappa,
+            params.kappa,
             count,
             passes,
             transcripts,
@@ -165,41 +182,61 @@ fn rows_of_a(
 // The rows of B, C and D, with the digits stored where they have room.
 fn other_rows(
     job: &[u32],
-    p: EnvironmentParameters,
+    params: EnvironmentParameters,
     count: usize,
     passes: [bool; 8],
     transcripts: &[u32],
     scratch: &mut [u32],
 )
-    requires { ⌜ Rowable (now job) (now transcripts) count (λ m. getD passes m false) (length (now scratch)) p ⌝ }
+    requires { ⌜ Rowable (now job) (now transcripts) count (λ m. getD passes m false) (length (now scratch)) params ⌝ }
     requires { ⌜ All-rows-done (now job) count (λ m. getD passes m false) (now transcripts) (now scratch) (parameters (now job) .κ) ⌝ }
     ensures { λ _. ⌜ All-rows-done (now (job .entry)) count (λ m. getD passes m false) (now (transcripts .entry)) (now (scratch .exit)) (row-count (parameters (now (job .entry)))) ⌝ }
-    ensures { λ _. ⌜ Kept (many-need (parameters (now (job .entry))) count) (now (scratch .entry)) (now (scratch .exit)) ⌝ }
+    ensures { λ _. ⌜ Unchanged (many-need (parameters (now (job .entry))) count) (now (scratch .entry)) (now (scratch .exit)) ⌝ }
 {
-    let a = p.kappa;
-    let rows = a + p.kappa_1 + p.kappa_1 + p.kappa_2;
-    if many_windows::fits(p) {
-        many_windows::digits_of_all(job, p, count, passes, transcripts, scratch);
-        some_rows(job, p, a, rows, count, passes, transcripts, scratch, true);
+    let a = params.kappa;
+    let rows = a + params.kappa_1 + params.kappa_1 + params.kappa_2;
+    if many_windows::fits(params) {
+        many_windows::digits_of_all(job, params, count, passes, transcripts, scratch);
+        some_rows(
+            job,
+            params,
+            a,
+            rows,
+            count,
+            passes,
+            transcripts,
+            scratch,
+            true,
+        );
     } else {
-        some_rows(job, p, a, rows, count, passes, transcripts, scratch, false);
+        some_rows(
+            job,
+            params,
+            a,
+            rows,
+            count,
+            passes,
+            transcripts,
+            scratch,
+            false,
+        );
     }
 }
 
 // All rows.
 pub fn row_products(
     job: &[u32],
-    p: EnvironmentParameters,
+    params: EnvironmentParameters,
     count: usize,
     passes: [bool; 8],
     transcripts: &[u32],
     scratch: &mut [u32],
 )
-    requires { ⌜ Rowable (now job) (now transcripts) count (λ m. getD passes m false) (length (now scratch)) p ⌝ }
+    requires { ⌜ Rowable (now job) (now transcripts) count (λ m. getD passes m false) (length (now scratch)) params ⌝ }
     ensures { λ _. ⌜ All-rows-done (now (job .entry)) count (λ m. getD passes m false) (now (transcripts .entry)) (now (scratch .exit)) (row-count (parameters (now (job .entry)))) ⌝ }
-    ensures { λ _. ⌜ Kept (many-need (parameters (now (job .entry))) count) (now (scratch .entry)) (now (scratch .exit)) ⌝ }
+    ensures { λ _. ⌜ Unchanged (many-need (parameters (now (job .entry))) count) (now (scratch .entry)) (now (scratch .exit)) ⌝ }
 {
-    clear_products(p, count, scratch);
-    rows_of_a(job, p, count, passes, transcripts, scratch);
-    other_rows(job, p, count, passes, transcripts, scratch);
+    clear_products(params, count, scratch);
+    rows_of_a(job, params, count, passes, transcripts, scratch);
+    other_rows(job, params, count, passes, transcripts, scratch);
 }

@@ -7,7 +7,7 @@ use borrow.Rule.Slice.PartMut.{putMid, same-len-mid, drop-put}
 use lib.ListN.{length, take, drop}
 use Rattle.lists.specs.Part.{part}
 use Rattle.lists.proofs.Splice.{length-part}
-use Rattle.protocol.specs.Kept.{Kept}
+use Rattle.protocol.specs.Unchanged.{Unchanged}
 
 -- one more window
 pub next : (m need : ℕ) → m * need + need ≡ (m + 1) * need
@@ -25,14 +25,14 @@ module _ (S : List ℕ) (m need n : ℕ) (e : n ≡ need) (room : (m + 1) * need
   lent-length = ap length lent-window ∙ length-part S (m * need) need (omega (arith, next m need))
 
   -- the scratch with other words in the window
-  pub kept-window : (W : List ℕ) → length W ≡ length (take (m * n + n - m * n) (drop (m * n) S)) → Kept ((m + 1) * need) S (putMid (m * n) (m * n + n - m * n) S W)
-  kept-window W size =
+  pub unchanged-window : (W : List ℕ) → length W ≡ length (take (m * n + n - m * n) (drop (m * n) S)) → Unchanged ((m + 1) * need) S (putMid (m * n) (m * n + n - m * n) S W)
+  unchanged-window W size =
       let stop : m * n + n ≡ (m + 1) * need = ap (λ k. m * k + k) e ∙ next m need in
-      subst (λ k. Kept k S (putMid (m * n) (m * n + n - m * n) S W)) stop record {
+      subst (λ k. Unchanged k S (putMid (m * n) (m * n + n - m * n) S W)) stop record {
         size = same-len-mid (m * n) (m * n + n - m * n) S W size;
         beyond = drop-put (m * n) (m * n + n) S W (omega arith) inside (omega (arith, size, lent-length, e));
       }
 
 -- a window that lies in what is as it was
-pub same-window : (S S′ : List ℕ) (m need : ℕ) → Kept (m * need) S S′ → part S′ (m * need) need ≡ part S (m * need) need
-same-window S S′ m need kept = ap (take need) (kept .beyond)
+pub same-window : (S S′ : List ℕ) (m need : ℕ) → Unchanged (m * need) S S′ → part S′ (m * need) need ≡ part S (m * need) need
+same-window S S′ m need unchanged = ap (take need) (unchanged .beyond)

@@ -7,7 +7,7 @@ use relation::env_params::EnvironmentParameters;
 ghost use mathlib.Core.Path.{_≡_};
 ghost use lib.ListN.{length, replicate};
 ghost use Rattle.protocol.specs.Parameters.{parameters};
-ghost use Rattle.protocol.specs.Kept.{Kept};
+ghost use Rattle.protocol.specs.Unchanged.{Unchanged};
 ghost use Rattle.protocol.specs.Many.{many-need};
 ghost use Rattle.call_answers.specs.Calls.{failedCheck};
 ghost use Rattle.many_admission.specs.Admitted.{Many-given, TranscriptsFound};
@@ -34,27 +34,27 @@ pub fn verdicts(
     job: &[u32],
     randomness: &[u32],
     transcripts: &[u32],
-    p: EnvironmentParameters,
+    params: EnvironmentParameters,
     count: usize,
     found: [SliceChecked; 8],
     scratch: &mut [u32],
     weighed: bool,
 ) -> [LabradorVerdict; 8]
-    requires { ⌜ Many-given (now job) count (length (now scratch)) p × TranscriptsFound (parameters (now job)) count (now transcripts) found ⌝ }
+    requires { ⌜ Many-given (now job) count (length (now scratch)) params × TranscriptsFound (parameters (now job)) count (now transcripts) found ⌝ }
     requires { ⌜ Rows-ready (now job) count (now randomness) (now transcripts) (now scratch) × All-weighed weighed (now job) count (now randomness) (now transcripts) (now scratch) ⌝ }
     ensures { λ r. ⌜ r ≡ verdicts-of (now (job .entry)) count (now (randomness .entry)) (now (transcripts .entry)) ⌝ }
-    ensures { λ r. ⌜ Kept (many-need (parameters (now (job .entry))) count) (now (scratch .entry)) (now (scratch .exit)) ⌝ }
+    ensures { λ r. ⌜ Unchanged (many-need (parameters (now (job .entry))) count) (now (scratch .entry)) (now (scratch .exit)) ⌝ }
 {
     let mut out = eight(4294967295);
     let mut m = 0;
     while m < count {
         let sent = found[m];
-        let one = check_part(randomness, p, count, m, sent);
+        let one = check_part(randomness, params, count, m, sent);
         let v = part::verdict(
             job,
             randomness,
             transcripts,
-            p,
+            params,
             count,
             m,
             one,

@@ -22,9 +22,9 @@ use Rattle.protocol.specs.Many.{many-need, transcript-part, products-at, All-ro
 use Rattle.rq_matrix.proofs.Place.{rows-within}
 use Rattle.commitments.specs.Cells.{Room, digits-at}
 use Rattle.commitments.proofs.Formula.{digits, vectors-cells, triangle-cells}
-use Rattle.workspace.specs.Holds.{Holds, Kept}
+use Rattle.workspace.specs.Holds.{Holds, Unchanged}
 use Rattle.workspace.proofs.Holds.{holds-stored, holds-before, holds-after, holds-first, holds-second}
-use Rattle.workspace.proofs.Kept.{kept-stored}
+use Rattle.workspace.proofs.Unchanged.{unchanged-stored}
 use Rattle.verifier_common.proofs.Sent.{transcript-at}
 use Rattle.many_row.specs.declared.Held.{Held}
 use Rattle.many_row.specs.Held.{digits-t, digits-g, digits-h, AllHeld}
@@ -111,8 +111,8 @@ module _ (J T₀ : List ℕ) (count : ℕ) (passes : ℕ → Bool) (ρ : ℕ) (S
   width = scratch-need (parameters J)
 
   -- a window's products are as they were
-  products-kept : (i : ℕ) → i < count → part S′ (i * width + (width - 4096)) 4096 ≡ part S (i * width + (width - 4096)) 4096
-  products-kept i k = ap (λ s. part s (i * width + (width - 4096)) 4096) e ∙ by (decLt i m)
+  products-unchanged : (i : ℕ) → i < count → part S′ (i * width + (width - 4096)) 4096 ≡ part S (i * width + (width - 4096)) 4096
+  products-unchanged i k = ap (λ s. part s (i * width + (width - 4096)) 4096) e ∙ by (decLt i m)
     where
       by : Dec (i < m) → part (splice S start new) (i * width + (width - 4096)) 4096 ≡ part S (i * width + (width - 4096)) 4096
       by (yes less) = part-splice-before 0 S start new (i * width + (width - 4096)) 4096 (omega (arith, at, rows-within i m width less))
@@ -121,7 +121,7 @@ module _ (J T₀ : List ℕ) (count : ℕ) (passes : ℕ → Bool) (ρ : ℕ) (S
   pub rows-stay : All-rows-done J count passes T₀ S ρ → All-rows-done J count passes T₀ S′ ρ
   rows-stay done i c u =
       of-done J (transcript-part (parameters J) count T₀ i) S′ i ρ (omega (arith, rows-within i count width c, ap length e, length-splice S start new))
-      (products-kept i c ∙ done-of J (transcript-part (parameters J) count T₀ i) S i ρ (omega (arith, rows-within i count width c)) (done i c u))
+      (products-unchanged i c ∙ done-of J (transcript-part (parameters J) count T₀ i) S i ρ (omega (arith, rows-within i count width c)) (done i c u))
 
 -- one transcript more
 module _ (J T₀ : List ℕ) (count : ℕ) (passes : ℕ → Bool) (ρ : ℕ) where
@@ -172,13 +172,13 @@ module _ (J T₀ : List ℕ) (count : ℕ) (passes : ℕ → Bool) (ρ : ℕ) wh
             let z : _≡_ {A = ℕ} 0 1 = cc in
             absurd (omega arith)
 
-    kept-next : (pass : Bool) → S′ ≡ digits-for (parameters J) T₀ count m start pass S → Kept (many-need (parameters J) count) S₀ S → Kept (many-need (parameters J) count) S₀ S′
-    kept-next true e k = kept-stored (many-need (parameters J) count) S₀ S S′ start (words-of m) k e (omega (arith, at, size m, fitting, rows-within m count need h))
-    kept-next false e k = subst (λ s. Kept (many-need (parameters J) count) S₀ s) (sym e) k
+    unchanged-next : (pass : Bool) → S′ ≡ digits-for (parameters J) T₀ count m start pass S → Unchanged (many-need (parameters J) count) S₀ S → Unchanged (many-need (parameters J) count) S₀ S′
+    unchanged-next true e k = unchanged-stored (many-need (parameters J) count) S₀ S S′ start (words-of m) k e (omega (arith, at, size m, fitting, rows-within m count need h))
+    unchanged-next false e k = subst (λ s. Unchanged (many-need (parameters J) count) S₀ s) (sym e) k
 
     -- the digits of transcript m stored too, where it passes
     pub begun-next : (P : Parameters) → P ≡ parameters J → (pass : Bool) → pass ≡ passes m → S′ ≡ digits-for P T₀ count m start pass S
-        → Begun S m × Kept (many-need (parameters J) count) S₀ S → Begun S′ (m + 1) × Kept (many-need (parameters J) count) S₀ S′
+        → Begun S m × Unchanged (many-need (parameters J) count) S₀ S → Begun S′ (m + 1) × Unchanged (many-need (parameters J) count) S₀ S′
     begun-next P same pass t stored (b, k) =
         let e : S′ ≡ digits-for (parameters J) T₀ count m start pass S = stored ∙ ap (λ P. digits-for P T₀ count m start pass S) same in
-        (next pass t e b, kept-next pass e k)
+        (next pass t e b, unchanged-next pass e k)

@@ -20,9 +20,9 @@ use Rattle.protocol.specs.Many.{many-need, transcript-part, row-product, Rows-d
 use Rattle.protocol.proofs.Flat.{length-words, length-flat-table}
 use Rattle.protocol.proofs.Stored.{flat-append, flat-one}
 use Rattle.rq_matrix.proofs.Place.{rows-within}
-use Rattle.workspace.specs.Holds.{Holds, Kept}
+use Rattle.workspace.specs.Holds.{Holds, Unchanged}
 use Rattle.workspace.proofs.Holds.{holds-first, holds-second}
-use Rattle.workspace.proofs.Kept.{kept-stored}
+use Rattle.workspace.proofs.Unchanged.{unchanged-stored}
 use Rattle.many_windows.specs.Product.{stored-for}
 use Rattle.many_windows.proofs.Windows.{products, done-of, of-done}
 
@@ -167,12 +167,12 @@ module _ (J T : List ℕ) (count : ℕ) (passes : ℕ → Bool) (ρ : ℕ) (S₀
   abbrev e : Element
   e = row-product J (transcript-part (parameters J) count T m) ρ
 
-  pub progress-next : (pass : Bool) → pass ≡ passes m → S′ ≡ stored-for J T count ρ m place pass S → Progress J T count passes ρ S m × Kept K S₀ S → Progress J T count passes ρ S′ (m + 1) × Kept K S₀ S′
-  progress-next true t stored (p, kept) =
+  pub progress-next : (pass : Bool) → pass ≡ passes m → S′ ≡ stored-for J T count ρ m place pass S → Progress J T count passes ρ S m × Unchanged K S₀ S → Progress J T count passes ρ S′ (m + 1) × Unchanged K S₀ S′
+  progress-next true t stored (p, unchanged) =
       let put : S′ ≡ splice S (m * scratch-need (parameters J) + (scratch-need (parameters J) - 4096) + 64 * ρ) (words e) = stored ∙ ap (λ a. splice S a (words e)) at in (
         progress-stored J T count passes ρ S S′ m few room h put (sym t) p,
-        kept-stored K S₀ S S′ place (words e) kept stored (omega (arith, at, few, length-words e, rows-within m count (scratch-need (parameters J)) h)),
+        unchanged-stored K S₀ S S′ place (words e) unchanged stored (omega (arith, at, few, length-words e, rows-within m count (scratch-need (parameters J)) h)),
       )
-  progress-next false t stored (p, kept) =
+  progress-next false t stored (p, unchanged) =
       let same = sym stored in
-      (progress-skipped J T count passes ρ S′ m (sym t) (subst (λ s. Progress J T count passes ρ s m) same p), subst (λ s. Kept K S₀ s) same kept)
+      (progress-skipped J T count passes ρ S′ m (sym t) (subst (λ s. Progress J T count passes ρ s m) same p), subst (λ s. Unchanged K S₀ s) same unchanged)

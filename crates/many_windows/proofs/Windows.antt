@@ -55,26 +55,26 @@ module _ (J X S : List ℕ) (m ρ : ℕ) (h : m * scratch-need (parameters J) + 
   of-done d = window-products (parameters J) S m h ∙ d
 
 -- what is known of a call's windows
-module _ (J T : List ℕ) (count : ℕ) (passes : ℕ → Bool) (scratch : ℕ) (p : EnvironmentParameters) (r : Rowable J T count passes scratch p) where
+module _ (J T : List ℕ) (count : ℕ) (passes : ℕ → Bool) (scratch : ℕ) (params : EnvironmentParameters) (r : Rowable J T count passes scratch params) where
   -- its parameters can be reckoned with
-  pub rowable-sized : Sized (parametersOf p)
-  rowable-sized = sized J (parametersOf p) (r .sound) (r .same)
+  pub rowable-sized : Sized (parametersOf params)
+  rowable-sized = sized J (parametersOf params) (r .sound) (r .same)
 
   -- a transcript that passes is posed
-  pub posed : (m : ℕ) → m < count → passes m ≡ true → Posed J (transcript-part (parameters J) count T m) p
+  pub posed : (m : ℕ) → m < count → passes m ≡ true → Posed J (transcript-part (parameters J) count T m) params
   posed m h t = record { same = r .same; sound = r .sound; job = r .job; transcript = r .laid m h t }
 
   -- and received, by the code's parameters
-  pub part-received : (m : ℕ) → m < count → passes m ≡ true → Received (transcript-part (parametersOf p) count T m) p
-  part-received m h t = subst (λ P. Received (transcript-part P count T m) p) (sym (r .same)) (received (posed m h t))
+  pub part-received : (m : ℕ) → m < count → passes m ≡ true → Received (transcript-part (parametersOf params) count T m) params
+  part-received m h t = subst (λ P. Received (transcript-part P count T m) params) (sym (r .same)) (received (posed m h t))
 
   -- the rows are few
-  pub few-rows : row-count (parametersOf p) ≤ 64
+  pub few-rows : row-count (parametersOf params) ≤ 64
   few-rows =
       let w = rowable-sized .within in
       omega (arith, w .κ .1, w .κ₁ .1, w .κ₂ .1)
 
-  module _ (n : ℕ) (e : n ≡ scratch-need (parametersOf p)) where
+  module _ (n : ℕ) (e : n ≡ scratch-need (parametersOf params)) where
     -- the length needed, by the job's parameters
     pub need-is : n ≡ scratch-need (parameters J)
     need-is = e ∙ ap scratch-need (r .same)

@@ -12,8 +12,8 @@ use Rattle.relation.specs.Parameters.{parametersOf}
 use Rattle.relation.specs.SectionOne.{Sound}
 
 -- a job that is refused nothing, scratch enough for so many transcripts, and those of them that pass 9 and 10
-pub record Rowable (J T : List ℕ) (count : ℕ) (passes : ℕ → Bool) (scratch : ℕ) (p : EnvironmentParameters) : Type 0 where
-  pub same : parametersOf p ≡ parameters J
+pub record Rowable (J T : List ℕ) (count : ℕ) (passes : ℕ → Bool) (scratch : ℕ) (params : EnvironmentParameters) : Type 0 where
+  pub same : parametersOf params ≡ parameters J
   pub sound : Sound J
   pub job : Laid J 31 (job-sections (parameters J))
   pub few : count ≤ 8

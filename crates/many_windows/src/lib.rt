@@ -15,7 +15,7 @@ ghost use lib.Dec.{leb};
 ghost use lib.ListN.{length, getD};
 ghost use Rattle.lists.specs.Part.{splice};
 ghost use Rattle.protocol.specs.Parameters.{parameters};
-ghost use Rattle.protocol.specs.Kept.{Kept};
+ghost use Rattle.protocol.specs.Unchanged.{Unchanged};
 ghost use Rattle.protocol.specs.Many.{many-need, transcript-part, products-at, All-rows-done};
 ghost use Rattle.relation.specs.Parameters.{parametersOf};
 ghost use Rattle.commitments.specs.Cells.{Room};
@@ -25,23 +25,23 @@ ghost use Rattle.many_windows.specs.Rowable.{Rowable};
 ghost use Rattle.many_windows.specs.Digits.{digit-count, Fitting, window-digits, digits-for, Places, All-digits};
 
 // Whether the digits of a transcript have room in its window before the products.
-pub fn fits(p: EnvironmentParameters) -> bool
-    requires { ⌜ Sized (parametersOf p) ⌝ }
-    ensures { λ r. ⌜ r ≡ leb (64 * digit-count (parametersOf p)) (products-at (parametersOf p)) ⌝ }
+pub fn fits(params: EnvironmentParameters) -> bool
+    requires { ⌜ Sized (parametersOf params) ⌝ }
+    ensures { λ r. ⌜ r ≡ leb (64 * digit-count (parametersOf params)) (products-at (parametersOf params)) ⌝ }
 {
-    let t = p.multiplicity * p.kappa * p.t_1;
-    let cells = slices::triangle(p.multiplicity);
-    let gh = cells * p.t_2 + cells * p.t_1;
-    64 * (t + gh) <= buffers::scratch_length(p) - 4096
+    let t = params.multiplicity * params.kappa * params.t_1;
+    let cells = slices::triangle(params.multiplicity);
+    let gh = cells * params.t_2 + cells * params.t_1;
+    64 * (t + gh) <= buffers::scratch_length(params) - 4096
 }
 
 // The places of the digits in the window that starts at `start`.
-pub fn places(p: EnvironmentParameters, start: usize, stored: bool) -> Held
-    requires { ⌜ Sized (parametersOf p) × (start < 2 ^ 61) ⌝ }
-    ensures { λ h. ⌜ Places (parametersOf p) start stored h ⌝ }
+pub fn places(params: EnvironmentParameters, start: usize, stored: bool) -> Held
+    requires { ⌜ Sized (parametersOf params) × (start < 2 ^ 61) ⌝ }
+    ensures { λ h. ⌜ Places (parametersOf params) start stored h ⌝ }
 {
-    let t = p.multiplicity * p.kappa * p.t_1;
-    let g = slices::triangle(p.multiplicity) * p.t_2;
+    let t = params.multiplicity * params.kappa * params.t_1;
+    let g = slices::triangle(params.multiplicity) * params.t_2;
     Held {
         stored,
         t: start,
@@ -51,35 +51,40 @@ pub fn places(p: EnvironmentParameters, start: usize, stored: bool) -> Held
 }
 
 // The digits of t, g and h of a transcript, stored at their places.
-fn store_window(transcript: &[u32], p: EnvironmentParameters, scratch: &mut [u32], start: usize)
-    requires { ⌜ Received (now transcript) p × Room (now scratch) start (digit-count (parametersOf p)) ⌝ }
-    ensures { λ _. ⌜ now (scratch .exit) ≡ splice (now (scratch .entry)) start (window-digits (parametersOf p) (now (transcript .entry))) ⌝ }
+fn store_window(
+    transcript: &[u32],
+    params: EnvironmentParameters,
+    scratch: &mut [u32],
+    start: usize,
+)
+    requires { ⌜ Received (now transcript) params × Room (now scratch) start (digit-count (parametersOf params)) ⌝ }
+    ensures { λ _. ⌜ now (scratch .exit) ≡ splice (now (scratch .entry)) start (window-digits (parametersOf params) (now (transcript .entry))) ⌝ }
 {
-    let at = places(p, start, true);
-    let cells = slices::triangle(p.multiplicity);
+    let at = places(params, start, true);
+    let cells = slices::triangle(params.multiplicity);
     let t = Digits {
-        at: offsets::of_transcript(p, names::T),
-        cells: p.multiplicity * p.kappa,
-        parts: p.t_1,
+        at: offsets::of_transcript(params, names::T),
+        cells: params.multiplicity * params.kappa,
+        parts: params.t_1,
     };
     let g = Digits {
-        at: offsets::of_transcript(p, names::G),
+        at: offsets::of_transcript(params, names::G),
         cells,
-        parts: p.t_2,
+        parts: params.t_2,
     };
     let h = Digits {
-        at: offsets::of_transcript(p, names::H),
+        at: offsets::of_transcript(params, names::H),
         cells,
-        parts: p.t_1,
+        parts: params.t_1,
     };
-    many_digits::store_cells(transcript, t, p.b, scratch, at.t);
-    many_digits::store_cells(transcript, g, p.b, scratch, at.g);
-    many_digits::store_cells(transcript, h, p.b, scratch, at.h);
+    many_digits::store_cells(transcript, t, params.b, scratch, at.t);
+    many_digits::store_cells(transcript, g, params.b, scratch, at.g);
+    many_digits::store_cells(transcript, h, params.b, scratch, at.h);
 }
 
 // The digits of transcript m, where it passes.
 fn digits_of_one(
-    p: EnvironmentParameters,
+    params: EnvironmentParameters,
     count: usize,
     m: usize,
     pass: bool,
@@ -87,39 +92,39 @@ fn digits_of_one(
     scratch: &mut [u32],
     start: usize,
 )
-    requires { ⌜ (m < count) × (count ≤ 8) × Room (now scratch) start (digit-count (parametersOf p)) ⌝ }
-    requires { ⌜ (pass ≡ true → Received (transcript-part (parametersOf p) count (now transcripts) m) p) ⌝ }
-    ensures { λ _. ⌜ now (scratch .exit) ≡ digits-for (parametersOf p) (now (transcripts .entry)) count m start pass (now (scratch .entry)) ⌝ }
+    requires { ⌜ (m < count) × (count ≤ 8) × Room (now scratch) start (digit-count (parametersOf params)) ⌝ }
+    requires { ⌜ (pass ≡ true → Received (transcript-part (parametersOf params) count (now transcripts) m) params) ⌝ }
+    ensures { λ _. ⌜ now (scratch .exit) ≡ digits-for (parametersOf params) (now (transcripts .entry)) count m start pass (now (scratch .entry)) ⌝ }
 {
     if pass {
-        let b = many_parts::transcript_bounds(transcripts.len(), p, count, m);
+        let b = many_parts::transcript_bounds(transcripts.len(), params, count, m);
         let from = b.from;
         let to = b.to;
-        store_window(&transcripts[from..to], p, scratch, start);
+        store_window(&transcripts[from..to], params, scratch, start);
     }
 }
 
 // The digits of every transcript that passes, each at the start of its window, after the rows of A.
 pub fn digits_of_all(
     job: &[u32],
-    p: EnvironmentParameters,
+    params: EnvironmentParameters,
     count: usize,
     passes: [bool; 8],
     transcripts: &[u32],
     scratch: &mut [u32],
 )
-    requires { ⌜ Rowable (now job) (now transcripts) count (λ m. getD passes m false) (length (now scratch)) p × Fitting (parametersOf p) ⌝ }
+    requires { ⌜ Rowable (now job) (now transcripts) count (λ m. getD passes m false) (length (now scratch)) params × Fitting (parametersOf params) ⌝ }
     requires { ⌜ All-rows-done (now job) count (λ m. getD passes m false) (now transcripts) (now scratch) (parameters (now job) .κ) ⌝ }
     ensures { λ _. ⌜ All-rows-done (now (job .entry)) count (λ m. getD passes m false) (now (transcripts .entry)) (now (scratch .exit)) (parameters (now (job .entry)) .κ) ⌝ }
     ensures { λ _. ⌜ All-digits (now (job .entry)) count (λ m. getD passes m false) (now (transcripts .entry)) (now (scratch .exit)) ⌝ }
-    ensures { λ _. ⌜ Kept (many-need (parameters (now (job .entry))) count) (now (scratch .entry)) (now (scratch .exit)) ⌝ }
+    ensures { λ _. ⌜ Unchanged (many-need (parameters (now (job .entry))) count) (now (scratch .entry)) (now (scratch .exit)) ⌝ }
 {
-    let need = buffers::scratch_length(p);
+    let need = buffers::scratch_length(params);
     let mut m = 0;
     let mut start = 0;
     while m < count {
         let pass = passes[m];
-        digits_of_one(p, count, m, pass, transcripts, scratch, start);
+        digits_of_one(params, count, m, pass, transcripts, scratch, start);
         start += need;
         m += 1;
     }

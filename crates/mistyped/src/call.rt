@@ -23,18 +23,18 @@ fn judge_failed(
     job: &[u32],
     randomness: &[u32],
     transcript: &[u32],
-    p: EnvironmentParameters,
+    params: EnvironmentParameters,
     check: FailedCheck,
     list: &mut [u32],
 ) -> MistypedAnswer
-    requires { ⌜ Sent (now job) (now randomness) (now transcript) p × (2 * p .«constraint_l» ≤ length (now list)) ⌝ }
+    requires { ⌜ Sent (now job) (now randomness) (now transcript) params × (2 * params .«constraint_l» ≤ length (now list)) ⌝ }
     requires { ⌜ ofFailed check ≡ verdict-of (now job) (now randomness) (now transcript) ⌝ }
     ensures { λ r. ⌜ Judged (now (job .entry)) (now (randomness .entry)) (now (transcript .entry)) (now (list .entry)) (now (list .exit)) r ⌝ }
 {
     let FailedCheck::B0Mismatch { .. } = check else {
         return answers::refused(32, 0);
     };
-    let entries = mistyped_entries::enter_all(job, randomness, transcript, p, list);
+    let entries = mistyped_entries::enter_all(job, randomness, transcript, params, list);
     answers::counted(entries)
 }
 
@@ -43,18 +43,18 @@ fn judge(
     job: &[u32],
     randomness: &[u32],
     transcript: &[u32],
-    p: EnvironmentParameters,
+    params: EnvironmentParameters,
     verdict: Verdict,
     list: &mut [u32],
 ) -> MistypedAnswer
-    requires { ⌜ Sent (now job) (now randomness) (now transcript) p × (2 * p .«constraint_l» ≤ length (now list)) ⌝ }
+    requires { ⌜ Sent (now job) (now randomness) (now transcript) params × (2 * params .«constraint_l» ≤ length (now list)) ⌝ }
     requires { ⌜ ofVerdict verdict ≡ verdict-of (now job) (now randomness) (now transcript) ⌝ }
     ensures { λ r. ⌜ Judged (now (job .entry)) (now (randomness .entry)) (now (transcript .entry)) (now (list .entry)) (now (list .exit)) r ⌝ }
 {
     match verdict {
         Verdict::Accepted(_) => answers::refused(32, 0),
         Verdict::Refused(refusal) => answers::refusal_of(refusal),
-        Verdict::Failed(check) => judge_failed(job, randomness, transcript, p, check, list),
+        Verdict::Failed(check) => judge_failed(job, randomness, transcript, params, check, list),
     }
 }
 
@@ -63,17 +63,17 @@ fn work(
     job: &[u32],
     randomness: &[u32],
     transcript: &[u32],
-    p: EnvironmentParameters,
+    params: EnvironmentParameters,
     scratch: &mut [u32],
     list: &mut [u32],
 ) -> MistypedAnswer
-    requires { ⌜ Verifiable (now job) (now randomness) (now transcript) (length (now scratch)) p × (2 * p .«constraint_l» ≤ length (now list)) ⌝ }
+    requires { ⌜ Verifiable (now job) (now randomness) (now transcript) (length (now scratch)) params × (2 * params .«constraint_l» ≤ length (now list)) ⌝ }
     ensures { λ r. ⌜ Worked (now (job .entry)) (now (randomness .entry)) (now (transcript .entry)) (now (list .entry)) (now (list .exit)) r ⌝ }
     ensures { λ r. ⌜ now (scratch .exit) ≡ zeroed (scratch-need (parameters (now (job .entry)))) (now (scratch .entry)) ⌝ }
 {
-    words::clear(list, 2 * p.constraint_l);
-    let verdict = verify::work_and_clear(job, randomness, transcript, p, scratch);
-    judge(job, randomness, transcript, p, verdict, list)
+    words::clear(list, 2 * params.constraint_l);
+    let verdict = verify::work_and_clear(job, randomness, transcript, params, scratch);
+    judge(job, randomness, transcript, params, verdict, list)
 }
 
 // "lists each index l for which adding one number to b0[l] alone would let check 22 pass".
@@ -88,12 +88,12 @@ pub fn mistyped(
 {
     match admission_order::verifier::admit(job, randomness, transcript, scratch.len()) {
         Admitted::Refused(refusal) => answers::refusal_of(refusal),
-        Admitted::Fit(p) => {
-            let need = 2 * p.constraint_l;
+        Admitted::Fit(params) => {
+            let need = 2 * params.constraint_l;
             if list.len() < need {
                 return answers::refused(2, need);
             }
-            work(job, randomness, transcript, p, scratch, list)
+            work(job, randomness, transcript, params, scratch, list)
         }
     }
 }

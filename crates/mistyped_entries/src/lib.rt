@@ -17,18 +17,18 @@ fn row_lacking(
     job: &[u32],
     randomness: &[u32],
     transcript: &[u32],
-    p: EnvironmentParameters,
+    params: EnvironmentParameters,
     k: usize,
 ) -> u32
-    requires { ⌜ Sent (now job) (now randomness) (now transcript) p × (k < p .«const_agg_length») ⌝ }
+    requires { ⌜ Sent (now job) (now randomness) (now transcript) params × (k < params .«const_agg_length») ⌝ }
     ensures { λ r. ⌜ r ≡ lacking (now (job .entry)) (now (randomness .entry)) (now (transcript .entry)) k ⌝ }
 {
-    let l = p.constraint_l;
-    let b0 = offsets::of_job(p, names::CONSTANT_B);
-    let psi = offsets::of_randomness(p, names::PSI);
-    let omega = offsets::of_randomness(p, names::OMEGA);
-    let projection = offsets::of_transcript(p, names::P);
-    let at = offsets::of_transcript(p, names::B_DOUBLE_PRIME);
+    let l = params.constraint_l;
+    let b0 = offsets::of_job(params, names::CONSTANT_B);
+    let psi = offsets::of_randomness(params, names::PSI);
+    let omega = offsets::of_randomness(params, names::OMEGA);
+    let projection = offsets::of_transcript(params, names::P);
+    let at = offsets::of_transcript(params, names::B_DOUBLE_PRIME);
     let sent = transcript[at + 64 * k];
     let computed = constant_terms::constant_term(
         job,
@@ -48,15 +48,15 @@ fn rows_lacking(
     job: &[u32],
     randomness: &[u32],
     transcript: &[u32],
-    p: EnvironmentParameters,
+    params: EnvironmentParameters,
 ) -> [u32; 32]
-    requires { ⌜ Sent (now job) (now randomness) (now transcript) p ⌝ }
-    ensures { λ r. ⌜ r ≡ all-lacking (now (job .entry)) (now (randomness .entry)) (now (transcript .entry)) (p .«const_agg_length») ⌝ }
+    requires { ⌜ Sent (now job) (now randomness) (now transcript) params ⌝ }
+    ensures { λ r. ⌜ r ≡ all-lacking (now (job .entry)) (now (randomness .entry)) (now (transcript .entry)) (params .«const_agg_length») ⌝ }
 {
     let mut rows = [0u32; 32];
     let mut k = 0;
-    while k < p.const_agg_length {
-        rows[k] = row_lacking(job, randomness, transcript, p, k);
+    while k < params.const_agg_length {
+        rows[k] = row_lacking(job, randomness, transcript, params, k);
         k += 1;
     }
     rows
@@ -82,19 +82,25 @@ pub fn enter_all(
     job: &[u32],
     randomness: &[u32],
     transcript: &[u32],
-    p: EnvironmentParameters,
+    params: EnvironmentParameters,
     list: &mut [u32],
 ) -> usize
-    requires { ⌜ Sent (now job) (now randomness) (now transcript) p × (2 * p .«constraint_l» ≤ length (now list)) ⌝ }
-    ensures { λ r. ⌜ Entered (now (job .entry)) (now (randomness .entry)) (now (transcript .entry)) (p .«constraint_l») (now (list .entry)) r (now (list .exit)) ⌝ }
+    requires { ⌜ Sent (now job) (now randomness) (now transcript) params × (2 * params .«constraint_l» ≤ length (now list)) ⌝ }
+    ensures { λ r. ⌜ Entered (now (job .entry)) (now (randomness .entry)) (now (transcript .entry)) (params .«constraint_l») (now (list .entry)) r (now (list .exit)) ⌝ }
 {
-    let rows = rows_lacking(job, randomness, transcript, p);
-    let psi = offsets::of_randomness(p, names::PSI);
-    let l = p.constraint_l;
+    let rows = rows_lacking(job, randomness, transcript, params);
+    let psi = offsets::of_randomness(params, names::PSI);
+    let l = params.constraint_l;
     let mut count = 0;
     let mut i = 0;
     while i < l {
-        let found = mistyped_rows::smallest_for(randomness, psi + i, l, rows, p.const_agg_length);
+        let found = mistyped_rows::smallest_for(
+            randomness,
+            psi + i,
+            l,
+            rows,
+            params.const_agg_length,
+        );
         count = enter(list, count, i as u32, found);
         i += 1;
     }

@@ -9,11 +9,11 @@ use borrow.Author.Count.{below-more}
 use lib.ListN.{getD}
 use Rattle.definitions.specs.Zq.{Q}
 use Rattle.congruence.specs.declared.Congruence.{Congruence}
-use Rattle.congruence.specs.declared.Joined.{Joined}
-use Rattle.congruence.specs.declared.Joined.the-variants as J
+use Rattle.congruence.specs.declared.Combined.{Combined}
+use Rattle.congruence.specs.declared.Combined.the-variants as J
 use Rattle.congruence.specs.declared.Solution.{Solution}
 use Rattle.congruence.specs.declared.Solution.the-variants as S
-use Rattle.congruence.specs.Congruence.{Solves, Reduced, Joins, Found}
+use Rattle.congruence.specs.Congruence.{Solves, Reduced, Combines, Found}
 use Rattle.mistyped_rows.specs.Rows.{Supplies}
 
 -- what is found of one fact is found of another that holds of the same numbers
@@ -40,9 +40,9 @@ module _ (R : List ℕ) (at width : ℕ) (lacking : List ℕ) where
 
   module _ {k : ℕ} {c : Congruence} (t : Taken k c) where
     -- one more row
-    pub taken-next : (j : Joined) (both : Congruence) → j ≡ J.One both → Joins c (row k) j → Taken (k + 1) both
+    pub taken-next : (j : Combined) (both : Congruence) → j ≡ J.One both → Combines c (row k) j → Taken (k + 1) both
     taken-next j both e g =
-        let m : Joins c (row k) (J.One both) = subst (λ j. Joins c (row k) j) e g in
+        let m : Combines c (row k) (J.One both) = subst (λ j. Combines c (row k) j) e g in
         record {
           reduced = m .0;
           same = λ x. (
@@ -52,9 +52,9 @@ module _ (R : List ℕ) (at width : ℕ) (lacking : List ℕ) where
         }
 
     -- one more row that no solution meets
-    pub taken-stop : (j : Joined) → j ≡ J.None → Joins c (row k) j → (n : ℕ) → k < n → (y : ℕ) → Supplies R at width lacking n y → ⊥
+    pub taken-stop : (j : Combined) → j ≡ J.None → Combines c (row k) j → (n : ℕ) → k < n → (y : ℕ) → Supplies R at width lacking n y → ⊥
     taken-stop j e g n h y f =
-        let m : Joins c (row k) J.None = subst (λ j. Joins c (row k) j) e g in
+        let m : Combines c (row k) J.None = subst (λ j. Combines c (row k) j) e g in
         m y (t .same y .0 (λ i l. f i (omega arith))) (f k h)
 
     -- all rows

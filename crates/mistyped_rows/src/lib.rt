@@ -1,6 +1,6 @@
 // The number of smallest centred size that gives every row of check 22 what it lacks (document 02, Item 8).
+use congruence::Combined;
 use congruence::Congruence;
-use congruence::Joined;
 use congruence::Solution;
 use zq::zq::Zq;
 ghost use Prim.Native.Nat.{ℕ, _+_, _*_, _<_, _≤_};
@@ -29,11 +29,11 @@ pub fn smallest_for(
             factor: randomness[at + k * width],
             value: lacking[k],
         };
-        match congruence::join(Congruence { factor, value }, row) {
-            Joined::None => {
+        match congruence::combine(Congruence { factor, value }, row) {
+            Combined::None => {
                 return Solution::None;
             }
-            Joined::One(both) => {
+            Combined::One(both) => {
                 factor = both.factor;
                 value = both.value;
             }

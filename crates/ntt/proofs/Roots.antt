@@ -89,8 +89,8 @@ scaled-pow i e hi h =
     ∙ sym (res-less (primeOf i) (positive i) x (x * (opposite i * primeOf i + 1)) (x * opposite i) (more x (opposite i) (primeOf i)))
     ∙ entry-pow i e h
   where
-    more : (x q p : ℕ) → x + x * q * p ≡ x * (q * p + 1)
-    more x q p = omega (arith, Nat.mul-assoc x q p)
+    more : (x neginv p : ℕ) → x + x * neginv * p ≡ x * (neginv * p + 1)
+    more x neginv p = omega (arith, Nat.mul-assoc x neginv p)
 
 -- an exponent is below 128
 pub exponent-small : (j k : ℕ) → exponent j k < 128
@@ -126,10 +126,10 @@ twiddle-at i j t hi hj ht =
     ∙ ap (λ b. scaled (layerIndex (cond b m ((m - 576) / 32 * 32 + (31 - (m - 576) % 32))))) (lt-ltb m 576 (omega arith))
     ∙ ap scaled (layer-index i j t hj ht)
 
--- and that of the way back
-back-at : (i j t : ℕ) → i < 3 → j < 6 → t < 32 → getD twiddleTable (576 + 192 * i + 32 * j + t) 0 ≡ scaled (i * 128 + exponent j (31 - t) / 2)
+-- and that of the inverse NTT
+inverse-at : (i j t : ℕ) → i < 3 → j < 6 → t < 32 → getD twiddleTable (576 + 192 * i + 32 * j + t) 0 ≡ scaled (i * 128 + exponent j (31 - t) / 2)
 unfolding twiddleTable twiddle
-back-at i j t hi hj ht =
+inverse-at i j t hi hj ht =
     let m : ℕ = 576 + 192 * i + 32 * j + t in
     let place : (m - 576) / 32 * 32 + (31 - (m - 576) % 32) ≡ 192 * i + 32 * j + (31 - t) = omega arith in
     getD-table 1152 twiddle m 0 (omega arith)
@@ -142,9 +142,9 @@ pub twiddle-pow : (i j t : ℕ) → i < 3 → j < 6 → t < 32 → Turns (delta 
 twiddle-pow i j t hi hj ht =
     ap (λ x. res (primeOf i) (positive i) (x * inverseOf i)) (twiddle-at i j t hi hj ht) ∙ scaled-pow i (exponent j t / 2) hi (omega (arith, exponent-small j t))
 
-pub back-pow : (i j t : ℕ) → i < 3 → j < 6 → t < 32 → Turns (delta i) (opposite i) (positive i) (rootIn i) (exponent j (31 - t) / 2) (getD twiddleTable (576 + 192 * i + 32 * j + t) 0)
-back-pow i j t hi hj ht =
-    ap (λ x. res (primeOf i) (positive i) (x * inverseOf i)) (back-at i j t hi hj ht) ∙ scaled-pow i (exponent j (31 - t) / 2) hi (omega (arith, exponent-small j (31 - t)))
+pub inverse-pow : (i j t : ℕ) → i < 3 → j < 6 → t < 32 → Turns (delta i) (opposite i) (positive i) (rootIn i) (exponent j (31 - t) / 2) (getD twiddleTable (576 + 192 * i + 32 * j + t) 0)
+inverse-pow i j t hi hj ht =
+    ap (λ x. res (primeOf i) (positive i) (x * inverseOf i)) (inverse-at i j t hi hj ht) ∙ scaled-pow i (exponent j (31 - t) / 2) hi (omega (arith, exponent-small j (31 - t)))
 
 -- a scaled entry is below 2^27
 scaled-small : (k : ℕ) → scaled k < 134217728
@@ -176,5 +176,5 @@ fit-at i at h l = record {
 pub twiddles-fit : (i : ℕ) → i < 3 → Twiddles (delta i) (opposite i) twiddleTable (192 * i)
 twiddles-fit i h = fit-at i (192 * i) h (omega arith)
 
-pub backs-fit : (i : ℕ) → i < 3 → Twiddles (delta i) (opposite i) twiddleTable (576 + 192 * i)
-backs-fit i h = fit-at i (576 + 192 * i) h (omega arith)
+pub inverses-fit : (i : ℕ) → i < 3 → Twiddles (delta i) (opposite i) twiddleTable (576 + 192 * i)
+inverses-fit i h = fit-at i (576 + 192 * i) h (omega arith)

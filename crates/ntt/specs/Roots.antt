@@ -42,7 +42,7 @@ scaled k = entry k * 4294967296 % prime (delta (k / 128))
 abbrev pub layerIndex : ℕ → ℕ
 layerIndex m = m / 192 * 128 + exponent (m % 192 / 32) (m % 192 % 32) / 2
 
--- after 576 of these those of the way back, where t goes from 31 down: power 31 − t is minus the inverse of power t
+-- after 576 of these those of the inverse NTT, where t goes from 31 down: power 31 − t is minus the inverse of power t
 abbrev pub indexOf : ℕ → ℕ
 indexOf m = layerIndex (cond (ltb m 576) m ((m - 576) / 32 * 32 + (31 - (m - 576) % 32)))
 

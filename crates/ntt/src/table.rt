@@ -394,7 +394,7 @@ pub const TABLE: [u32; 384] = [
     109467638,
 ];
 
-// Where the power stands that layer j of prime i takes at t, for 192·i + 32·j + t; then those of the way back, where t goes from 31 down.
+// Where the power stands that layer j of prime i takes at t, for 192·i + 32·j + t; then those of the inverse NTT, where t goes from 31 down.
 pub const INDEXES: [u32; 1152] = [
     32,
     32,
@@ -1562,7 +1562,7 @@ fn scale(i: usize, d: u64, out: &mut [u32])
     }
 }
 
-// The powers that the layers take, for each prime 192, and those of the way back, all times 2^32.
+// The twiddles of the layers, for each prime 192, and those of the inverse NTT, all times 2^32.
 pub fn twiddles() -> [u32; 1152]
     ensures { λ r. ⌜ r ≡ twiddleTable ⌝ }
 {

@@ -57,10 +57,10 @@ pub fn remainder(z: u64, d: u64) -> u64
 }
 
 // 2^32 divided out (Montgomery's reduction), below three times the prime.
-pub fn montgomery(z: u64, d: u64, q: u64) -> u64
-    requires { ⌜ (z < 2 ^ 59) × (d ≤ 2175) × Opposite d q ⌝ }
-    ensures { λ r. ⌜ (r ≡ montgomery d q z) × (r ≤ 285600000) ⌝ }
+pub fn montgomery(z: u64, d: u64, neginv: u64) -> u64
+    requires { ⌜ (z < 2 ^ 59) × (d ≤ 2175) × Opposite d neginv ⌝ }
+    ensures { λ r. ⌜ (r ≡ montgomery d neginv z) × (r ≤ 285600000) ⌝ }
 {
-    let multiple = (z % WORD) * (q % WORD) % WORD;
+    let multiple = (z % WORD) * (neginv % WORD) % WORD;
     (z + multiple * ((RADIX - d) % WORD)) / WORD
 }

@@ -19,9 +19,9 @@ use Rattle.protocol.specs.Parameters.{triangular}
 use Rattle.protocol.specs.Views.{element-at, cell}
 use Rattle.protocol.specs.Formulas.{_⊕_, _⊗_, dot, flat}
 use Rattle.aggregate.proofs.Formed.{cells-before}
-use Rattle.kept_vectors.specs.Keeps.{values}
+use Rattle.kept_vectors.specs.NttForm.{ntt-form}
 use Rattle.kept_sums.specs.Sums.{HoldsSums}
-use Rattle.kept_sums.proofs.Laws.{part-words, back-holds, holds-small}
+use Rattle.kept_sums.proofs.Laws.{part-words, inverse-holds, holds-small}
 use Rattle.kept_forms.specs.Forms.{run-formed, FormsSmall, total}
 use Rattle.kept_forms.proofs.Forms.{form-at}
 use Rattle.one_pass.specs.Pass.{with-line, with-lines, formed-with}
@@ -41,13 +41,13 @@ module _ (S : List ℕ) (y : Strided) (W : List ℕ) (s-at : ℕ) where
 
   -- one product more
   pub lines-next : (S′ forms next : List ℕ) (to : ℕ) (new : List ℕ) (m : ℕ) → S′ ≡ splice S to new → ((k : ℕ) → k < y .count → y .at + 64 * m + y .step * k + 64 ≤ to) → 192 * y .count ≤ length forms
-      → next ≡ splice forms 0 (run-formed forms S′ (further y m) (values (part W (s-at + 64 * m) 64))) → Lines forms m → Lines next (m + 1)
+      → next ≡ splice forms 0 (run-formed forms S′ (further y m) (ntt-form (part W (s-at + 64 * m) 64))) → Lines forms m → Lines next (m + 1)
   lines-next S′ forms next to new m e before room made lines k l o b =
       let there : y .at + 64 * m + y .step * k ≡ y .at + y .step * k + 64 * m = omega arith in
-      form-at forms S′ (y .at + 64 * m) (y .step) (values (part W (s-at + 64 * m) 64)) next (y .count) made room k o l b
-      ∙ ap₂ (λ x e. x + getD (values e) o 0 * getD (values (part W (s-at + 64 * m) 64)) o 0) (lines k l o b)
+      form-at forms S′ (y .at + 64 * m) (y .step) (ntt-form (part W (s-at + 64 * m) 64)) next (y .count) made room k o l b
+      ∙ ap₂ (λ x e. x + getD (ntt-form e) o 0 * getD (ntt-form (part W (s-at + 64 * m) 64)) o 0) (lines k l o b)
       (ap (λ s. part s (y .at + 64 * m + y .step * k) 64) e ∙ part-splice-before 0 S to new (y .at + 64 * m + y .step * k) 64 (before k l) ∙ ap (λ p. part S p 64) there)
-      ∙ sym (Σ-suc m (λ i. getD (values (part S (y .at + y .step * k + 64 * i) 64)) o 0 * getD (values (part W (s-at + 64 * i) 64)) o 0))
+      ∙ sym (Σ-suc m (λ i. getD (ntt-form (part S (y .at + y .step * k + 64 * i) 64)) o 0 * getD (ntt-form (part W (s-at + 64 * i) 64)) o 0))
 
   module _ (words : (j : ℕ) → getD S j 0 ≤ 4294967295) (witness : (j : ℕ) → getD W j 0 ≤ 4294967295) where
     -- for which there is room
@@ -68,7 +68,7 @@ module _ (S : List ℕ) (y : Strided) (W : List ℕ) (s-at : ℕ) where
         e
         ∙ ap (λ cells. splice T 0 (flat cells)) (table-ext (y .count) (total T forms) (with-line T S y W s-at n) (λ k l.
         ap (λ x. element-at T 0 k ⊕ x)
-        (ap element (back-holds forms (192 * k) n (λ o. part S (y .at + y .step * k + 64 * o) 64) (λ o. part W (s-at + 64 * o) 64) (omega arith) (lines k l) few
+        (ap element (inverse-holds forms (192 * k) n (λ o. part S (y .at + y .step * k + 64 * o) 64) (λ o. part W (s-at + 64 * o) 64) (omega arith) (lines k l) few
         (λ o. part-words S words (y .at + y .step * k + 64 * o)) (λ o. part-words W witness (s-at + 64 * o)))
         ∙ element-words (dot n (run S (y .at + y .step * k) 64) (run W s-at 64)))))
 

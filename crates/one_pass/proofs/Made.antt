@@ -25,20 +25,20 @@ use Rattle.protocol.specs.Formulas.{_⊕_, _⊗_, dot, flat, pairs}
 use Rattle.regions.specs.declared.Regions.{Regions}
 use Rattle.aggregate.specs.Weighed.{formed}
 use Rattle.aggregate.proofs.Grid.{rows-run}
-use Rattle.kept_vectors.specs.Keeps.{AllValues}
-use Rattle.kept_mix.specs.Terms.{Weights, KeepsWeights, kept-faster}
-use Rattle.kept_mix.proofs.Mixed.{kept-mixed-all}
+use Rattle.kept_vectors.specs.NttForm.{AllValues}
+use Rattle.kept_mix.specs.Terms.{Weights, NttWeights, ntt-faster}
+use Rattle.kept_mix.proofs.Mixed.{ntt-mixed-all}
 use Rattle.kept_mix.proofs.Faster.{faster-weights}
 use Rattle.one_pass.specs.Pass.{PassRoom, φ-mixed, HasLines, formed-with, φ″-rows, Passable, with-φ, with-b″, with-φ-and-b″, one-pass-faster}
 
-module _ (J : List ℕ) (x : Strided) (R : List ℕ) (alpha beta : ℕ) (S : List ℕ) (q : Regions) (L r n : ℕ) (W : List ℕ) (s : ℕ) (p : Passable J x R alpha beta S q L r n W s) where
+module _ (J : List ℕ) (x : Strided) (R : List ℕ) (alpha beta : ℕ) (S : List ℕ) (regions : Regions) (L r n : ℕ) (W : List ℕ) (s : ℕ) (p : Passable J x R alpha beta S regions L r n W s) where
   -- the rows of φ''
   abbrev y : Strided
-  y = φ″-rows q L r n
+  y = φ″-rows regions L r n
 
-  pub pass-room : (kept T : List ℕ) → Weights (x .count) L → L ≤ 8 → length J < 2 ^ 61 → length S < 2 ^ 61 → AllValues kept 0 (x .count + L) → 64 * L ≤ length T
-      → PassRoom J x S y (q .phi) kept W s (r * n) T
-  pass-room kept T w few short small values sums = record {
+  pub pass-room : (transformed T : List ℕ) → Weights (x .count) L → L ≤ 8 → length J < 2 ^ 61 → length S < 2 ^ 61 → AllValues transformed 0 (x .count + L) → 64 * L ≤ length T
+      → PassRoom J x S y (regions .phi) transformed W s (r * n) T
+  pass-room transformed T w few short small values sums = record {
     in-job = λ m l. rows-run J x (r * n) m (p .0 .0) short l;
     in-scratch = λ m l. rows-run S y (r * n) m (p .0 .3) small l;
     before = λ m k l d. omega (arith, p .0 .4, mul-le-mul-left (r * n) d);
@@ -60,41 +60,42 @@ module _ (J : List ℕ) (x : Strided) (R : List ℕ) (alpha beta : ℕ) (S : Lis
       (is-table 64 (part (replicate 512 z) (0 + 64 * k) 64) (λ i. z) z (length-part (replicate 512 z) (0 + 64 * k) 64 (omega (arith, length-replicate 512 z)))
       (λ i h. getD-part z (replicate 512 z) (0 + 64 * k) 64 i h ∙ getD-replicate 512 (0 + 64 * k + i) z z (omega arith)))
 
-  module _ (kept S₁ S₂ T : List ℕ) (few : x .count + L ≤ 64) (eight : L ≤ 8) (weights : KeepsWeights kept R alpha (x .count) beta L) (job : (j : ℕ) → getD J j 0 ≤ 4294967295)
+  module _ (transformed S₁ S₂ T : List ℕ) (few : x .count + L ≤ 64) (eight : L ≤ 8) (weights : NttWeights transformed R alpha (x .count) beta L) (job : (j : ℕ) → getD J j 0 ≤ 4294967295)
       (scratch : (j : ℕ) → getD S j 0 ≤ 4294967295)
-      (stored : S₁ ≡ splice S (q .phi) (φ-mixed J x S y kept (r * n)))
+      (stored : S₁ ≡ splice S (regions .phi) (φ-mixed J x S y transformed (r * n)))
       (held : HasLines T (replicate 512 0) S y W s (r * n))
-      (made : S₂ ≡ splice S₁ (q .b2) (flat (table L (formed-with S₁ (q .a2) (q .g) r T)))) where
+      (made : S₂ ≡ splice S₁ (regions .b2) (flat (table L (formed-with S₁ (regions .a2) (regions .g) r T)))) where
     -- φ
-    φ-stored : S₁ ≡ with-φ J x R alpha beta S q L r n
-    φ-stored = stored ∙ ap (splice S (q .phi)) (kept-mixed-all J x S y (r * n) kept R alpha beta few (weights .0) (weights .1) job scratch)
+    φ-stored : S₁ ≡ with-φ J x R alpha beta S regions L r n
+    φ-stored = stored ∙ ap (splice S (regions .phi)) (ntt-mixed-all J x S y (r * n) transformed R alpha beta few (weights .0) (weights .1) job scratch)
 
     -- the inner products of k
-    line : (k : ℕ) → k < L → element-at T 0 k ≡ dot (r * n) (element-at S₁ (q .phi2 + 64 * (k * (r * n)))) (element-at W s)
+    line : (k : ℕ) → k < L → element-at T 0 k ≡ dot (r * n) (element-at S₁ (regions .phi2 + 64 * (k * (r * n)))) (element-at W s)
     line k l =
         held k l
-        ∙ ap (λ e. e ⊕ dot (r * n) (run S (q .phi2 + 64 * (r * n) * k) 64) (run W s 64)) (zero-total k (omega arith))
-        ∙ nil-add RqOps rq-ring (dot (r * n) (run S (q .phi2 + 64 * (r * n) * k) 64) (run W s 64))
-        ∙ dot-ext RqOps (r * n) (run S (q .phi2 + 64 * (r * n) * k) 64) (element-at S₁ (q .phi2 + 64 * (k * (r * n)))) (run W s 64) (element-at W s)
+        ∙ ap (λ e. e ⊕ dot (r * n) (run S (regions .phi2 + 64 * (r * n) * k) 64) (run W s 64)) (zero-total k (omega arith))
+        ∙ nil-add RqOps rq-ring (dot (r * n) (run S (regions .phi2 + 64 * (r * n) * k) 64) (run W s 64))
+        ∙ dot-ext RqOps (r * n) (run S (regions .phi2 + 64 * (r * n) * k) 64) (element-at S₁ (regions .phi2 + 64 * (k * (r * n)))) (run W s 64) (element-at W s)
         (λ m d.
-        let there : q .phi2 + 64 * (k * (r * n)) + 64 * m ≡ q .phi2 + 64 * (r * n) * k + 64 * m = omega arith in
-        let ends : q .phi2 + 64 * (r * n) * k + 64 * m + 64 ≤ q .phi = omega (arith, p .0 .4, mul-le-mul-left (r * n) l) in
-        sym (ap element (ap (λ o. part S₁ o 64) there ∙ ap (λ w. part w (q .phi2 + 64 * (r * n) * k + 64 * m) 64) stored
-        ∙ part-splice-before 0 S (q .phi) (φ-mixed J x S y kept (r * n)) (q .phi2 + 64 * (r * n) * k + 64 * m) 64 ends)))
+        let there : regions .phi2 + 64 * (k * (r * n)) + 64 * m ≡ regions .phi2 + 64 * (r * n) * k + 64 * m = omega arith in
+        let ends : regions .phi2 + 64 * (r * n) * k + 64 * m + 64 ≤ regions .phi = omega (arith, p .0 .4, mul-le-mul-left (r * n) l) in
+        sym (ap element (ap (λ o. part S₁ o 64) there ∙ ap (λ w. part w (regions .phi2 + 64 * (r * n) * k + 64 * m) 64) stored
+        ∙ part-splice-before 0 S (regions .phi) (φ-mixed J x S y transformed (r * n)) (regions .phi2 + 64 * (r * n) * k + 64 * m) 64 ends)))
         (λ m d. refl)
 
-    pub pass-made : S₂ ≡ with-φ-and-b″ J x R alpha beta S q L r n W s
+    pub pass-made : S₂ ≡ with-φ-and-b″ J x R alpha beta S regions L r n W s
     unfolding formed
     pass-made =
         made
-        ∙ ap (λ cells. splice S₁ (q .b2) (flat cells)) (table-ext L (formed-with S₁ (q .a2) (q .g) r T) (λ k. formed S₁ (q .a2 + 64 * (k * triangular r)) (q .g) (q .phi2 + 64 * (k * (r * n))) r n W s)
-        (λ k l. ap (λ e. pairs r (λ i j. element-at S₁ (q .a2 + 64 * (k * triangular r)) (cell i j) ⊗ element-at S₁ (q .g) (cell i j)) ⊕ e) (line k l)))
-        ∙ ap (λ w. with-b″ w q L r n W s) φ-stored
+        ∙ ap (λ cells. splice S₁ (regions .b2) (flat cells))
+        (table-ext L (formed-with S₁ (regions .a2) (regions .g) r T) (λ k. formed S₁ (regions .a2 + 64 * (k * triangular r)) (regions .g) (regions .phi2 + 64 * (k * (r * n))) r n W s)
+        (λ k l. ap (λ e. pairs r (λ i j. element-at S₁ (regions .a2 + 64 * (k * triangular r)) (cell i j) ⊗ element-at S₁ (regions .g) (cell i j)) ⊕ e) (line k l)))
+        ∙ ap (λ w. with-b″ w regions L r n W s) φ-stored
 
 -- where the one pass is chosen, the weights have room, and the sums of every k
 pub pass-weights : (width alphas betas : ℕ) → one-pass-faster width alphas betas ≡ true → Weights alphas betas × (betas ≤ 8)
 pass-weights width alphas betas = go (ltb 8 betas) refl
   where
-    go : (t : Bool) → ltb 8 betas ≡ t → cond t false (kept-faster width alphas betas) ≡ true → Weights alphas betas × (betas ≤ 8)
+    go : (t : Bool) → ltb 8 betas ≡ t → cond t false (ntt-faster width alphas betas) ≡ true → Weights alphas betas × (betas ≤ 8)
     go true e h = absurd (false≢true h)
     go false e h = (faster-weights width alphas betas h, ltb-false 8 betas e)

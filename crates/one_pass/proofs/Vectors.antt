@@ -22,8 +22,8 @@ use Rattle.protocol.proofs.Flat.{length-flat}
 use Rattle.protocol.proofs.Region.{elements-stored}
 use Rattle.protocol.proofs.Stored.{flat-append}
 use Rattle.rq_matrix.proofs.Place.{rows-within}
-use Rattle.kept_mix.specs.Terms.{kept-mixed}
-use Rattle.kept_mix.proofs.Mixed.{kept-mixed-before}
+use Rattle.kept_mix.specs.Terms.{ntt-mixed}
+use Rattle.kept_mix.proofs.Mixed.{ntt-mixed-before}
 use Rattle.one_pass.specs.Pass.{PassRoom, column-mixed, φ-mixed, with-line, with-lines, HasLines}
 use Rattle.one_pass.proofs.Forms.{run-same}
 
@@ -66,8 +66,8 @@ module _ (J : List ℕ) (x : Strided) (S : List ℕ) (y : Strided) (to : ℕ) (w
         ∙ ap (λ cells. splice S′ (to + 64 * c) (flat cells)) (table-ext n (column-mixed J (further x c) S′ (further y c) weights) (λ m. column-mixed J x S y weights (c + m)) (λ m b.
         let here : x .at + 64 * c + 64 * m ≡ x .at + 64 * (c + m) = omega arith in
         let there : y .at + 64 * c + 64 * m ≡ y .at + 64 * (c + m) = omega arith in
-        ap₂ (λ p q. kept-mixed J (from-place x p) S′ (from-place y q) weights) here there
-        ∙ kept-mixed-before J (further x (c + m)) S S′ (further y (c + m)) weights to (φ-mixed J x S y weights c) stored (λ k d. h .before (c + m) k (omega (arith, rows-within i r n l)) d)))
+        ap₂ (λ p q. ntt-mixed J (from-place x p) S′ (from-place y q) weights) here there
+        ∙ ntt-mixed-before J (further x (c + m)) S S′ (further y (c + m)) weights to (φ-mixed J x S y weights c) stored (λ k d. h .before (c + m) k (omega (arith, rows-within i r n l)) d)))
         ∙ stored-more S S′ to c n (column-mixed J x S y weights) stored
       where
         from-place : Strided → ℕ → Strided

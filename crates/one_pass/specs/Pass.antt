@@ -13,14 +13,14 @@ use Rattle.protocol.specs.Parameters.{triangular}
 use Rattle.protocol.specs.Views.{element-at, cell}
 use Rattle.protocol.specs.Formulas.{_⊕_, _⊗_, dot, flat, pairs}
 use Rattle.protocol.specs.Region.{Elements}
-use Rattle.kept_vectors.specs.Keeps.{AllValues}
+use Rattle.kept_vectors.specs.NttForm.{AllValues}
 use Rattle.regions.specs.declared.Regions.{Regions}
 use Rattle.aggregate.specs.Weighed.{rows-at, mixed-words, Aggregates, FormedRows, b″-words}
-use Rattle.kept_mix.specs.Terms.{kept-mixed, kept-faster}
+use Rattle.kept_mix.specs.Terms.{ntt-mixed, ntt-faster}
 
--- element c of φ, of kept weights and of the runs c elements further on
+-- element c of φ, of weights in NTT form and of the runs c elements further on
 abbrev pub column-mixed : List ℕ → Strided → List ℕ → Strided → List ℕ → ℕ → Element
-column-mixed job constraints scratch aggregated weights c = kept-mixed job (further constraints c) scratch (further aggregated c) weights
+column-mixed job constraints scratch aggregated weights c = ntt-mixed job (further constraints c) scratch (further aggregated c) weights
 
 -- element k of the totals and the inner product of n elements of φ''_k with the witness's, together
 abbrev pub with-line : List ℕ → List ℕ → Strided → List ℕ → (s-at n : ℕ) → ℕ → Element
@@ -63,25 +63,26 @@ FormsRoom words a g r totals count to =
 
 -- the rows of φ'' in their region: r vectors of n elements for each of so many k
 abbrev pub φ″-rows : Regions → (count r n : ℕ) → Strided
-φ″-rows q count r n = rows-at (q .phi2) (r * n) count
+φ″-rows regions count r n = rows-at (regions .phi2) (r * n) count
 
 -- what `aggregate::aggregate` and `aggregate::b_double_prime` require, of r vectors of n elements
 abbrev pub Passable : List ℕ → Strided → List ℕ → (alpha beta : ℕ) → List ℕ → Regions → (count r n : ℕ) → List ℕ → ℕ → Type 0
-Passable job constraints weights alpha beta scratch q count r n witness s =
-    Aggregates job constraints weights alpha beta scratch (φ″-rows q count r n) (r * n) (q .phi) × FormedRows scratch (q .a2) (q .g) (q .phi2) r n witness s count (q .b2)
+Passable job constraints weights alpha beta scratch regions count r n witness s =
+    Aggregates job constraints weights alpha beta scratch (φ″-rows regions count r n) (r * n) (regions .phi)
+    × FormedRows scratch (regions .a2) (regions .g) (regions .phi2) r n witness s count (regions .b2)
 
 -- the scratch with φ stored
 abbrev pub with-φ : List ℕ → Strided → List ℕ → (alpha beta : ℕ) → List ℕ → Regions → (count r n : ℕ) → List ℕ
-with-φ job constraints weights alpha beta scratch q count r n = splice scratch (q .phi) (mixed-words job constraints weights alpha beta scratch (φ″-rows q count r n) (r * n))
+with-φ job constraints weights alpha beta scratch regions count r n = splice scratch (regions .phi) (mixed-words job constraints weights alpha beta scratch (φ″-rows regions count r n) (r * n))
 
 -- a scratch with b'' stored
 abbrev pub with-b″ : List ℕ → Regions → (count r n : ℕ) → List ℕ → ℕ → List ℕ
-with-b″ scratch q count r n witness s = splice scratch (q .b2) (b″-words scratch (q .a2) (q .g) (q .phi2) r n witness s count)
+with-b″ scratch regions count r n witness s = splice scratch (regions .b2) (b″-words scratch (regions .a2) (regions .g) (regions .phi2) r n witness s count)
 
 -- the scratch with φ and then b''
 abbrev pub with-φ-and-b″ : List ℕ → Strided → List ℕ → (alpha beta : ℕ) → List ℕ → Regions → (count r n : ℕ) → List ℕ → ℕ → List ℕ
-with-φ-and-b″ job constraints weights alpha beta scratch q count r n witness s = with-b″ (with-φ job constraints weights alpha beta scratch q count r n) q count r n witness s
+with-φ-and-b″ job constraints weights alpha beta scratch regions count r n witness s = with-b″ (with-φ job constraints weights alpha beta scratch regions count r n) regions count r n witness s
 
--- kept weights are chosen, of eight k at most
+-- weights in NTT form are chosen, of eight k at most
 abbrev pub one-pass-faster : (width alphas betas : ℕ) → Bool
-one-pass-faster width alphas betas = cond (ltb 8 betas) false (kept-faster width alphas betas)
+one-pass-faster width alphas betas = cond (ltb 8 betas) false (ntt-faster width alphas betas)

@@ -141,41 +141,41 @@ pub fn mix_vectors(
     }
 }
 
-// φ and b'' with kept weights.
-pub fn phi_and_b_kept(
+// φ and b'' with weights in NTT form.
+pub fn phi_and_b_ntt(
     job: &[u32],
     constraints: Strided,
     weights: &[u32],
     alpha: usize,
     beta: usize,
     scratch: &mut [u32],
-    q: Regions,
+    regions: Regions,
     count: usize,
     r: usize,
     n: usize,
     witness: &[u32],
     s: usize,
 )
-    requires { ⌜ Passable (now job) constraints (now weights) alpha beta (now scratch) q count r n (now witness) s × Weights (constraints .count) count × (count ≤ 8) ⌝ }
-    ensures { λ _. ⌜ now (scratch .exit) ≡ with-φ-and-b″ (now (job .entry)) constraints (now (weights .entry)) alpha beta (now (scratch .entry)) q count r n (now (witness .entry)) s ⌝ }
+    requires { ⌜ Passable (now job) constraints (now weights) alpha beta (now scratch) regions count r n (now witness) s × Weights (constraints .count) count × (count ≤ 8) ⌝ }
+    ensures { λ _. ⌜ now (scratch .exit) ≡ with-φ-and-b″ (now (job .entry)) constraints (now (weights .entry)) alpha beta (now (scratch .entry)) regions count r n (now (witness .entry)) s ⌝ }
 {
     let width = r * n;
     let step = 64 * width;
     let aggregated = Strided {
-        at: q.phi2,
+        at: regions.phi2,
         step,
         count,
     };
     let w = table::twiddles();
-    let mut kept = [0u32; 12288];
-    kept_mix::keep_weights(
+    let mut transformed = [0u32; 12288];
+    kept_mix::weights_to_ntt_form(
         weights,
         alpha,
         constraints.count,
         beta,
         count,
         &w,
-        &mut kept,
+        &mut transformed,
     );
     let mut totals = [0u32; 512];
     mix_vectors(
@@ -183,8 +183,8 @@ pub fn phi_and_b_kept(
         constraints,
         scratch,
         aggregated,
-        q.phi,
-        &kept,
+        regions.phi,
+        &transformed,
         witness,
         s,
         r,
@@ -192,10 +192,18 @@ pub fn phi_and_b_kept(
         &w,
         &mut totals,
     );
-    store_forms(scratch, q.a2, q.g, r, &totals, count, q.b2);
+    store_forms(
+        scratch,
+        regions.a2,
+        regions.g,
+        r,
+        &totals,
+        count,
+        regions.b2,
+    );
 }
 
-// The one pass is chosen where kept weights are, of up to eight k.
+// The one pass is chosen where weights in NTT form are, of up to eight k.
 pub fn one_pass_is_faster(width: usize, alphas: usize, betas: usize) -> bool
     requires { ⌜ (alphas ≤ 2 ^ 18) × (betas ≤ 2 ^ 18) ⌝ }
     ensures { λ r. ⌜ r ≡ one-pass-faster width alphas betas ⌝ }
@@ -203,7 +211,7 @@ pub fn one_pass_is_faster(width: usize, alphas: usize, betas: usize) -> bool
     if betas > 8 {
         false
     } else {
-        kept_mix::kept_is_faster(width, alphas, betas)
+        kept_mix::ntt_is_faster(width, alphas, betas)
     }
 }
 
@@ -216,26 +224,26 @@ pub fn phi_and_b(
     alpha: usize,
     beta: usize,
     scratch: &mut [u32],
-    q: Regions,
+    regions: Regions,
     count: usize,
     r: usize,
     n: usize,
     witness: &[u32],
     s: usize,
 )
-    requires { ⌜ Passable (now job) constraints (now weights) alpha beta (now scratch) q count r n (now witness) s ⌝ }
-    ensures { λ _. ⌜ now (scratch .exit) ≡ with-φ-and-b″ (now (job .entry)) constraints (now (weights .entry)) alpha beta (now (scratch .entry)) q count r n (now (witness .entry)) s ⌝ }
+    requires { ⌜ Passable (now job) constraints (now weights) alpha beta (now scratch) regions count r n (now witness) s ⌝ }
+    ensures { λ _. ⌜ now (scratch .exit) ≡ with-φ-and-b″ (now (job .entry)) constraints (now (weights .entry)) alpha beta (now (scratch .entry)) regions count r n (now (witness .entry)) s ⌝ }
 {
     let width = r * n;
     if one_pass_is_faster(width, constraints.count, count) {
-        phi_and_b_kept(
+        phi_and_b_ntt(
             job,
             constraints,
             weights,
             alpha,
             beta,
             scratch,
-            q,
+            regions,
             count,
             r,
             n,
@@ -245,7 +253,7 @@ pub fn phi_and_b(
     } else {
         let step = 64 * width;
         let aggregated = Strided {
-            at: q.phi2,
+            at: regions.phi2,
             step,
             count,
         };
@@ -258,8 +266,19 @@ pub fn phi_and_b(
             scratch,
             aggregated,
             width,
-            q.phi,
+            regions.phi,
         );
-        aggregate::b_double_prime(scratch, q.a2, q.g, q.phi2, r, n, witness, s, count, q.b2);
+        aggregate::b_double_prime(
+            scratch,
+            regions.a2,
+            regions.g,
+            regions.phi2,
+            r,
+            n,
+            witness,
+            s,
+            count,
+            regions.b2,
+        );
     }
 }

@@ -10,19 +10,19 @@ use Rattle.definitions.specs.Answer.{Answer, fine, accepted, refused, failed, r
 use Rattle.protocol.specs.Parameters.{parameters}
 use Rattle.protocol.specs.Layout.{span, job-refusal, randomness-refusal, transcript-refusal, scratch-refusal, scratch-need}
 use Rattle.protocol.specs.Views.{public, witness}
-use Rattle.protocol.specs.Kept.{Kept}
+use Rattle.protocol.specs.Unchanged.{Unchanged}
 use Rattle.protocol.specs.Prover.{Call, made-sections, prove-refusal, work-refusal, made, zeroed, prove-output, prove-scratch}
 use Rattle.protocol.specs.Verifier.{verify-refusal, verify-scratch}
 use Rattle.protocol.proofs.Fine.{required, accepted-not-fine, refused-not-fine, failed-not-fine, then-fine-right}
 use Rattle.protocol.proofs.Accepted.{admitted, length-made}
 
 -- a buffer that is left
-pub kept-refl : (need : ℕ) (buffer : List ℕ) → Kept need buffer buffer
-kept-refl need buffer = record { size = refl; beyond = refl }
+pub unchanged-refl : (need : ℕ) (buffer : List ℕ) → Unchanged need buffer buffer
+unchanged-refl need buffer = record { size = refl; beyond = refl }
 
 -- a buffer whose needed part is written
-kept-written : (need : ℕ) (new buffer : List ℕ) → length new ≡ need → need ≤ length buffer → Kept need buffer (new ++ drop need buffer)
-kept-written need new buffer e h = record {
+unchanged-written : (need : ℕ) (new buffer : List ℕ) → length new ≡ need → need ≤ length buffer → Unchanged need buffer (new ++ drop need buffer)
+unchanged-written need new buffer e h = record {
   size = length-append new (drop need buffer) ∙ omega (arith, length-drop need buffer);
   beyond = drop-at new (drop need buffer) need e;
 }
@@ -48,11 +48,11 @@ take-zeroed need buffer = take-at (replicate need 0) (drop need buffer) need (le
 -- a buffer that is zeroed where an answer is fine, else left
 module _ (a : Answer) (need : ℕ) (buffer : List ℕ) where
   -- its length and the words beyond the need stay
-  zeroed-kept : (a ≡ fine → need ≤ length buffer) → Kept need buffer (result a (zeroed need buffer) buffer)
-  zeroed-kept fits =
-      result-cases (Kept need buffer) a (zeroed need buffer) buffer
-      (λ e. kept-written need (replicate need 0) buffer (length-replicate need 0) (fits e))
-      (λ bad. kept-refl need buffer)
+  zeroed-unchanged : (a ≡ fine → need ≤ length buffer) → Unchanged need buffer (result a (zeroed need buffer) buffer)
+  zeroed-unchanged fits =
+      result-cases (Unchanged need buffer) a (zeroed need buffer) buffer
+      (λ e. unchanged-written need (replicate need 0) buffer (length-replicate need 0) (fits e))
+      (λ bad. unchanged-refl need buffer)
 
   -- its needed part is zero where the answer is fine
   zeroed-fine : a ≡ fine → take need (result a (zeroed need buffer) buffer) ≡ replicate need 0
@@ -60,27 +60,27 @@ module _ (a : Answer) (need : ℕ) (buffer : List ℕ) where
 
 module _ (call : Call) (J R W scratch output : List ℕ) where
   -- "Words beyond never change.": the output
-  pub output-kept : Kept (span (made-sections call (parameters J))) output (prove-output call J R W scratch output)
+  pub output-unchanged : Unchanged (span (made-sections call (parameters J))) output (prove-output call J R W scratch output)
   unfolding prove-output
-  output-kept =
+  output-unchanged =
       let X = public J R in
       let s = witness (parameters J) W in
       let need = span (made-sections call (parameters J)) in
       let refusal = prove-refusal call J R W (length scratch) (length output) in
       let worked = result (work-refusal X call s) (made X call s ++ drop need output) (zeroed need output) in
-      result-cases (Kept need output) refusal worked output
+      result-cases (Unchanged need output) refusal worked output
       (λ e.
       let fits = admitted call J R W (length scratch) (length output) e .output-fits in
-      result-cases (Kept need output) (work-refusal X call s) (made X call s ++ drop need output) (zeroed need output)
-      (λ f. kept-written need (made X call s) output (length-made call X s) fits)
-      (λ bad. kept-written need (replicate need 0) output (length-replicate need 0) fits))
-      (λ bad. kept-refl need output)
+      result-cases (Unchanged need output) (work-refusal X call s) (made X call s ++ drop need output) (zeroed need output)
+      (λ f. unchanged-written need (made X call s) output (length-made call X s) fits)
+      (λ bad. unchanged-written need (replicate need 0) output (length-replicate need 0) fits))
+      (λ bad. unchanged-refl need output)
 
   -- the scratch
-  pub scratch-kept : Kept (scratch-need (parameters J)) scratch (prove-scratch call J R W scratch output)
+  pub scratch-unchanged : Unchanged (scratch-need (parameters J)) scratch (prove-scratch call J R W scratch output)
   unfolding prove-scratch
-  scratch-kept =
-      zeroed-kept (prove-refusal call J R W (length scratch) (length output)) (scratch-need (parameters J)) scratch
+  scratch-unchanged =
+      zeroed-unchanged (prove-refusal call J R W (length scratch) (length output)) (scratch-need (parameters J)) scratch
       (λ e. admitted call J R W (length scratch) (length output) e .scratch-fits)
 
   -- "Refusals before the work touch no buffer.": the output
@@ -117,12 +117,12 @@ module _ (call : Call) (J R W scratch output : List ℕ) where
 
 module _ (J R T scratch : List ℕ) where
   -- the verifier's scratch beyond the need
-  pub verify-kept : Kept (scratch-need (parameters J)) scratch (verify-scratch J R T scratch)
+  pub verify-unchanged : Unchanged (scratch-need (parameters J)) scratch (verify-scratch J R T scratch)
   unfolding verify-scratch verify-refusal
-  verify-kept =
+  verify-unchanged =
       let P = parameters J in
       let need = scratch-need P in
-      zeroed-kept (verify-refusal J R T (length scratch)) need scratch
+      zeroed-unchanged (verify-refusal J R T (length scratch)) need scratch
       (λ e. required (decLe need (length scratch)) (refused 1 need) (refused-not-fine 1 need)
       (then-fine-right (job-refusal J then randomness-refusal P 7 R then transcript-refusal P T) (scratch-refusal P (length scratch)) e))
 

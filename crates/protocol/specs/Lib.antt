@@ -8,7 +8,7 @@ pub mod Prover
 pub mod Verifier
 pub mod Conditions
 pub mod CellsBack
-pub mod Kept
+pub mod Unchanged
 pub mod Ranges
 pub mod Load
 pub mod Mistyped

@@ -18,7 +18,7 @@ use Rattle.protocol.specs.Verifier.{verify, verify-refusal, verify-scratch}
 use Rattle.protocol.specs.Conditions.{conditions, Demand-3}
 use Rattle.protocol.proofs.Fine.{require-holds, then-both-fine}
 use Rattle.protocol.proofs.Accepted.{Admitted, admitted, before-work, output-made, made-whole, transcript-fine}
-use Rattle.protocol.proofs.Total.{output-kept, scratch-kept}
+use Rattle.protocol.proofs.Total.{output-unchanged, scratch-unchanged}
 use Rattle.protocol.proofs.Demand3.{demand-3}
 use Rattle.protocol.proofs.Stated.{stated}
 use Rattle.admission.proofs.Stages.{stops-at}
@@ -85,7 +85,7 @@ module _ (J R W scratch output : List ℕ) where
 
       -- the scratch is long enough for both
       enough-left : (middle : List ℕ) → middle ≡ prove-scratch whole J R W scratch output → scratch-need (parameters J) ≤ length middle
-      enough-left middle m = subst (λ n. scratch-need (parameters J) ≤ n) (sym (ap length m ∙ scratch-kept whole J R W scratch output .size)) (call .scratch-fits)
+      enough-left middle m = subst (λ n. scratch-need (parameters J) ≤ n) (sym (ap length m ∙ scratch-unchanged whole J R W scratch output .size)) (call .scratch-fits)
 
       -- the length that is read of the output is the transcript's, and the output has it
       length-sent : (n : ℕ) → n ≡ result (job-refusal J) (span (transcript-sections (parameters J))) 0 → n ≡ span (transcript-sections (parameters J))
@@ -94,7 +94,7 @@ module _ (J R W scratch output : List ℕ) where
       pub sent-within : (n : ℕ) → n ≡ result (job-refusal J) (span (transcript-sections (parameters J))) 0 → n ≤ length exit
       sent-within n e =
           subst (λ k. k ≤ length exit) (sym (length-sent n e))
-          (subst (λ k. span (transcript-sections (parameters J)) ≤ k) (sym (ap length left ∙ output-kept whole J R W scratch output .size)) (call .output-fits))
+          (subst (λ k. span (transcript-sections (parameters J)) ≤ k) (sym (ap length left ∙ output-unchanged whole J R W scratch output .size)) (call .output-fits))
 
       -- answer, output and scratch of both calls, one after the other
       pub both-calls : (v : Verdict) (n : ℕ) (middle last : List ℕ) → middle ≡ prove-scratch whole J R W scratch output

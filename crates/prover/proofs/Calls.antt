@@ -85,15 +85,16 @@ laid-drawn m J R h l k b =
     (from-zero (start (take m ss) k) (nth (take m ss) k .count) (length R) (l .inside k (subst (λ n. k < n) (sym size) b))))
 
 -- a call that is refused nothing before its work, with the regions of its scratch
-pub given-of : (call : Call) (J R W : List ℕ) (p : EnvironmentParameters) (q : Regions) (S : List ℕ) (output : ℕ) → call .handed ≤ 7
-    → Provable call J R W (length S) output p → Places.Laid (p .rank) (p .multiplicity) (p .kappa) (p .«const_agg_length») q → Work-given J W p q S × Drawn (call .handed) J R
-given-of call J R W p q S output few h places = (
+pub given-of : (call : Call) (J R W : List ℕ) (params : EnvironmentParameters) (regions : Regions) (S : List ℕ) (output : ℕ) → call .handed ≤ 7
+    → Provable call J R W (length S) output params → Places.Laid (params .rank) (params .multiplicity) (params .kappa) (params .«const_agg_length») regions
+    → Work-given J W params regions S × Drawn (call .handed) J R
+given-of call J R W params regions S output few h places = (
   record {
     ready = record {
       same = h .handed .same;
       sound = h .handed .sound;
       job = h .handed .job;
-      regions = subst (λ Q. Places.Laid (Q .n) (Q .r) (Q .κ) (Q .L) q) (h .handed .same) places;
+      laid = subst (λ Q. Places.Laid (Q .n) (Q .r) (Q .κ) (Q .L) regions) (h .handed .same) places;
       room = h .handed .scratch-fits;
     };
     witness = from-zero (start (witness-sections (parameters J)) 0) (64 * (parameters J .r * parameters J .n)) (length W) (h .witness .inside 0 (omega arith));

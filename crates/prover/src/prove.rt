@@ -24,26 +24,40 @@ fn work_and_clear(
     job: &[u32],
     randomness: &[u32],
     witness: &[u32],
-    p: EnvironmentParameters,
+    params: EnvironmentParameters,
     scratch: &mut [u32],
     output: &mut [u32],
 ) -> Proved
-    requires { ⌜ Provable (callOf call) (now job) (now randomness) (now witness) (length (now scratch)) (length (now output)) p ⌝ }
+    requires { ⌜ Provable (callOf call) (now job) (now randomness) (now witness) (length (now scratch)) (length (now output)) params ⌝ }
     ensures { λ r. ⌜ ofProved r ≡ work (now (job .entry)) (now (randomness .entry)) (now (witness .entry)) (callOf call) ⌝ }
     ensures { λ r. ⌜ now (output .exit) ≡ worked (callOf call) (now (job .entry)) (now (randomness .entry)) (now (witness .entry)) (now (output .entry)) ⌝ }
     ensures { λ r. ⌜ now (scratch .exit) ≡ zeroed (scratch-need (parameters (now (job .entry)))) (now (scratch .entry)) ⌝ }
 {
-    let q = regions::lay_out(p.rank, p.multiplicity, p.kappa, p.const_agg_length);
-    let need = buffers::scratch_length(p);
-    match prover_fill::fill(call, job, randomness, witness, p, q, scratch) {
+    let regions = regions::lay_out(
+        params.rank,
+        params.multiplicity,
+        params.kappa,
+        params.const_agg_length,
+    );
+    let need = buffers::scratch_length(params);
+    match prover_fill::fill(call, job, randomness, witness, params, regions, scratch) {
         Proved::Made => {
-            prover_sections::put(call, job, randomness, witness, p, q, scratch, output);
+            prover_sections::put(
+                call,
+                job,
+                randomness,
+                witness,
+                params,
+                regions,
+                scratch,
+                output,
+            );
             words::clear(scratch, need);
             Proved::Made
         }
         Proved::Refused(refusal) => {
             let sections = calls::makes(call);
-            let length = buffers::output_length(p, sections.from, sections.makes);
+            let length = buffers::output_length(params, sections.from, sections.makes);
             words::clear(output, length);
             let used = need;
             words::clear(scratch, used);
@@ -65,6 +79,14 @@ pub fn prove(
 {
     match prover::admit(call, job, randomness, witness, scratch.len(), output.len()) {
         Admitted::Refused(refusal) => Proved::Refused(refusal),
-        Admitted::Fit(p) => work_and_clear(call, job, randomness, witness, p, scratch, output),
+        Admitted::Fit(params) => work_and_clear(
+            call,
+            job,
+            randomness,
+            witness,
+            params,
+            scratch,
+            output,
+        ),
     }
 }

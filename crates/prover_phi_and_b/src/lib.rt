@@ -17,31 +17,31 @@ pub fn phi_and_b(
     job: &[u32],
     randomness: &[u32],
     witness: &[u32],
-    p: EnvironmentParameters,
-    q: Regions,
+    params: EnvironmentParameters,
+    regions: Regions,
     scratch: &mut [u32],
 )
-    requires { ⌜ Work-given (now job) (now witness) p q (now scratch) × Drawn 5 (now job) (now randomness) × Holds (now scratch) (q .phi2) (φ″-words (now job) (now randomness)) ⌝ }
-    ensures { λ _. ⌜ now (scratch .exit) ≡ with-b″ (with-φ (now (job .entry)) (now (randomness .entry)) q (now (scratch .entry))) (now (witness .entry)) p q ⌝ }
+    requires { ⌜ Work-given (now job) (now witness) params regions (now scratch) × Drawn 5 (now job) (now randomness) × Holds (now scratch) (regions .phi2) (φ″-words (now job) (now randomness)) ⌝ }
+    ensures { λ _. ⌜ now (scratch .exit) ≡ with-b″ (with-φ (now (job .entry)) (now (randomness .entry)) regions (now (scratch .entry))) (now (witness .entry)) params regions ⌝ }
 {
-    let width = p.multiplicity * p.rank;
+    let width = params.multiplicity * params.rank;
     let step = 64 * width;
     let constraints = Strided {
-        at: offsets::of_job(p, names::RING_PHI),
+        at: offsets::of_job(params, names::RING_PHI),
         step,
-        count: p.constraint_k,
+        count: params.constraint_k,
     };
     one_pass::phi_and_b(
         job,
         constraints,
         randomness,
-        offsets::of_randomness(p, names::ALPHA),
-        offsets::of_randomness(p, names::BETA),
+        offsets::of_randomness(params, names::ALPHA),
+        offsets::of_randomness(params, names::BETA),
         scratch,
-        q,
-        p.const_agg_length,
-        p.multiplicity,
-        p.rank,
+        regions,
+        params.const_agg_length,
+        params.multiplicity,
+        params.rank,
         witness,
         1,
     );

@@ -9,4 +9,4 @@ use Rattle.regions.specs.Laid.{Laid}
 
 -- the last region ends within the need: the challenges take no more than the second of the two r·n, as vectors have at least one element, and u and b'' take 48 of the 64 elements
 pub regions-fit : (P : Parameters) (s : Regions) → 1 ≤ P .n → Laid (P .n) (P .r) (P .κ) (P .L) s → s .b2 + 64 * 32 ≤ scratch-need P
-regions-fit P s h laid = omega (arith, laid .first, laid .a2, laid .phi, laid .a, laid .g, laid .challenges, laid .t, laid .u, laid .b2, mul-le-mul-left (P .r) h)
+regions-fit P s h laid = omega (arith, laid .first, laid .a2, laid .phi, laid .a-or-h, laid .g, laid .challenges, laid .t, laid .u, laid .b2, mul-le-mul-left (P .r) h)

@@ -9,8 +9,8 @@ pub struct Regions {
     pub a2: usize,
     // φ: r·n elements
     pub phi: usize,
-    // a triangle: h in the prover's work, a in the verifier's
-    pub a: usize,
+    // a triangle: a in the verifier's work, h in the prover's
+    pub a_or_h: usize,
     // g: a triangle
     pub g: usize,
     // r challenges
@@ -33,8 +33,8 @@ pub fn lay_out(n: usize, r: usize, kappa: usize, l: usize) -> Regions
     let phi2 = 0;
     let a2 = phi2 + 64 * (l * width);
     let phi = a2 + 64 * (l * cells);
-    let a = phi + 64 * width;
-    let g = a + 64 * cells;
+    let a_or_h = phi + 64 * width;
+    let g = a_or_h + 64 * cells;
     let challenges = g + 64 * cells;
     let t = challenges + 64 * r;
     let u = t + 64 * (r * kappa);
@@ -43,7 +43,7 @@ pub fn lay_out(n: usize, r: usize, kappa: usize, l: usize) -> Regions
         phi2,
         a2,
         phi,
-        a,
+        a_or_h,
         g,
         challenges,
         t,

@@ -27,14 +27,14 @@ fn admit_run(job: &[u32], first: usize, end: usize) -> RunAdmitted
 {
     match job::check(job) {
         Admitted::Refused(refusal) => RunAdmitted::Refused(refusal),
-        Admitted::Fit(p) => {
+        Admitted::Fit(params) => {
             if end <= first {
                 return RunAdmitted::Outside(first);
             }
-            if p.multiplicity < end {
+            if params.multiplicity < end {
                 return RunAdmitted::Outside(first);
             }
-            RunAdmitted::Fit(p)
+            RunAdmitted::Fit(params)
         }
     }
 }
@@ -55,13 +55,21 @@ pub fn admit_projection(
     match admit_run(job, first, end) {
         RunAdmitted::Refused(refusal) => RunAdmitted::Refused(refusal),
         RunAdmitted::Outside(place) => RunAdmitted::Outside(place),
-        RunAdmitted::Fit(p) => {
+        RunAdmitted::Fit(params) => {
             let count = end - first;
-            let matrices = 16384 * p.rank * count;
-            let words = 64 * (count * p.rank);
-            match check_given(p, matrices, projection, words, vectors, scratch, output) {
+            let matrices = 16384 * params.rank * count;
+            let words = 64 * (count * params.rank);
+            match check_given(
+                params,
+                matrices,
+                projection,
+                words,
+                vectors,
+                scratch,
+                output,
+            ) {
                 SliceChecked::Refused(refusal) => RunAdmitted::Refused(refusal),
-                SliceChecked::Fine => RunAdmitted::Fit(p),
+                SliceChecked::Fine => RunAdmitted::Fit(params),
             }
         }
     }
@@ -82,13 +90,13 @@ pub fn admit_rows(
     match admit_run(job, first, end) {
         RunAdmitted::Refused(refusal) => RunAdmitted::Refused(refusal),
         RunAdmitted::Outside(place) => RunAdmitted::Outside(place),
-        RunAdmitted::Fit(p) => {
+        RunAdmitted::Fit(params) => {
             let count = end - first;
-            let need = 1 + 64 * (count * p.kappa);
-            let words = 64 * (count * p.rank);
-            match check_lent(p, words, vectors, scratch, need, output) {
+            let need = 1 + 64 * (count * params.kappa);
+            let words = 64 * (count * params.rank);
+            match check_lent(params, words, vectors, scratch, need, output) {
                 SliceChecked::Refused(refusal) => RunAdmitted::Refused(refusal),
-                SliceChecked::Fine => RunAdmitted::Fit(p),
+                SliceChecked::Fine => RunAdmitted::Fit(params),
             }
         }
     }

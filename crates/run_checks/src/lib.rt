@@ -74,19 +74,19 @@ pub fn check_output(need: usize, lent: usize) -> SliceChecked
 
 // "11 and 12 on its vectors, 1, 2": so many words of vectors, and the length that the output needs.
 pub fn check_lent(
-    p: EnvironmentParameters,
+    params: EnvironmentParameters,
     count: usize,
     vectors: &[u32],
     scratch: usize,
     need: usize,
     output: usize,
 ) -> SliceChecked
-    requires { ⌜ Sized (parametersOf p) ⌝ }
-    ensures { λ r. ⌜ ofSliceChecked r ≡ lent (parametersOf p) count (now (vectors .entry)) scratch need output ⌝ }
+    requires { ⌜ Sized (parametersOf params) ⌝ }
+    ensures { λ r. ⌜ ofSliceChecked r ≡ lent (parametersOf params) count (now (vectors .entry)) scratch need output ⌝ }
 {
     match check_vectors(vectors, count) {
         SliceChecked::Refused(refusal) => SliceChecked::Refused(refusal),
-        SliceChecked::Fine => match scratch::check(scratch, p) {
+        SliceChecked::Fine => match scratch::check(scratch, params) {
             SliceChecked::Refused(refusal) => SliceChecked::Refused(refusal),
             SliceChecked::Fine => check_output(need, output),
         },
@@ -95,7 +95,7 @@ pub fn check_lent(
 
 // "7 and 8 on the run's projection words", then the others: the p of a run takes 257 words.
 pub fn check_given(
-    p: EnvironmentParameters,
+    params: EnvironmentParameters,
     matrices: usize,
     projection: &[u32],
     count: usize,
@@ -103,11 +103,11 @@ pub fn check_given(
     scratch: usize,
     output: usize,
 ) -> SliceChecked
-    requires { ⌜ Sized (parametersOf p) ⌝ }
-    ensures { λ r. ⌜ ofSliceChecked r ≡ given (parametersOf p) matrices (now (projection .entry)) count (now (vectors .entry)) scratch output ⌝ }
+    requires { ⌜ Sized (parametersOf params) ⌝ }
+    ensures { λ r. ⌜ ofSliceChecked r ≡ given (parametersOf params) matrices (now (projection .entry)) count (now (vectors .entry)) scratch output ⌝ }
 {
     match check_projection(projection, matrices) {
         SliceChecked::Refused(refusal) => SliceChecked::Refused(refusal),
-        SliceChecked::Fine => check_lent(p, count, vectors, scratch, 257, output),
+        SliceChecked::Fine => check_lent(params, count, vectors, scratch, 257, output),
     }
 }

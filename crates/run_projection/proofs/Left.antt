@@ -53,14 +53,14 @@ module _ (J : List ℕ) (x : Run) (Π S scratch output : List ℕ) where
     outside-scratch = ap (λ a. result a cleared scratch) e
 
   -- what the work needs of a call that is refused nothing, and what it leaves
-  module _ (p : EnvironmentParameters) (h : Projectable J x Π S (length scratch) (length output) p) where
-    same : parametersOf p ≡ parameters J
+  module _ (params : EnvironmentParameters) (h : Projectable J x Π S (length scratch) (length output) params) where
+    same : parametersOf params ≡ parameters J
     same = h .runnable .given .in-job .same
 
-    pub within : Within Π 1 S 1 (p .rank) (size x)
+    pub within : Within Π 1 S 1 (params .rank) (size x)
     unfolding span
     within =
-        let n : p .rank ≡ parameters J .n = ap (λ Q. Q .n) same in
+        let n : params .rank ≡ parameters J .n = ap (λ Q. Q .n) same in
         subst (λ n. Within Π 1 S 1 n (size x)) (sym n)
         (record {
           matrices = matrices (parameters J .n) (size x) (length Π) (h .projection .whole);
@@ -79,20 +79,20 @@ module _ (J : List ℕ) (x : Run) (Π S scratch output : List ℕ) where
     unfolding span
     output-fits = h .runnable .given .output-fits
 
-    pub scratch-fits : scratch-need (parametersOf p) ≤ length scratch
+    pub scratch-fits : scratch-need (parametersOf params) ≤ length scratch
     scratch-fits = subst (λ Q. scratch-need Q ≤ length scratch) (sym same) (h .runnable .scratch-fits)
 
     module _ (e : fine ≡ answer) where
-      pub worked-output : (exit : List ℕ) → exit ≡ stored p-section (Jl.run Π 1 S 1 (p .rank) 0 (size x)) output → exit ≡ project-output J x Π S scratch output
+      pub worked-output : (exit : List ℕ) → exit ≡ stored p-section (Jl.run Π 1 S 1 (params .rank) 0 (size x)) output → exit ≡ project-output J x Π S scratch output
       unfolding project-output run-p start
       worked-output exit f =
-          let n : p .rank ≡ parameters J .n = ap (λ Q. Q .n) same in
+          let n : params .rank ≡ parameters J .n = ap (λ Q. Q .n) same in
           f
           ∙ ap (λ n. stored p-section (Jl.run Π 1 S 1 n 0 (size x)) output) n
           ∙ ap (λ ws. stored p-section ws output) (table-ext 256 (Jl.run-row Π 1 S 1 (parameters J .n) 0 (size x)) (run-p J x Π S) (λ j l. run-of-first J Π S (size x) j))
           ∙ ap (λ a. result a made output) e
 
-      pub worked-scratch : (exit : List ℕ) → exit ≡ zeroed (scratch-need (parametersOf p)) scratch → exit ≡ project-scratch J x Π S scratch output
+      pub worked-scratch : (exit : List ℕ) → exit ≡ zeroed (scratch-need (parametersOf params)) scratch → exit ≡ project-scratch J x Π S scratch output
       unfolding project-scratch
       worked-scratch exit f = f ∙ ap (λ Q. zeroed (scratch-need Q) scratch) same ∙ ap (λ a. result a cleared scratch) e
 

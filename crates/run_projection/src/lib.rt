@@ -27,21 +27,21 @@ fn put_p(projection: &[u32], vectors: &[u32], n: usize, count: usize, output: &m
 
 // The work: p's section, and "scratch is zero to the length needed".
 fn work(
-    p: EnvironmentParameters,
+    params: EnvironmentParameters,
     count: usize,
     projection: &[u32],
     vectors: &[u32],
     scratch: &mut [u32],
     output: &mut [u32],
 ) -> LabradorAnswer
-    requires { ⌜ Within (now projection) 1 (now vectors) 1 (p .rank) count × (257 ≤ length (now output)) ⌝ }
-    requires { ⌜ Sized (parametersOf p) × (scratch-need (parametersOf p) ≤ length (now scratch)) ⌝ }
+    requires { ⌜ Within (now projection) 1 (now vectors) 1 (params .rank) count × (257 ≤ length (now output)) ⌝ }
+    requires { ⌜ Sized (parametersOf params) × (scratch-need (parametersOf params) ≤ length (now scratch)) ⌝ }
     ensures { λ r. ⌜ (r .number ≡ 0) × (r .place ≡ 0) ⌝ }
-    ensures { λ r. ⌜ now (output .exit) ≡ stored p-section (projected (now (projection .entry)) 1 (now (vectors .entry)) 1 (p .rank) 0 count) (now (output .entry)) ⌝ }
-    ensures { λ r. ⌜ now (scratch .exit) ≡ zeroed (scratch-need (parametersOf p)) (now (scratch .entry)) ⌝ }
+    ensures { λ r. ⌜ now (output .exit) ≡ stored p-section (projected (now (projection .entry)) 1 (now (vectors .entry)) 1 (params .rank) 0 count) (now (output .entry)) ⌝ }
+    ensures { λ r. ⌜ now (scratch .exit) ≡ zeroed (scratch-need (parametersOf params)) (now (scratch .entry)) ⌝ }
 {
-    put_p(projection, vectors, p.rank, count, output);
-    let need = buffers::scratch_length(p);
+    put_p(projection, vectors, params.rank, count, output);
+    let need = buffers::scratch_length(params);
     words::clear(scratch, need);
     LabradorAnswer {
         number: 0,
@@ -75,6 +75,6 @@ pub fn project(
             number: 34,
             place: place as u64,
         },
-        RunAdmitted::Fit(p) => work(p, end - first, projection, vectors, scratch, output),
+        RunAdmitted::Fit(params) => work(params, end - first, projection, vectors, scratch, output),
     }
 }

@@ -40,7 +40,7 @@ moved-then : (k : ℕ) (a b : Answer) → moved k (a then b) ≡ moved k a then 
 unfolding moved
 moved-then k fine b = refl
 moved-then k (accepted c) b = refl
-moved-then k (refused n p) b = refl
+moved-then k (refused n params) b = refl
 moved-then k (failed n vs) b = refl
 
 moved-first : (k n : ℕ) (f : ℕ → Answer) → moved k (first n f) ≡ first n (λ i. moved k (f i))
@@ -58,7 +58,7 @@ moved-test k i (no n) = refl
 place-then : (a b : Answer) (n : ℕ) → place a ≤ n → place b ≤ n → place (a then b) ≤ n
 place-then fine b n h k = k
 place-then (accepted c) b n h k = h
-place-then (refused m p) b n h k = h
+place-then (refused m params) b n h k = h
 place-then (failed m vs) b n h k = h
 
 place-test : (i n : ℕ) {A : Type 0} (d : Dec A) → i ≤ n → place (require d (refused 13 i)) ≤ n
@@ -71,38 +71,39 @@ first-place S at n bound zero m h = omega arith
 first-place S at n bound (suc c) m h =
     place-then (first c (vector-norm S at n bound)) (vector-norm S at n bound c) m (first-place S at n bound c m (omega arith)) (place-test c m (decLe (norm-of (table n (vector S at n c))) bound) (omega arith))
 
-module _ (J : List ℕ) (x : Run) (S O : List ℕ) (p : EnvironmentParameters) (h : Run-given J x S (rows-section (parameters J) x) (length O) p) where
-  same : parametersOf p ≡ parameters J
+module _ (J : List ℕ) (x : Run) (S O : List ℕ) (params : EnvironmentParameters) (h : Run-given J x S (rows-section (parameters J) x) (length O) params) where
+  same : parametersOf params ≡ parameters J
   same = h .in-job .same
 
   -- the words that the rows take
   rows-words : ℕ
-  rows-words = 64 * (size x * p .kappa)
+  rows-words = 64 * (size x * params .kappa)
 
-  κ-is : p .kappa ≡ parameters J .κ
+  κ-is : params .kappa ≡ parameters J .κ
   κ-is = ap (λ Q. Q .κ) same
 
-  pub need-is : 1 + 64 * (size x * p .kappa) ≡ span (rows-section (parameters J) x)
+  pub need-is : 1 + 64 * (size x * params .kappa) ≡ span (rows-section (parameters J) x)
   need-is = ap (λ k. 1 + 64 * (size x * k)) κ-is ∙ one-span (64 * (size x * parameters J .κ))
 
-  pub rows-room : 1 + 64 * (size x * p .kappa) ≤ length O
+  pub rows-room : 1 + 64 * (size x * params .kappa) ≤ length O
   rows-room = subst (λ n. n ≤ length O) (sym need-is) (h .output-fits)
 
-  vectors-room : 1 + 64 * (size x * p .rank) ≤ length S
+  vectors-room : 1 + 64 * (size x * params .rank) ≤ length S
   vectors-room = subst (λ n. 1 + 64 * (size x * n) ≤ length S) (sym (ap (λ Q. Q .n) same)) (within (size x * parameters J .n) (length S) (h .vectors .whole))
     where
       within : (k l : ℕ) → l ≡ 0 + span (canonical (64 * k) ∷ []) → 1 + 64 * k ≤ l
       within k l e = unfold span in omega arith
 
   -- 13: what `check_witness` needs
-  pub norms-room : (1 + 64 * (size x * p .rank) ≤ length S) × (p .rank ≤ 2 ^ 18)
+  pub norms-room : (1 + 64 * (size x * params .rank) ≤ length S) × (params .rank ≤ 2 ^ 18)
   norms-room = (vectors-room, omega (arith, run-sized (h .in-job) .within .n .1))
 
   -- what `commit_all` needs
-  pub commit-room : (at : ℕ) → at ≡ 31 + start (job-sections (parametersOf p)) 6
-      → (at + 64 * (p .kappa * p .rank) ≤ length J) × (1 + 64 * (size x * p .rank) ≤ length S) × (1 + 64 * (size x * p .kappa) ≤ length O) × (p .rank ≤ 64) × (p .kappa ≤ 64)
+  pub commit-room : (at : ℕ) → at ≡ 31 + start (job-sections (parametersOf params)) 6
+      → (at + 64 * (params .kappa * params .rank) ≤ length J) × (1 + 64 * (size x * params .rank) ≤ length S) × (1 + 64 * (size x * params .kappa) ≤ length O) × (params .rank ≤ 64) × (params .kappa ≤ 64)
   commit-room at e = (
-    subst (λ a. a + 64 * (p .kappa * p .rank) ≤ length J) (sym e) (subst (λ Q. 31 + start (job-sections Q) 6 + 64 * (Q .κ * Q .n) ≤ length J) (sym same) (h .in-job .job .inside 6 (omega arith))),
+    subst (λ a. a + 64 * (params .kappa * params .rank) ≤ length J) (sym e)
+        (subst (λ Q. 31 + start (job-sections Q) 6 + 64 * (Q .κ * Q .n) ≤ length J) (sym same) (h .in-job .job .inside 6 (omega arith))),
     vectors-room,
     rows-room,
     run-sized (h .in-job) .within .n .1,
@@ -110,24 +111,24 @@ module _ (J : List ℕ) (x : Run) (S O : List ℕ) (p : EnvironmentParameters) (
   )
 
   -- what it stores is the run's rows
-  pub rows-are : (at : ℕ) → at ≡ 31 + start (job-sections (parametersOf p)) 6 → commitments-of J at (p .kappa) (p .rank) S 1 (size x) ≡ run-rows J x S
+  pub rows-are : (at : ℕ) → at ≡ 31 + start (job-sections (parametersOf params)) 6 → commitments-of J at (params .kappa) (params .rank) S 1 (size x) ≡ run-rows J x S
   unfolding run-rows F.t start
   rows-are at e =
-      ap (λ a. commitments-of J a (p .kappa) (p .rank) S 1 (size x)) e
+      ap (λ a. commitments-of J a (params .kappa) (params .rank) S 1 (size x)) e
       ∙ ap (λ Q. commitments-of J (31 + start (job-sections Q) 6) (Q .κ) (Q .n) S 1 (size x)) same
 
   rows-size : length (run-rows J x S) ≡ rows-words
   unfolding rows-words
   rows-size = length-run-rows J x S ∙ ap (λ k. 64 * (size x * k)) (sym κ-is)
 
-  pub rows-stored : (at : ℕ) → at ≡ 31 + start (job-sections (parametersOf p)) 6 → (O′ : List ℕ) → O′ ≡ splice (set O 0 (64 * (size x * p .kappa))) 1 (commitments-of J at (p .kappa) (p .rank) S 1 (size x)) → O′ ≡ stored (rows-section (parameters J) x) (run-rows J x S) O
+  pub rows-stored : (at : ℕ) → at ≡ 31 + start (job-sections (parametersOf params)) 6 → (O′ : List ℕ) → O′ ≡ splice (set O 0 (64 * (size x * params .kappa))) 1 (commitments-of J at (params .kappa) (params .rank) S 1 (size x)) → O′ ≡ stored (rows-section (parameters J) x) (run-rows J x S) O
   unfolding rows-words
   rows-stored at e O′ f =
-      section-put (rows-section (parameters J) x) O O′ (64 * (size x * p .kappa)) (run-rows J x S) rows-size (sym need-is) rows-room (f ∙ ap (splice (set O 0 (64 * (size x * p .kappa))) 1) (rows-are at e))
+      section-put (rows-section (parameters J) x) O O′ (64 * (size x * params .kappa)) (run-rows J x S) rows-size (sym need-is) rows-room (f ∙ ap (splice (set O 0 (64 * (size x * params .kappa))) 1) (rows-are at e))
 
   -- the tests of the run's own vectors
   abbrev tests : Answer
-  tests = first (size x) (vector-norm S 1 (p .rank) (value128 (p .«bound_a»)))
+  tests = first (size x) (vector-norm S 1 (params .rank) (value128 (params .«bound_a»)))
 
   norm-is : run-norm J x S ≡ moved (x .first) tests
   unfolding run-norm start
@@ -156,16 +157,16 @@ module _ (J : List ℕ) (x : Run) (S O : List ℕ) (p : EnvironmentParameters) (
   -- where one is
   module _ (r : Refusal) (e : ofRefusal r ≡ tests) where
     pub few-places : place (ofRefusal r) ≤ 16
-    few-places = subst (λ a. place a ≤ 16) (sym e) (first-place S 1 (p .rank) (value128 (p .«bound_a»)) (size x) 16 (few (h .in-job)))
+    few-places = subst (λ a. place a ≤ 16) (sym e) (first-place S 1 (params .rank) (value128 (params .«bound_a»)) (size x) 16 (few (h .in-job)))
 
     pub norm-refused : run-norm J x S ≡ refused (number (ofRefusal r)) (x .first + place (ofRefusal r))
     unfolding moved
     norm-refused = norm-is ∙ ap (moved (x .first)) (sym e) ∙ sym (refusal-none r (ofRefusal r) (refused (number (ofRefusal r)) (x .first + place (ofRefusal r))))
 
-    pub refused-output : (O′ : List ℕ) → O′ ≡ splice O 0 (replicate (1 + 64 * (size x * p .kappa)) 0) → O′ ≡ rows-made J x S O
+    pub refused-output : (O′ : List ℕ) → O′ ≡ splice O 0 (replicate (1 + 64 * (size x * params .kappa)) 0) → O′ ≡ rows-made J x S O
     unfolding rows-made
     refused-output O′ f =
         let made = rows-section (parameters J) x in
-        zeros-put (1 + 64 * (size x * p .kappa)) O O′ rows-room f
+        zeros-put (1 + 64 * (size x * params .kappa)) O O′ rows-room f
         ∙ ap (λ n. zeroed n O) need-is
         ∙ ap (λ a. result a (stored made (run-rows J x S) O) (zeroed (span made) O)) (sym norm-refused)

@@ -61,10 +61,10 @@ module _ (J : List ℕ) (x : Run) (S scratch output : List ℕ) where
     unfolding rows-output
     worked-output = ap (λ a. result a (rows-made J x S output) output) e
 
-    module _ (p : EnvironmentParameters) (h : Runnable J x S (length scratch) (rows-section (parameters J) x) (length output) p) where
-      pub scratch-fits : scratch-need (parametersOf p) ≤ length scratch
+    module _ (params : EnvironmentParameters) (h : Runnable J x S (length scratch) (rows-section (parameters J) x) (length output) params) where
+      pub scratch-fits : scratch-need (parametersOf params) ≤ length scratch
       scratch-fits = subst (λ Q. scratch-need Q ≤ length scratch) (sym (h .given .in-job .same)) (h .scratch-fits)
 
-      pub worked-scratch : (exit : List ℕ) → exit ≡ zeroed (scratch-need (parametersOf p)) scratch → exit ≡ rows-scratch J x S scratch output
+      pub worked-scratch : (exit : List ℕ) → exit ≡ zeroed (scratch-need (parametersOf params)) scratch → exit ≡ rows-scratch J x S scratch output
       unfolding rows-scratch
       worked-scratch exit f = f ∙ ap (λ Q. zeroed (scratch-need Q) scratch) (h .given .in-job .same) ∙ ap (λ a. result a cleared scratch) e

@@ -23,46 +23,57 @@ ghost use Rattle.run_rows.specs.Call.{RowsCall};
 // The section of the rows of a run: the whole call's commitments, of a slice that starts at the run's first vector.
 fn put_rows(
     job: &[u32],
-    p: EnvironmentParameters,
+    params: EnvironmentParameters,
     first: usize,
     end: usize,
     vectors: &[u32],
     output: &mut [u32],
 )
-    requires { ⌜ Run-given (now job) (run first end) (now vectors) (rows-section (parameters (now job)) (run first end)) (length (now output)) p ⌝ }
+    requires { ⌜ Run-given (now job) (run first end) (now vectors) (rows-section (parameters (now job)) (run first end)) (length (now output)) params ⌝ }
     ensures { λ _. ⌜ now (output .exit) ≡ stored-rows (now (job .entry)) (run first end) (now (vectors .entry)) (now (output .entry)) ⌝ }
 {
-    let a_at = offsets::of_job(p, names::MATRIX_A);
+    let a_at = offsets::of_job(params, names::MATRIX_A);
     let count = end - first;
-    let words = 64 * (count * p.kappa);
+    let words = 64 * (count * params.kappa);
     output[0] = words as u32;
-    ajtai_commitment::commit_all(job, a_at, p.kappa, p.rank, vectors, 1, count, output, 1);
+    let vectors_at = 1;
+    ajtai_commitment::commit_all(
+        job,
+        a_at,
+        params.kappa,
+        params.rank,
+        vectors,
+        vectors_at,
+        count,
+        output,
+        1,
+    );
 }
 
 // "for t also 13, its i counted over the whole job"; after it the output's needed part is zero.
 fn commit(
     job: &[u32],
-    p: EnvironmentParameters,
+    params: EnvironmentParameters,
     first: usize,
     end: usize,
     vectors: &[u32],
     output: &mut [u32],
 ) -> LabradorAnswer
-    requires { ⌜ Run-given (now job) (run first end) (now vectors) (rows-section (parameters (now job)) (run first end)) (length (now output)) p ⌝ }
+    requires { ⌜ Run-given (now job) (run first end) (now vectors) (rows-section (parameters (now job)) (run first end)) (length (now output)) params ⌝ }
     ensures { λ r. ⌜ r ≡ labradorAnswer (run-norm (now (job .entry)) (run first end) (now (vectors .entry))) ⌝ }
     ensures { λ r. ⌜ now (output .exit) ≡ rows-made (now (job .entry)) (run first end) (now (vectors .entry)) (now (output .entry)) ⌝ }
 {
     let count = end - first;
-    match common_instances::check_witness(vectors, 1, p.rank, count, p.bound_a) {
+    match common_instances::check_witness(vectors, 1, params.rank, count, params.bound_a) {
         Proved::Made => {
-            put_rows(job, p, first, end, vectors, output);
+            put_rows(job, params, first, end, vectors, output);
             LabradorAnswer {
                 number: 0,
                 place: 0,
             }
         }
         Proved::Refused(refusal) => {
-            words::clear(output, 1 + 64 * (count * p.kappa));
+            words::clear(output, 1 + 64 * (count * params.kappa));
             let found = number_of(refusal);
             LabradorAnswer {
                 number: found.number,
@@ -89,9 +100,9 @@ pub fn rows(
             number: 34,
             place: place as u64,
         },
-        RunAdmitted::Fit(p) => {
-            let answer = commit(job, p, first, end, vectors, output);
-            let need = buffers::scratch_length(p);
+        RunAdmitted::Fit(params) => {
+            let answer = commit(job, params, first, end, vectors, output);
+            let need = buffers::scratch_length(params);
             words::clear(scratch, need);
             answer
         }

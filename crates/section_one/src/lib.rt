@@ -57,12 +57,12 @@ fn enough_aggregations(job: &[u32]) -> SectionOne
     requires { ⌜ (31 ≤ length (now job)) × (limits (parameters (now job)) ≡ fine) ⌝ }
     ensures { λ r. ⌜ (ofSectionOne r ≡ enough-aggregations (parameters (now (job .entry)))) × Reads (now (job .entry)) r ⌝ }
 {
-    let p = EnvironmentParameters::of_words(job);
-    let least = env_params::least_aggregations(p.log_q);
-    if p.const_agg_length < least {
+    let params = EnvironmentParameters::of_words(job);
+    let least = env_params::least_aggregations(params.log_q);
+    if params.const_agg_length < least {
         SectionOne::Refused(Refusal::TooFewAggregations(12))
     } else {
-        SectionOne::Read(p)
+        SectionOne::Read(params)
     }
 }
 

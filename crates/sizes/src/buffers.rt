@@ -10,22 +10,22 @@ ghost use Rattle.relation.specs.Parameters.{parametersOf};
 ghost use Rattle.sizes.specs.Sizes.{Sized};
 
 // "64·((L+2)(r·n+T)+r·κ+n+64) words"
-pub fn scratch_length(p: EnvironmentParameters) -> usize
-    requires { ⌜ Sized (parametersOf p) ⌝ }
-    ensures { λ r. ⌜ r ≡ scratch-need (parametersOf p) ⌝ }
+pub fn scratch_length(params: EnvironmentParameters) -> usize
+    requires { ⌜ Sized (parametersOf params) ⌝ }
+    ensures { λ r. ⌜ r ≡ scratch-need (parametersOf params) ⌝ }
 {
-    let n = p.rank;
-    let r = p.multiplicity;
-    let kappa = p.kappa;
-    let rows = p.const_agg_length;
+    let n = params.rank;
+    let r = params.multiplicity;
+    let kappa = params.kappa;
+    let rows = params.const_agg_length;
     let t = slices::triangle(r);
     64 * ((rows + 2) * (r * n + t) + r * kappa + n + 64)
 }
 
 // The transcript's sections from one on, counts included, that a call makes.
-pub fn output_length(p: EnvironmentParameters, from: usize, makes: usize) -> usize
-    requires { ⌜ Sized (parametersOf p) × (from + makes ≤ 8) ⌝ }
-    ensures { λ r. ⌜ r ≡ span (take makes (drop from (transcript-sections (parametersOf p)))) ⌝ }
+pub fn output_length(params: EnvironmentParameters, from: usize, makes: usize) -> usize
+    requires { ⌜ Sized (parametersOf params) × (from + makes ≤ 8) ⌝ }
+    ensures { λ r. ⌜ r ≡ span (take makes (drop from (transcript-sections (parametersOf params)))) ⌝ }
 {
-    sections::span(slices::transcript_sections(p), from, makes)
+    sections::span(slices::transcript_sections(params), from, makes)
 }

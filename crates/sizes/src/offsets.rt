@@ -9,25 +9,25 @@ ghost use Rattle.relation.specs.Parameters.{parametersOf};
 ghost use Rattle.sizes.specs.Sizes.{Sized};
 
 // Of the job's sections after section one, counted from 0.
-pub fn of_job(p: EnvironmentParameters, m: usize) -> usize
-    requires { ⌜ Sized (parametersOf p) × (m < 10) ⌝ }
-    ensures { λ r. ⌜ r ≡ 31 + start (job-sections (parametersOf p)) m ⌝ }
+pub fn of_job(params: EnvironmentParameters, m: usize) -> usize
+    requires { ⌜ Sized (parametersOf params) × (m < 10) ⌝ }
+    ensures { λ r. ⌜ r ≡ 31 + start (job-sections (parametersOf params)) m ⌝ }
 {
-    31 + sections::start(slices::job_sections(p), m)
+    31 + sections::start(slices::job_sections(params), m)
 }
 
 // Of the randomness's sections.
-pub fn of_randomness(p: EnvironmentParameters, m: usize) -> usize
-    requires { ⌜ Sized (parametersOf p) × (m < 7) ⌝ }
-    ensures { λ r. ⌜ r ≡ start (randomness-sections (parametersOf p)) m ⌝ }
+pub fn of_randomness(params: EnvironmentParameters, m: usize) -> usize
+    requires { ⌜ Sized (parametersOf params) × (m < 7) ⌝ }
+    ensures { λ r. ⌜ r ≡ start (randomness-sections (parametersOf params)) m ⌝ }
 {
-    sections::start(slices::randomness_sections(p, 7), m)
+    sections::start(slices::randomness_sections(params, 7), m)
 }
 
 // Of the transcript's sections.
-pub fn of_transcript(p: EnvironmentParameters, m: usize) -> usize
-    requires { ⌜ Sized (parametersOf p) × (m < 8) ⌝ }
-    ensures { λ r. ⌜ r ≡ start (transcript-sections (parametersOf p)) m ⌝ }
+pub fn of_transcript(params: EnvironmentParameters, m: usize) -> usize
+    requires { ⌜ Sized (parametersOf params) × (m < 8) ⌝ }
+    ensures { λ r. ⌜ r ≡ start (transcript-sections (parametersOf params)) m ⌝ }
 {
-    sections::start(slices::transcript_sections(p), m)
+    sections::start(slices::transcript_sections(params), m)
 }

@@ -20,19 +20,19 @@ pub fn triangle(r: usize) -> usize
 
 // "constant-term constraints: l triangles a', then l·r·n elements φ', then l words b0; ring constraints: K triangles a, K·r·n elements φ,
 // K elements b; matrices A (κ rows of n), B (κ1 rows of r·κ·t1), C (κ1 rows of T·t2), D (κ2 rows of T·t1)"
-pub fn job_sections(p: EnvironmentParameters) -> Sections
-    requires { ⌜ Sized (parametersOf p) ⌝ }
-    ensures { λ s. ⌜ IsTable (job-sections (parametersOf p)) s ⌝ }
+pub fn job_sections(params: EnvironmentParameters) -> Sections
+    requires { ⌜ Sized (parametersOf params) ⌝ }
+    ensures { λ s. ⌜ IsTable (job-sections (parametersOf params)) s ⌝ }
 {
-    let n = p.rank;
-    let r = p.multiplicity;
-    let l = p.constraint_l;
-    let k = p.constraint_k;
-    let kappa = p.kappa;
-    let kappa_1 = p.kappa_1;
-    let kappa_2 = p.kappa_2;
-    let t_1 = p.t_1;
-    let t_2 = p.t_2;
+    let n = params.rank;
+    let r = params.multiplicity;
+    let l = params.constraint_l;
+    let k = params.constraint_k;
+    let kappa = params.kappa;
+    let kappa_1 = params.kappa_1;
+    let kappa_2 = params.kappa_2;
+    let t_1 = params.t_1;
+    let t_2 = params.t_2;
     let t = triangle(r);
     Sections {
         counts: [
@@ -54,15 +54,15 @@ pub fn job_sections(p: EnvironmentParameters) -> Sections
 
 // "16384·n·r projection words […]; psi, L rows of l; omega, L rows of 256; alpha, K elements; beta, L elements; 41·r sign words; 63·r shuffle
 // words"; the first sections alone for a round.
-pub fn randomness_sections(p: EnvironmentParameters, handed: usize) -> Sections
-    requires { ⌜ Sized (parametersOf p) × (handed ≤ 7) ⌝ }
-    ensures { λ s. ⌜ IsTable (take handed (randomness-sections (parametersOf p))) s ⌝ }
+pub fn randomness_sections(params: EnvironmentParameters, handed: usize) -> Sections
+    requires { ⌜ Sized (parametersOf params) × (handed ≤ 7) ⌝ }
+    ensures { λ s. ⌜ IsTable (take handed (randomness-sections (parametersOf params))) s ⌝ }
 {
-    let n = p.rank;
-    let r = p.multiplicity;
-    let l = p.constraint_l;
-    let k = p.constraint_k;
-    let rows = p.const_agg_length;
+    let n = params.rank;
+    let r = params.multiplicity;
+    let l = params.constraint_l;
+    let k = params.constraint_k;
+    let rows = params.const_agg_length;
     let q = modulus::TOP;
     Sections {
         counts: [
@@ -83,28 +83,39 @@ pub fn randomness_sections(p: EnvironmentParameters, handed: usize) -> Sections
 }
 
 // "Witness: r·n elements, s_1 to s_r."
-pub fn witness_sections(p: EnvironmentParameters) -> Sections
-    requires { ⌜ Sized (parametersOf p) ⌝ }
-    ensures { λ s. ⌜ IsTable (witness-sections (parametersOf p)) s ⌝ }
+pub fn witness_sections(params: EnvironmentParameters) -> Sections
+    requires { ⌜ Sized (parametersOf params) ⌝ }
+    ensures { λ s. ⌜ IsTable (witness-sections (parametersOf params)) s ⌝ }
 {
     Sections {
-        counts: [64 * (p.multiplicity * p.rank), 0, 0, 0, 0, 0, 0, 0, 0, 0],
+        counts: [
+            64 * (params.multiplicity * params.rank),
+            0,
+            0,
+            0,
+            0,
+            0,
+            0,
+            0,
+            0,
+            0,
+        ],
         greatest: [modulus::TOP; 10],
         len: 1,
     }
 }
 
 // "Transcript: u1 (κ1 elements), p (256 words), b''" of L elements, "u2 (κ2), z (n), t (r·κ), g (T), h (T)."
-pub fn transcript_sections(p: EnvironmentParameters) -> Sections
-    requires { ⌜ Sized (parametersOf p) ⌝ }
-    ensures { λ s. ⌜ IsTable (transcript-sections (parametersOf p)) s ⌝ }
+pub fn transcript_sections(params: EnvironmentParameters) -> Sections
+    requires { ⌜ Sized (parametersOf params) ⌝ }
+    ensures { λ s. ⌜ IsTable (transcript-sections (parametersOf params)) s ⌝ }
 {
-    let n = p.rank;
-    let r = p.multiplicity;
-    let kappa = p.kappa;
-    let kappa_1 = p.kappa_1;
-    let kappa_2 = p.kappa_2;
-    let rows = p.const_agg_length;
+    let n = params.rank;
+    let r = params.multiplicity;
+    let kappa = params.kappa;
+    let kappa_1 = params.kappa_1;
+    let kappa_2 = params.kappa_2;
+    let rows = params.const_agg_length;
     let t = triangle(r);
     Sections {
         counts: [

@@ -21,9 +21,9 @@ module _ (J : List ℕ) (x : Admitted) (e : ofAdmitted x ≡ job-refusal J) wher
       refusal-none r n 0 ∙ ap (λ a. result a n 0) (sym (ap ofAdmitted is) ∙ e)
 
   -- of a job that is refused nothing
-  pub length-found : (p : EnvironmentParameters) (length : ℕ) → At x (λ p. parametersOf p ≡ parameters J) → x ≡ A.Fit p → length ≡ span (transcript-sections (parametersOf p))
+  pub length-found : (params : EnvironmentParameters) (length : ℕ) → At x (λ params. parametersOf params ≡ parameters J) → x ≡ A.Fit params → length ≡ span (transcript-sections (parametersOf params))
       → length ≡ result (job-refusal J) (span (transcript-sections (parameters J))) 0
-  length-found p length at is h =
+  length-found params length at is h =
       h
-      ∙ ap (λ P. span (transcript-sections P)) (fit-same J x p e at is)
+      ∙ ap (λ P. span (transcript-sections P)) (fit-same J x params e at is)
       ∙ ap (λ a. result a (span (transcript-sections (parameters J))) 0) (sym (ap ofAdmitted is) ∙ e)

@@ -13,6 +13,6 @@ pub fn transcript_length(job: &[u32]) -> usize
 {
     match job::check(job) {
         Admitted::Refused(_) => 0,
-        Admitted::Fit(p) => buffers::output_length(p, 0, 8),
+        Admitted::Fit(params) => buffers::output_length(params, 0, 8),
     }
 }

@@ -1,4 +1,4 @@
--- The six layers of the transform give the values at the odd powers of a root whose 64th power is −1, and each is undone up to a factor 2.
+-- The six layers of the transform give the values at the odd powers of a root whose 64th power is −1, and each has an inverse up to a factor 2.
 use mathlib.Core.Path.{_≡_, refl, sym, ap, ap₂, _∙_}
 use Prim.Native.Nat.{ℕ, zero, suc, _+_, _-_, _*_, _/_, _%_, _<_, _^_}
 use native.Mathlib.Nat as Nat
@@ -182,17 +182,17 @@ module _ (O : Ops) (R : CRing O) (g : O .Carrier) (root : pow O g 64 ≡ O .neg 
       bit : (t : ℕ) → (2 * t + 1) % 2 ≡ 1
       bit t = omega arith
 
-  -- a layer undone: u and v are the entries 2t and 2t + 1, times c
-  pub undo-low : (j t : ℕ) (c u v : Carrier) (f : ℕ → Carrier) → u ≡ c ⊗ layer O g j f (2 * t) → v ≡ c ⊗ layer O g j f (2 * t + 1) → u ⊕ v ≡ (c ⊕ c) ⊗ f t
-  undo-low j t c u v f eu ev =
+  -- the inverse of a layer: u and v are the entries 2t and 2t + 1, times c
+  pub inverse-low : (j t : ℕ) (c u v : Carrier) (f : ℕ → Carrier) → u ≡ c ⊗ layer O g j f (2 * t) → v ≡ c ⊗ layer O g j f (2 * t + 1) → u ⊕ v ≡ (c ⊕ c) ⊗ f t
+  inverse-low j t c u v f eu ev =
       ap₂ _⊕_ (eu ∙ ap (λ x. c ⊗ x) (layer-even j f t)) (ev ∙ ap (λ x. c ⊗ x) (layer-odd j f t)) ∙ both c (f t) (pow O g (exponent j t / 2) ⊗ f (t + 32))
     where
       both : (c x y : Carrier) → c ⊗ (x ⊕ y) ⊕ c ⊗ (x ⊕ neg y) ≡ (c ⊕ c) ⊗ x
       both c x y = simp (ring, R)
 
-  pub undo-high : (j t : ℕ) (c u v : Carrier) (f : ℕ → Carrier) → j < 6 → t < 32 → u ≡ c ⊗ layer O g j f (2 * t) → v ≡ c ⊗ layer O g j f (2 * t + 1)
+  pub inverse-high : (j t : ℕ) (c u v : Carrier) (f : ℕ → Carrier) → j < 6 → t < 32 → u ≡ c ⊗ layer O g j f (2 * t) → v ≡ c ⊗ layer O g j f (2 * t + 1)
       → pow O g (exponent j (31 - t) / 2) ⊗ (v ⊕ neg u) ≡ (c ⊕ c) ⊗ f (t + 32)
-  undo-high j t c u v f hj ht eu ev =
+  inverse-high j t c u v f hj ht eu ev =
       ap₂ (λ x y. w′ ⊗ (y ⊕ neg x)) (eu ∙ ap (λ x. c ⊗ x) (layer-even j f t)) (ev ∙ ap (λ x. c ⊗ x) (layer-odd j f t))
       ∙ both c (f t) (f (t + 32)) w w′
       ∙ ap (λ x. neg ((c ⊕ c) ⊗ (x ⊗ f (t + 32)))) (sym (pow-add (exponent j t / 2) (exponent j (31 - t) / 2)) ∙ ap (pow O g) (complement j t hj ht) ∙ root)

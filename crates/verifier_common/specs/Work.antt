@@ -14,20 +14,20 @@ use Rattle.sizes.specs.Sizes.{Sized}
 use Rattle.workspace.specs.Ready.{Drawn}
 
 -- parameters within their limits and a transcript of theirs
-pub record Received (T : List ℕ) (p : EnvironmentParameters) : Type 0 where
-  pub sized : Sized (parametersOf p)
-  pub transcript : Laid T 0 (transcript-sections (parametersOf p))
+pub record Received (T : List ℕ) (params : EnvironmentParameters) : Type 0 where
+  pub sized : Sized (parametersOf params)
+  pub transcript : Laid T 0 (transcript-sections (parametersOf params))
 
 -- a job and a transcript that are refused nothing
-pub record Posed (J T : List ℕ) (p : EnvironmentParameters) : Type 0 where
-  pub same : parametersOf p ≡ parameters J
+pub record Posed (J T : List ℕ) (params : EnvironmentParameters) : Type 0 where
+  pub same : parametersOf params ≡ parameters J
   pub sound : Sound J
   pub job : Laid J 31 (job-sections (parameters J))
   pub transcript : Laid T 0 (transcript-sections (parameters J))
 
 -- with a randomness
-pub record Sent (J R T : List ℕ) (p : EnvironmentParameters) : Type 0 where
-  pub posed : Posed J T p
+pub record Sent (J R T : List ℕ) (params : EnvironmentParameters) : Type 0 where
+  pub posed : Posed J T params
   pub drawn : Drawn 7 J R
 
 -- whether two lists of words are the same

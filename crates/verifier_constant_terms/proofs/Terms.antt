@@ -80,7 +80,7 @@ b-index k n h = omega arith
 first-word : (T : List ℕ) (from : ℕ) → getD T from 0 < Q → getD (part T from 64) 0 0 % Q ≡ getD T from 0
 first-word T from h = ap (λ x. x % Q) (getD-part 0 T from 64 0 (omega arith) ∙ ap (λ i. getD T i 0) (add-zero from)) ∙ mod-eq-of-lt h
 
-module _ {J R T : List ℕ} {p : EnvironmentParameters} (w : Sent J R T p) where
+module _ {J R T : List ℕ} {params : EnvironmentParameters} (w : Sent J R T params) where
   -- the job's parameters
   abbrev P : Parameters
   P = parameters J
@@ -119,15 +119,15 @@ module _ {J R T : List ℕ} {p : EnvironmentParameters} (w : Sent J R T p) where
   }
 
   -- at the places that `offsets` gives
-  pub terms : (b0 psi om projection at : ℕ) → b0 ≡ 31 + start (job-sections (parametersOf p)) 2 → psi ≡ start (randomness-sections (parametersOf p)) 1
-      → om ≡ start (randomness-sections (parametersOf p)) 2 → projection ≡ start (transcript-sections (parametersOf p)) 1 → at ≡ start (transcript-sections (parametersOf p)) 2
-      → Terms J R T (p .«const_agg_length») (p .«constraint_l») b0 psi om projection at
+  pub terms : (b0 psi om projection at : ℕ) → b0 ≡ 31 + start (job-sections (parametersOf params)) 2 → psi ≡ start (randomness-sections (parametersOf params)) 1
+      → om ≡ start (randomness-sections (parametersOf params)) 2 → projection ≡ start (transcript-sections (parametersOf params)) 1 → at ≡ start (transcript-sections (parametersOf params)) 2
+      → Terms J R T (params .«const_agg_length») (params .«constraint_l») b0 psi om projection at
   terms b0 psi om projection at e₁ e₂ e₃ e₄ e₅ =
-      subst (λ b0. Terms J R T (p .«const_agg_length») (p .«constraint_l») b0 psi om projection at) (sym e₁)
-      (subst (λ psi. Terms J R T (p .«const_agg_length») (p .«constraint_l») (31 + start (job-sections (parametersOf p)) 2) psi om projection at) (sym e₂)
-      (subst (λ om. Terms J R T (p .«const_agg_length») (p .«constraint_l») (31 + start (job-sections (parametersOf p)) 2) (start (randomness-sections (parametersOf p)) 1) om projection at) (sym e₃)
-      (subst (λ pr. Terms J R T (p .«const_agg_length») (p .«constraint_l») (31 + start (job-sections (parametersOf p)) 2) (start (randomness-sections (parametersOf p)) 1) (start (randomness-sections (parametersOf p)) 2) pr at) (sym e₄)
-      (subst (λ at. Terms J R T (p .«const_agg_length») (p .«constraint_l») (31 + start (job-sections (parametersOf p)) 2) (start (randomness-sections (parametersOf p)) 1) (start (randomness-sections (parametersOf p)) 2) (start (transcript-sections (parametersOf p)) 1) at) (sym e₅)
+      subst (λ b0. Terms J R T (params .«const_agg_length») (params .«constraint_l») b0 psi om projection at) (sym e₁)
+      (subst (λ psi. Terms J R T (params .«const_agg_length») (params .«constraint_l») (31 + start (job-sections (parametersOf params)) 2) psi om projection at) (sym e₂)
+      (subst (λ om. Terms J R T (params .«const_agg_length») (params .«constraint_l») (31 + start (job-sections (parametersOf params)) 2) (start (randomness-sections (parametersOf params)) 1) om projection at) (sym e₃)
+      (subst (λ pr. Terms J R T (params .«const_agg_length») (params .«constraint_l») (31 + start (job-sections (parametersOf params)) 2) (start (randomness-sections (parametersOf params)) 1) (start (randomness-sections (parametersOf params)) 2) pr at) (sym e₄)
+      (subst (λ at. Terms J R T (params .«const_agg_length») (params .«constraint_l») (31 + start (job-sections (parametersOf params)) 2) (start (randomness-sections (parametersOf params)) 1) (start (randomness-sections (parametersOf params)) 2) (start (transcript-sections (parametersOf params)) 1) at) (sym e₅)
       (subst (λ (P : Parameters). Terms J R T (P .L) (P .l) (31 + start (job-sections P) 2) (start (randomness-sections P) 1) (start (randomness-sections P) 2) (start (transcript-sections P) 1) (start (transcript-sections P) 2)) (sym (w .posed .same)) at-sections)))))
 
 module _ {J R T : List ℕ} {L l b0 psi om projection at : ℕ} (m : Terms J R T L l b0 psi om projection at) where

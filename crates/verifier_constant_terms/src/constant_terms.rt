@@ -39,19 +39,19 @@ pub fn check_constant_terms(
     job: &[u32],
     randomness: &[u32],
     transcript: &[u32],
-    p: EnvironmentParameters,
+    params: EnvironmentParameters,
 ) -> Checked
-    requires { ⌜ Sent (now job) (now randomness) (now transcript) p ⌝ }
+    requires { ⌜ Sent (now job) (now randomness) (now transcript) params ⌝ }
     ensures { λ v. ⌜ ofChecked v ≡ constant-terms (now (job .entry)) (now (randomness .entry)) (now (transcript .entry)) ⌝ }
 {
-    let b0 = offsets::of_job(p, names::CONSTANT_B);
-    let l = p.constraint_l;
-    let psi = offsets::of_randomness(p, names::PSI);
-    let omega = offsets::of_randomness(p, names::OMEGA);
-    let projection = offsets::of_transcript(p, names::P);
-    let at = offsets::of_transcript(p, names::B_DOUBLE_PRIME);
+    let b0 = offsets::of_job(params, names::CONSTANT_B);
+    let l = params.constraint_l;
+    let psi = offsets::of_randomness(params, names::PSI);
+    let omega = offsets::of_randomness(params, names::OMEGA);
+    let projection = offsets::of_transcript(params, names::P);
+    let at = offsets::of_transcript(params, names::B_DOUBLE_PRIME);
     let mut k = 0;
-    while k < p.const_agg_length {
+    while k < params.const_agg_length {
         let sent = transcript[at + 64 * k];
         let computed = constant_term(
             job,

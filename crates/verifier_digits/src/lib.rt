@@ -21,39 +21,44 @@ pub struct SentDigits {
 }
 
 // What is found of the digits of a transcript.
-pub fn take(transcript: &[u32], p: EnvironmentParameters) -> SentDigits
-    requires { ⌜ Received (now transcript) p ⌝ }
-    ensures { λ d. ⌜ Taken (parametersOf p) (now (transcript .entry)) d ⌝ }
+pub fn take(transcript: &[u32], params: EnvironmentParameters) -> SentDigits
+    requires { ⌜ Received (now transcript) params ⌝ }
+    ensures { λ d. ⌜ Taken (parametersOf params) (now (transcript .entry)) d ⌝ }
 {
-    let cells = slices::triangle(p.multiplicity);
-    let z = parts::two_parts_norm(transcript, offsets::of_transcript(p, names::Z), p.rank, p.b);
+    let cells = slices::triangle(params.multiplicity);
+    let z = parts::two_parts_norm(
+        transcript,
+        offsets::of_transcript(params, names::Z),
+        params.rank,
+        params.b,
+    );
     let t = norm::digits_norm(
         transcript,
-        offsets::of_transcript(p, names::T),
-        p.multiplicity * p.kappa,
-        p.b,
-        p.t_1,
+        offsets::of_transcript(params, names::T),
+        params.multiplicity * params.kappa,
+        params.b,
+        params.t_1,
     );
     let g = norm::digits_norm(
         transcript,
-        offsets::of_transcript(p, names::G),
+        offsets::of_transcript(params, names::G),
         cells,
-        p.b,
-        p.t_2,
+        params.b,
+        params.t_2,
     );
     let h = norm::digits_norm(
         transcript,
-        offsets::of_transcript(p, names::H),
+        offsets::of_transcript(params, names::H),
         cells,
-        p.b,
-        p.t_1,
+        params.b,
+        params.t_1,
     );
     let sum = bound::add(bound::add(bound::add(z, t.norm), g.norm), h.norm);
     SentDigits {
         sum,
-        t_within: bound::at_most(t.norm, p.bound_b),
-        g_within: bound::at_most(g.norm, p.bound_c),
-        h_within: bound::at_most(h.norm, p.bound_d),
+        t_within: bound::at_most(t.norm, params.bound_b),
+        g_within: bound::at_most(g.norm, params.bound_c),
+        h_within: bound::at_most(h.norm, params.bound_d),
         cells_left: t.cells_left + g.cells_left + h.cells_left,
     }
 }

@@ -42,19 +42,20 @@ pub upper : (x y : U128) → value128 x < value128 y → y .hi ≤ 256 → y .lo
 unfolding value128
 upper x y h k l = omega arith
 
-module _ (T : List ℕ) (p : EnvironmentParameters) where
+module _ (T : List ℕ) (params : EnvironmentParameters) where
   -- 21, by the boolean's value
-  pub check-21-is : (at a b : ℕ) (t : Bool) → at ≡ start (transcript-sections (parametersOf p)) 1 → at + 256 ≤ length T → a ≡ norm (part T at 256) → b ≡ 128 * parametersOf p .beta-sq → t ≡ leb a b
-      → check-21 (bare (parametersOf p)) (message (parametersOf p) T) ≡ cond t fine (failed 21 (a ∷ b ∷ []))
+  pub check-21-is : (at a b : ℕ) (t : Bool) → at ≡ start (transcript-sections (parametersOf params)) 1 → at + 256 ≤ length T → a ≡ norm (part T at 256) → b ≡ 128 * parametersOf params .beta-sq
+      → t ≡ leb a b
+      → check-21 (bare (parametersOf params)) (message (parametersOf params) T) ≡ cond t fine (failed 21 (a ∷ b ∷ []))
   unfolding check-21
   check-21-is at a b t place room e g h =
-      limited-is 21 (norm (table 256 (message (parametersOf p) T .p))) (128 * parametersOf p .beta-sq) a b t
+      limited-is 21 (norm (table 256 (message (parametersOf params) T .p))) (128 * parametersOf params .beta-sq) a b t
       (e ∙ ap norm (sym (part-table 0 T at 256 room)) ∙ ap (λ at. norm (table 256 (λ j. getD T (at + j) 0))) place)
       g
       h
 
   -- 21 with a norm up to beta_sq
-  pub check-21-below : (at a : ℕ) → at ≡ start (transcript-sections (parametersOf p)) 1 → at + 256 ≤ length T → a ≡ norm (part T at 256) → a ≤ parametersOf p .beta-sq
-      → check-21 (bare (parametersOf p)) (message (parametersOf p) T) ≡ fine
+  pub check-21-below : (at a : ℕ) → at ≡ start (transcript-sections (parametersOf params)) 1 → at + 256 ≤ length T → a ≡ norm (part T at 256) → a ≤ parametersOf params .beta-sq
+      → check-21 (bare (parametersOf params)) (message (parametersOf params) T) ≡ fine
   check-21-below at a place room e h =
-      check-21-is at a (128 * parametersOf p .beta-sq) true place room e refl (sym (le-leb a (128 * parametersOf p .beta-sq) (omega arith)))
+      check-21-is at a (128 * parametersOf params .beta-sq) true place room e refl (sym (le-leb a (128 * parametersOf params .beta-sq) (omega arith)))

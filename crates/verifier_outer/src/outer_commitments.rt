@@ -14,7 +14,7 @@ ghost use Rattle.definitions.specs.Answer.{ofChecked};
 ghost use Rattle.protocol.specs.Parameters.{parameters};
 ghost use Rattle.protocol.specs.Layout.{scratch-need};
 ghost use Rattle.workspace.specs.Ready.{Ready};
-ghost use Rattle.workspace.specs.Holds.{Kept};
+ghost use Rattle.workspace.specs.Holds.{Unchanged};
 ghost use Rattle.verifier_common.specs.Work.{Posed};
 ghost use Rattle.verifier_common.specs.Answers.{u1-differs, u2-differs};
 
@@ -22,33 +22,44 @@ ghost use Rattle.verifier_common.specs.Answers.{u1-differs, u2-differs};
 pub fn check_u1(
     job: &[u32],
     transcript: &[u32],
-    p: EnvironmentParameters,
-    q: Regions,
+    params: EnvironmentParameters,
+    regions: Regions,
     scratch: &mut [u32],
 ) -> Checked
-    requires { ⌜ Posed (now job) (now transcript) p × Ready (now job) p q (now scratch) ⌝ }
+    requires { ⌜ Posed (now job) (now transcript) params × Ready (now job) params regions (now scratch) ⌝ }
     ensures { λ v. ⌜ ofChecked v ≡ u1-differs (now (job .entry)) (now (transcript .entry)) ⌝ }
-    ensures { λ v. ⌜ Kept (scratch-need (parameters (now (job .entry)))) (now (scratch .entry)) (now (scratch .exit)) ⌝ }
+    ensures { λ v. ⌜ Unchanged (scratch-need (parameters (now (job .entry)))) (now (scratch .entry)) (now (scratch .exit)) ⌝ }
 {
     let t = Digits {
-        at: offsets::of_transcript(p, names::T),
-        cells: p.multiplicity * p.kappa,
-        parts: p.t_1,
+        at: offsets::of_transcript(params, names::T),
+        cells: params.multiplicity * params.kappa,
+        parts: params.t_1,
     };
     let g = Digits {
-        at: offsets::of_transcript(p, names::G),
-        cells: slices::triangle(p.multiplicity),
-        parts: p.t_2,
+        at: offsets::of_transcript(params, names::G),
+        cells: slices::triangle(params.multiplicity),
+        parts: params.t_2,
     };
-    let b_at = offsets::of_job(p, names::MATRIX_B);
-    let c_at = offsets::of_job(p, names::MATRIX_C);
-    let rows = p.kappa_1;
-    outer_commitments::compute_u1(job, b_at, c_at, rows, transcript, t, g, p.b, scratch, q.u);
+    let b_at = offsets::of_job(params, names::MATRIX_B);
+    let c_at = offsets::of_job(params, names::MATRIX_C);
+    let rows = params.kappa_1;
+    outer_commitments::compute_u1(
+        job,
+        b_at,
+        c_at,
+        rows,
+        transcript,
+        t,
+        g,
+        params.b,
+        scratch,
+        regions.u,
+    );
     if equal::same_words(
         transcript,
-        offsets::of_transcript(p, names::U1),
+        offsets::of_transcript(params, names::U1),
         scratch,
-        q.u,
+        regions.u,
         64 * rows,
     ) {
         Checked::Passed
@@ -61,27 +72,27 @@ pub fn check_u1(
 pub fn check_u2(
     job: &[u32],
     transcript: &[u32],
-    p: EnvironmentParameters,
-    q: Regions,
+    params: EnvironmentParameters,
+    regions: Regions,
     scratch: &mut [u32],
 ) -> Checked
-    requires { ⌜ Posed (now job) (now transcript) p × Ready (now job) p q (now scratch) ⌝ }
+    requires { ⌜ Posed (now job) (now transcript) params × Ready (now job) params regions (now scratch) ⌝ }
     ensures { λ v. ⌜ ofChecked v ≡ u2-differs (now (job .entry)) (now (transcript .entry)) ⌝ }
-    ensures { λ v. ⌜ Kept (scratch-need (parameters (now (job .entry)))) (now (scratch .entry)) (now (scratch .exit)) ⌝ }
+    ensures { λ v. ⌜ Unchanged (scratch-need (parameters (now (job .entry)))) (now (scratch .entry)) (now (scratch .exit)) ⌝ }
 {
     let h = Digits {
-        at: offsets::of_transcript(p, names::H),
-        cells: slices::triangle(p.multiplicity),
-        parts: p.t_1,
+        at: offsets::of_transcript(params, names::H),
+        cells: slices::triangle(params.multiplicity),
+        parts: params.t_1,
     };
-    let d_at = offsets::of_job(p, names::MATRIX_D);
-    let rows = p.kappa_2;
-    outer_commitments::compute_u2(job, d_at, rows, transcript, h, p.b, scratch, q.u);
+    let d_at = offsets::of_job(params, names::MATRIX_D);
+    let rows = params.kappa_2;
+    outer_commitments::compute_u2(job, d_at, rows, transcript, h, params.b, scratch, regions.u);
     if equal::same_words(
         transcript,
-        offsets::of_transcript(p, names::U2),
+        offsets::of_transcript(params, names::U2),
         scratch,
-        q.u,
+        regions.u,
         64 * rows,
     ) {
         Checked::Passed

@@ -7,4 +7,4 @@ use Rattle.workspace.specs.Aggregated.{c-words}
 
 -- the challenges c_i
 abbrev pub Challenged : (J R : List ℕ) → Regions → List ℕ → Type 0
-Challenged J R q S = Holds S (q .challenges) (c-words J R)
+Challenged J R regions S = Holds S (regions .challenges) (c-words J R)

@@ -39,18 +39,18 @@ with-challenges X c = record {
 
 -- the challenges' region, and element m of line i in its region
 abbrev pub challenges-in : List ℕ → Regions → ℕ → Element
-challenges-in S q = run S (q .challenges) 64
+challenges-in S regions = run S (regions .challenges) 64
 
 abbrev pub lines-in : Parameters → List ℕ → Regions → ℕ → ℕ → Element
-lines-in P S q = vector S (q .phi) (P .n)
+lines-in P S regions = vector S (regions .phi) (P .n)
 
 -- the challenges' region lies within the scratch
 abbrev pub ChallengesWithin : EnvironmentParameters → Regions → List ℕ → Type 0
-ChallengesWithin p q S = q .challenges + 64 * p .multiplicity ≤ length S
+ChallengesWithin params regions S = regions .challenges + 64 * params .multiplicity ≤ length S
 
 -- so does that of the lines
 abbrev pub LinesWithin : EnvironmentParameters → Regions → List ℕ → Type 0
-LinesWithin p q S = q .phi + 64 * (p .multiplicity * p .rank) ≤ length S
+LinesWithin params regions S = regions .phi + 64 * (params .multiplicity * params .rank) ≤ length S
 
 -- "24 A·z is not Σ t_i·c_i."
 abbrev pub az-of : (J T : List ℕ) → (ℕ → Element) → Answer

@@ -25,29 +25,29 @@ fn work(
     job: &[u32],
     randomness: &[u32],
     transcripts: &[u32],
-    p: EnvironmentParameters,
+    params: EnvironmentParameters,
     count: usize,
     scratch: &mut [u32],
 ) -> [LabradorVerdict; 8]
-    requires { ⌜ Many-given (now job) count (length (now scratch)) p ⌝ }
+    requires { ⌜ Many-given (now job) count (length (now scratch)) params ⌝ }
     ensures { λ r. ⌜ r ≡ verdicts-of (now (job .entry)) count (now (randomness .entry)) (now (transcripts .entry)) ⌝ }
     ensures { λ r. ⌜ now (scratch .exit) ≡ zeroed (many-need (parameters (now (job .entry))) count) (now (scratch .entry)) ⌝ }
 {
-    let found = parts::check_transcripts(transcripts, p, count);
+    let found = parts::check_transcripts(transcripts, params, count);
     let passes = parts::passing_parts(found);
-    row_products(job, p, count, passes, transcripts, scratch);
-    let weighed = alpha_parts(job, randomness, p, count, passes, scratch);
+    row_products(job, params, count, passes, transcripts, scratch);
+    let weighed = alpha_parts(job, randomness, params, count, passes, scratch);
     let out = verdicts(
         job,
         randomness,
         transcripts,
-        p,
+        params,
         count,
         found,
         scratch,
         weighed,
     );
-    let need = whole::need(p, count);
+    let need = whole::need(params, count);
     words::clear(scratch, need);
     out
 }
@@ -65,8 +65,15 @@ pub fn verify_many(
     match whole::admit(job, count, scratch.len()) {
         ManyAdmitted::Count => answers::refused(35, 0),
         ManyAdmitted::Refused(refusal) => answers::refusal_of(refusal),
-        ManyAdmitted::Fit(p) => {
-            let found = work(job, randomness, transcripts, p, count as usize, scratch);
+        ManyAdmitted::Fit(params) => {
+            let found = work(
+                job,
+                randomness,
+                transcripts,
+                params,
+                count as usize,
+                scratch,
+            );
             LabradorVerdicts {
                 number: 0,
                 place: 0,

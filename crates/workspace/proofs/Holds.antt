@@ -20,8 +20,8 @@ use Rattle.protocol.specs.Region.{Elements, Triangle, Vectors}
 use Rattle.protocol.proofs.Flat.{length-flat, element-of-flat, length-rows, row-cell, row-cell-within, length-triangle, cell-within, triangle-cell}
 use Rattle.protocol.proofs.Region.{length-lists}
 use Rattle.protocol.proofs.Stored.{flat-append}
-use Rattle.workspace.specs.Holds.{Holds, Kept}
-use Rattle.workspace.proofs.Kept.{kept-weaken}
+use Rattle.workspace.specs.Holds.{Holds, Unchanged}
+use Rattle.workspace.proofs.Unchanged.{unchanged-weaken}
 
 -- what is stored
 pub holds-stored : (S : List ℕ) (at : ℕ) (ws : List ℕ) → at + length ws ≤ length S → Holds (splice S at ws) at ws
@@ -36,8 +36,8 @@ pub holds-after : (S : List ℕ) (at : ℕ) (ws : List ℕ) (to : ℕ) (new : Li
 holds-after S at ws to new a h = part-splice-after 0 S to new at (length ws) a ∙ h
 
 -- what stands beyond the place up to which words change
-pub holds-kept : (k : ℕ) (S S′ : List ℕ) (at : ℕ) (ws : List ℕ) → Kept k S S′ → k ≤ at → Holds S at ws → Holds S′ at ws
-holds-kept k S S′ at ws a l h = ap (take (length ws)) (kept-weaken k at S S′ l a .beyond) ∙ h
+pub holds-unchanged : (k : ℕ) (S S′ : List ℕ) (at : ℕ) (ws : List ℕ) → Unchanged k S S′ → k ≤ at → Holds S at ws → Holds S′ at ws
+holds-unchanged k S S′ at ws a l h = ap (take (length ws)) (unchanged-weaken k at S S′ l a .beyond) ∙ h
 
 -- the first of two lists of words
 pub holds-first : (S : List ℕ) (at : ℕ) (us vs : List ℕ) → Holds S at (us ++ vs) → Holds S at us

@@ -1,4 +1,4 @@
-pub mod Kept
+pub mod Unchanged
 pub mod Holds
 pub mod Aggregated
 pub mod Ready

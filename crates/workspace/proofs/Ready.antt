@@ -58,53 +58,53 @@ module _ (J R : List ℕ) where
   pub length-c : length (c-words J R) ≡ 64 * parameters J .r
   length-c = length-flat (table (parameters J .r) (public J R .c)) ∙ ap (λ n. 64 * n) (length-table (parameters J .r) (public J R .c))
 
-module _ (J : List ℕ) (p : EnvironmentParameters) (q : Regions) (S : List ℕ) (h : Ready J p q S) where
+module _ (J : List ℕ) (params : EnvironmentParameters) (regions : Regions) (S : List ℕ) (h : Ready J params regions S) where
   -- the parameters can be reckoned with
-  pub ready-sized : Sized (parametersOf p)
-  ready-sized = sized J (parametersOf p) (h .sound) (h .same)
+  pub ready-sized : Sized (parametersOf params)
+  ready-sized = sized J (parametersOf params) (h .sound) (h .same)
 
   -- with a scratch of the same length
-  pub ready-changed : (S′ : List ℕ) → length S′ ≡ length S → Ready J p q S′
-  ready-changed S′ e = record { same = h .same; sound = h .sound; job = h .job; regions = h .regions; room = omega (arith, h .room) }
+  pub ready-changed : (S′ : List ℕ) → length S′ ≡ length S → Ready J params regions S′
+  ready-changed S′ e = record { same = h .same; sound = h .sound; job = h .job; laid = h .laid; room = omega (arith, h .room) }
 
   -- the last region ends within the length needed
-  pub regions-end : q .b2 + 64 * 32 ≤ scratch-need (parameters J)
-  regions-end = regions-fit (parameters J) q (h .sound .within .n .0) (h .regions)
+  pub regions-end : regions .b2 + 64 * 32 ≤ scratch-need (parameters J)
+  regions-end = regions-fit (parameters J) regions (h .sound .within .n .0) (h .laid)
 
   -- φ'' ends where a'' starts
-  pub φ″-end : q .phi2 + 64 * (parameters J .L * (parameters J .r * parameters J .n)) ≤ q .a2
-  φ″-end = omega (arith, h .regions .a2)
+  pub φ″-end : regions .phi2 + 64 * (parameters J .L * (parameters J .r * parameters J .n)) ≤ regions .a2
+  φ″-end = omega (arith, h .laid .a2)
 
   -- a'' where φ does
-  pub a″-end : q .a2 + 64 * (parameters J .L * T (parameters J)) ≤ q .phi
-  a″-end = omega (arith, h .regions .phi)
+  pub a″-end : regions .a2 + 64 * (parameters J .L * T (parameters J)) ≤ regions .phi
+  a″-end = omega (arith, h .laid .phi)
 
   -- φ where a does
-  pub φ-end : q .phi + 64 * (parameters J .r * parameters J .n) ≤ q .a
-  φ-end = omega (arith, h .regions .a)
+  pub φ-end : regions .phi + 64 * (parameters J .r * parameters J .n) ≤ regions .«a_or_h»
+  φ-end = omega (arith, h .laid .a-or-h)
 
   -- a where g does
-  pub a-end : q .a + 64 * T (parameters J) ≤ q .g
-  a-end = omega (arith, h .regions .g)
+  pub a-end : regions .«a_or_h» + 64 * T (parameters J) ≤ regions .g
+  a-end = omega (arith, h .laid .g)
 
   -- g where the challenges do
-  pub g-end : q .g + 64 * T (parameters J) ≤ q .challenges
-  g-end = omega (arith, h .regions .challenges)
+  pub g-end : regions .g + 64 * T (parameters J) ≤ regions .challenges
+  g-end = omega (arith, h .laid .challenges)
 
   -- the challenges where t does
-  pub c-end : q .challenges + 64 * parameters J .r ≤ q .t
-  c-end = omega (arith, h .regions .t)
+  pub c-end : regions .challenges + 64 * parameters J .r ≤ regions .t
+  c-end = omega (arith, h .laid .t)
 
   -- t where u does
-  pub t-end : q .t + 64 * (parameters J .r * parameters J .κ) ≤ q .u
-  t-end = omega (arith, h .regions .u)
+  pub t-end : regions .t + 64 * (parameters J .r * parameters J .κ) ≤ regions .u
+  t-end = omega (arith, h .laid .u)
 
   -- u where b'' does
-  pub u-end : q .u + 64 * 16 ≤ q .b2
-  u-end = omega (arith, h .regions .b2)
+  pub u-end : regions .u + 64 * 16 ≤ regions .b2
+  u-end = omega (arith, h .laid .b2)
 
   -- b'' within the scratch
-  pub b″-end : q .b2 + 64 * 32 ≤ length S
+  pub b″-end : regions .b2 + 64 * 32 ≤ length S
   b″-end = omega (arith, regions-end, h .room)
 
   -- a' lies within the job
@@ -174,20 +174,20 @@ module _ (m : ℕ) (J R : List ℕ) (d : Drawn m J R) where
   shuffle-within h = d 6 h
 
 -- the challenges of a scratch that is ready
-module _ (J R S : List ℕ) (p : EnvironmentParameters) (q : Regions) (h : Ready J p q S) where
+module _ (J R S : List ℕ) (params : EnvironmentParameters) (regions : Regions) (h : Ready J params regions S) where
   -- what `generate_challenges` requires
-  pub c-requires : Drawn 7 J R → Challengeable R p q S
+  pub c-requires : Drawn 7 J R → Challengeable R params regions S
   c-requires d =
-      let placed : (start (randomness-sections (parametersOf p)) 5 + 41 * p .multiplicity ≤ length R)
-      × (start (randomness-sections (parametersOf p)) 6 + 63 * p .multiplicity ≤ length R)
-      × (q .challenges + 64 * p .multiplicity ≤ length S) =
-      subst (λ Q. (start (randomness-sections Q) 5 + 41 * Q .r ≤ length R) × (start (randomness-sections Q) 6 + 63 * Q .r ≤ length R) × (q .challenges + 64 * Q .r ≤ length S)) (sym (h .same)) (
+      let placed : (start (randomness-sections (parametersOf params)) 5 + 41 * params .multiplicity ≤ length R)
+      × (start (randomness-sections (parametersOf params)) 6 + 63 * params .multiplicity ≤ length R)
+      × (regions .challenges + 64 * params .multiplicity ≤ length S) =
+      subst (λ Q. (start (randomness-sections Q) 5 + 41 * Q .r ≤ length R) × (start (randomness-sections Q) 6 + 63 * Q .r ≤ length R) × (regions .challenges + 64 * Q .r ≤ length S)) (sym (h .same)) (
         signs-within 7 J R d (omega arith),
         shuffle-within 7 J R d (omega arith),
-        omega (arith, c-end J p q S h, t-end J p q S h, u-end J p q S h, b″-end J p q S h),
+        omega (arith, c-end J params regions S h, t-end J params regions S h, u-end J params regions S h, b″-end J params regions S h),
       ) in
-      record { sized = ready-sized J p q S h; signs = placed .0; shuffle = placed .1; room = placed .2 }
+      record { sized = ready-sized J params regions S h; signs = placed .0; shuffle = placed .1; room = placed .2 }
 
   -- and what it stores
-  pub c-made : challenge-words (parametersOf p) R ≡ c-words J R
+  pub c-made : challenge-words (parametersOf params) R ≡ c-words J R
   c-made = ap (λ Q. challenge-words Q R) (h .same)

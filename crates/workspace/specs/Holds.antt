@@ -1,10 +1,10 @@
--- What a slice holds at a place, and what of it is as it was (`Kept`).
+-- What a slice holds at a place, and what of it is as it was (`Unchanged`).
 use mathlib.Core.Path.{_≡_}
 use mathlib.Core.List.{List}
 use Prim.Native.Nat.{ℕ}
 use lib.ListN.{length}
 use Rattle.lists.specs.Part.{part}
-pub use Rattle.protocol.specs.Kept.{Kept}
+pub use Rattle.protocol.specs.Unchanged.{Unchanged}
 
 -- the words from a place on are these
 abbrev pub Holds : List ℕ → ℕ → List ℕ → Type 0

@@ -15,11 +15,11 @@ use Rattle.relation.specs.SectionOne.{Sound}
 use Rattle.sizes.specs.Sizes.{Sized}
 
 -- a job that is refused nothing, its parameters, and a scratch of the length needed with the places of its regions
-pub record Ready (J : List ℕ) (p : EnvironmentParameters) (q : Regions) (scratch : List ℕ) : Type 0 where
-  pub same : parametersOf p ≡ parameters J
+pub record Ready (J : List ℕ) (params : EnvironmentParameters) (regions : Regions) (scratch : List ℕ) : Type 0 where
+  pub same : parametersOf params ≡ parameters J
   pub sound : Sound J
   pub job : Sections.Laid J 31 (job-sections (parameters J))
-  pub regions : Places.Laid (parameters J .n) (parameters J .r) (parameters J .κ) (parameters J .L) q
+  pub laid : Places.Laid (parameters J .n) (parameters J .r) (parameters J .κ) (parameters J .L) regions
   pub room : scratch-need (parameters J) ≤ length scratch
 
 -- the first m sections of the randomness lie within it
@@ -27,8 +27,8 @@ abbrev pub Drawn : ℕ → List ℕ → List ℕ → Type 0
 Drawn m J R = let ss = randomness-sections (parameters J) in (k : ℕ) → k < m → start ss k + nth ss k .count ≤ length R
 
 -- the sign words and the shuffle words lie within the randomness, and the challenges' region within the scratch
-pub record Challengeable (R : List ℕ) (p : EnvironmentParameters) (q : Regions) (scratch : List ℕ) : Type 0 where
-  pub sized : Sized (parametersOf p)
-  pub signs : start (randomness-sections (parametersOf p)) 5 + 41 * p .multiplicity ≤ length R
-  pub shuffle : start (randomness-sections (parametersOf p)) 6 + 63 * p .multiplicity ≤ length R
-  pub room : q .challenges + 64 * p .multiplicity ≤ length scratch
+pub record Challengeable (R : List ℕ) (params : EnvironmentParameters) (regions : Regions) (scratch : List ℕ) : Type 0 where
+  pub sized : Sized (parametersOf params)
+  pub signs : start (randomness-sections (parametersOf params)) 5 + 41 * params .multiplicity ≤ length R
+  pub shuffle : start (randomness-sections (parametersOf params)) 6 + 63 * params .multiplicity ≤ length R
+  pub room : regions .challenges + 64 * params .multiplicity ≤ length scratch

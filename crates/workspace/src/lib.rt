@@ -19,26 +19,26 @@ ghost use Rattle.relation.specs.Parameters.{parametersOf};
 pub fn phi_double_prime(
     job: &[u32],
     randomness: &[u32],
-    p: EnvironmentParameters,
-    q: Regions,
+    params: EnvironmentParameters,
+    regions: Regions,
     scratch: &mut [u32],
 )
-    requires { ⌜ Ready (now job) p q (now scratch) × Drawn 3 (now job) (now randomness) ⌝ }
-    ensures { λ _. ⌜ now (scratch .exit) ≡ splice (now (scratch .entry)) (q .phi2) (φ″-words (now (job .entry)) (now (randomness .entry))) ⌝ }
+    requires { ⌜ Ready (now job) params regions (now scratch) × Drawn 3 (now job) (now randomness) ⌝ }
+    ensures { λ _. ⌜ now (scratch .exit) ≡ splice (now (scratch .entry)) (regions .phi2) (φ″-words (now (job .entry)) (now (randomness .entry))) ⌝ }
 {
     aggregate::phi_double_prime(
         job,
-        offsets::of_job(p, names::CONSTANT_PHI),
-        p.multiplicity,
-        p.rank,
-        p.constraint_l,
+        offsets::of_job(params, names::CONSTANT_PHI),
+        params.multiplicity,
+        params.rank,
+        params.constraint_l,
         randomness,
-        offsets::of_randomness(p, names::PROJECTION),
-        offsets::of_randomness(p, names::PSI),
-        offsets::of_randomness(p, names::OMEGA),
-        p.const_agg_length,
+        offsets::of_randomness(params, names::PROJECTION),
+        offsets::of_randomness(params, names::PSI),
+        offsets::of_randomness(params, names::OMEGA),
+        params.const_agg_length,
         scratch,
-        q.phi2,
+        regions.phi2,
     );
 }
 
@@ -46,24 +46,24 @@ pub fn phi_double_prime(
 pub fn a_double_prime(
     job: &[u32],
     randomness: &[u32],
-    p: EnvironmentParameters,
-    q: Regions,
+    params: EnvironmentParameters,
+    regions: Regions,
     scratch: &mut [u32],
 )
-    requires { ⌜ Ready (now job) p q (now scratch) × Drawn 2 (now job) (now randomness) ⌝ }
-    ensures { λ _. ⌜ now (scratch .exit) ≡ splice (now (scratch .entry)) (q .a2) (a″-words (now (job .entry)) (now (randomness .entry))) ⌝ }
+    requires { ⌜ Ready (now job) params regions (now scratch) × Drawn 2 (now job) (now randomness) ⌝ }
+    ensures { λ _. ⌜ now (scratch .exit) ≡ splice (now (scratch .entry)) (regions .a2) (a″-words (now (job .entry)) (now (randomness .entry))) ⌝ }
 {
-    let cells = sizes::slices::triangle(p.multiplicity);
+    let cells = sizes::slices::triangle(params.multiplicity);
     aggregate::a_double_prime(
         job,
-        offsets::of_job(p, names::CONSTANT_A),
+        offsets::of_job(params, names::CONSTANT_A),
         cells,
-        p.constraint_l,
+        params.constraint_l,
         randomness,
-        offsets::of_randomness(p, names::PSI),
-        p.const_agg_length,
+        offsets::of_randomness(params, names::PSI),
+        params.const_agg_length,
         scratch,
-        q.a2,
+        regions.a2,
     );
 }
 
@@ -71,99 +71,105 @@ pub fn a_double_prime(
 pub fn double_prime(
     job: &[u32],
     randomness: &[u32],
-    p: EnvironmentParameters,
-    q: Regions,
+    params: EnvironmentParameters,
+    regions: Regions,
     scratch: &mut [u32],
 )
-    requires { ⌜ Ready (now job) p q (now scratch) × Drawn 3 (now job) (now randomness) ⌝ }
+    requires { ⌜ Ready (now job) params regions (now scratch) × Drawn 3 (now job) (now randomness) ⌝ }
     ensures { λ _. ⌜ now (scratch .exit) ≡ splice (now (scratch .entry)) 0 (double-prime-words (now (job .entry)) (now (randomness .entry))) ⌝ }
 {
-    phi_double_prime(job, randomness, p, q, scratch);
-    a_double_prime(job, randomness, p, q, scratch);
+    phi_double_prime(job, randomness, params, regions, scratch);
+    a_double_prime(job, randomness, params, regions, scratch);
 }
 
 // φ of the ring constraints and of the φ'' in its region: "Alpha weighs the ring constraints and beta the doubled-prime ones into a, φ, b."
 pub fn phi(
     job: &[u32],
     randomness: &[u32],
-    p: EnvironmentParameters,
-    q: Regions,
+    params: EnvironmentParameters,
+    regions: Regions,
     scratch: &mut [u32],
 )
-    requires { ⌜ Ready (now job) p q (now scratch) × Drawn 5 (now job) (now randomness) × Holds (now scratch) (q .phi2) (φ″-words (now job) (now randomness)) ⌝ }
-    ensures { λ _. ⌜ now (scratch .exit) ≡ splice (now (scratch .entry)) (q .phi) (φ-words (now (job .entry)) (now (randomness .entry))) ⌝ }
+    requires { ⌜ Ready (now job) params regions (now scratch) × Drawn 5 (now job) (now randomness) × Holds (now scratch) (regions .phi2) (φ″-words (now job) (now randomness)) ⌝ }
+    ensures { λ _. ⌜ now (scratch .exit) ≡ splice (now (scratch .entry)) (regions .phi) (φ-words (now (job .entry)) (now (randomness .entry))) ⌝ }
 {
-    let width = p.multiplicity * p.rank;
+    let width = params.multiplicity * params.rank;
     let step = 64 * width;
     let constraints = Strided {
-        at: offsets::of_job(p, names::RING_PHI),
+        at: offsets::of_job(params, names::RING_PHI),
         step,
-        count: p.constraint_k,
+        count: params.constraint_k,
     };
     let aggregated = Strided {
-        at: q.phi2,
+        at: regions.phi2,
         step,
-        count: p.const_agg_length,
+        count: params.const_agg_length,
     };
     kept_mix::aggregate(
         job,
         constraints,
         randomness,
-        offsets::of_randomness(p, names::ALPHA),
-        offsets::of_randomness(p, names::BETA),
+        offsets::of_randomness(params, names::ALPHA),
+        offsets::of_randomness(params, names::BETA),
         scratch,
         aggregated,
         width,
-        q.phi,
+        regions.phi,
     );
 }
 
 // a of the ring constraints and of the a'' in its region.
-pub fn a(job: &[u32], randomness: &[u32], p: EnvironmentParameters, q: Regions, scratch: &mut [u32])
-    requires { ⌜ Ready (now job) p q (now scratch) × Drawn 5 (now job) (now randomness) × Holds (now scratch) (q .a2) (a″-words (now job) (now randomness)) ⌝ }
-    ensures { λ _. ⌜ now (scratch .exit) ≡ splice (now (scratch .entry)) (q .a) (a-words (now (job .entry)) (now (randomness .entry))) ⌝ }
+pub fn a(
+    job: &[u32],
+    randomness: &[u32],
+    params: EnvironmentParameters,
+    regions: Regions,
+    scratch: &mut [u32],
+)
+    requires { ⌜ Ready (now job) params regions (now scratch) × Drawn 5 (now job) (now randomness) × Holds (now scratch) (regions .a2) (a″-words (now job) (now randomness)) ⌝ }
+    ensures { λ _. ⌜ now (scratch .exit) ≡ splice (now (scratch .entry)) (regions .«a_or_h») (a-words (now (job .entry)) (now (randomness .entry))) ⌝ }
 {
-    let cells = sizes::slices::triangle(p.multiplicity);
+    let cells = sizes::slices::triangle(params.multiplicity);
     let step = 64 * cells;
     let constraints = Strided {
-        at: offsets::of_job(p, names::RING_A),
+        at: offsets::of_job(params, names::RING_A),
         step,
-        count: p.constraint_k,
+        count: params.constraint_k,
     };
     let aggregated = Strided {
-        at: q.a2,
+        at: regions.a2,
         step,
-        count: p.const_agg_length,
+        count: params.const_agg_length,
     };
     aggregate::aggregate(
         job,
         constraints,
         randomness,
-        offsets::of_randomness(p, names::ALPHA),
-        offsets::of_randomness(p, names::BETA),
+        offsets::of_randomness(params, names::ALPHA),
+        offsets::of_randomness(params, names::BETA),
         scratch,
         aggregated,
         cells,
-        q.a,
+        regions.a_or_h,
     );
 }
 
 // The challenges c_i.
 pub fn generate_challenges(
     randomness: &[u32],
-    p: EnvironmentParameters,
-    q: Regions,
+    params: EnvironmentParameters,
+    regions: Regions,
     scratch: &mut [u32],
 )
-    requires { ⌜ Challengeable (now randomness) p q (now scratch) ⌝ }
-    ensures { λ _. ⌜ now (scratch .exit) ≡ splice (now (scratch .entry)) (q .challenges) (challenge-words (parametersOf p) (now (randomness .entry))) ⌝ }
+    requires { ⌜ Challengeable (now randomness) params regions (now scratch) ⌝ }
+    ensures { λ _. ⌜ now (scratch .exit) ≡ splice (now (scratch .entry)) (regions .challenges) (challenge-words (parametersOf params) (now (randomness .entry))) ⌝ }
 {
     challenges::generate_challenges(
         randomness,
-        offsets::of_randomness(p, names::SIGNS),
-        offsets::of_randomness(p, names::SHUFFLES),
-        p.multiplicity,
+        offsets::of_randomness(params, names::SIGNS),
+        offsets::of_randomness(params, names::SHUFFLES),
+        params.multiplicity,
         scratch,
-        q.challenges,
+        regions.challenges,
     );
 }

@@ -55,7 +55,7 @@ answer c =
     let m = c .before .before .before .before in
     let d = m .before .before .before .before .before in
     let s = d .before .before .before .before .before .before .before .before in
-    relation-answer (s .args .job .now) (s .args .randomness .now) (s .args .transcript .now) (s .args .p) (s .args .q) (s .args .scratch .now) (s .pre .0) (s .pre .1) _ _ _ _ _ _ _ _ _ _ _ _ (c .same .result) (s .pre .2)
+    relation-answer (s .args .job .now) (s .args .randomness .now) (s .args .transcript .now) (s .args .params) (s .args .regions) (s .args .scratch .now) (s .pre .0) (s .pre .1) _ _ _ _ _ _ _ _ _ _ _ _ (c .same .result) (s .pre .2)
     (d .before .before .before .of-transcript .ensures) (d .before .before .of-transcript2 .ensures)
     (m .before .before .before .before .of-job .ensures) (m .before .before .before .of-randomness .ensures) (m .before .before .of-randomness2 .ensures) (m .before .of-transcript3 .ensures)
     (d .before .sum-of-products .ensures) (d .diagonal-sum .ensures) (m .mix .ensures)

@@ -6,7 +6,7 @@ use Rattle.kept_calls.proofs.fast_inner_product.Statement.{statement}
 use Rattle.kept_calls.proofs.fast_inner_product.Tie as tie
 
 returns : tie.Need-returns
-returns c = c .with-none-kept .ensures ∙ ap (λ m. repeated m (c .before .before .before .before .args .a .coeffs) (c .before .before .before .before .args .b .coeffs)) (c .before .terms .ensures .0)
+returns c = c .without-ntt-form .ensures ∙ ap (λ m. repeated m (c .before .before .before .before .args .a .coeffs) (c .before .before .before .before .args .b .coeffs)) (c .before .terms .ensures .0)
 
 pub fast-inner-product-spec : {M : Type 1} → statement M
 fast-inner-product-spec = tie.close (tie.spec (λ c κs. search needs) (λ c κs. c .terms .ensures .1) returns)

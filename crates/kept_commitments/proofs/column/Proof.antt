@@ -8,7 +8,7 @@ use Rattle.definitions.specs.Rq.{Element}
 use Rattle.definitions.specs.Ring.{words}
 use Rattle.rq_matrix.proofs.Place.{rows-within}
 use Rattle.rq_matrix.proofs.Fill.{length-filled}
-use Rattle.kept_vectors.specs.Keeps.{kept-dot, kept-row}
+use Rattle.kept_vectors.specs.NttForm.{ntt-dot, ntt-row}
 use Rattle.kept_vectors.proofs.Laws.{vector-values, dot-same}
 use Rattle.kept_commitments.specs.Spread.{spread}
 use Rattle.kept_commitments.proofs.SpreadLaws.{spread-none, spread-next, spread-before, values-same}
@@ -17,7 +17,7 @@ use Rattle.kept_commitments.proofs.column.Tie as tie
 
 abbrev Inv-loop : tie.InvT-loop
 Inv-loop v n count w scratch₀ at out-at step place₀ to₀ k₀ scratch place to k =
-    (k ≤ count) × (place ≡ at + 192 * (k * n)) × (to ≡ out-at + step * k) × (scratch ≡ spread scratch₀ out-at step k (kept-row v scratch₀ at n)) × (length scratch ≡ length scratch₀)
+    (k ≤ count) × (place ≡ at + 192 * (k * n)) × (to ≡ out-at + step * k) × (scratch ≡ spread scratch₀ out-at step k (ntt-row v scratch₀ at n)) × (length scratch ≡ length scratch₀)
 
 abbrev μ-loop : tie.MeasureT-loop
 μ-loop v n count w scratch₀ at out-at step place₀ to₀ k₀ scratch place to k = count - k
@@ -30,7 +30,7 @@ inner-product-requires c κs =
     let b = c .before .before .before .before .before .before in
     let s = b .args in
     let l = c .before .before .loop in
-    let same = spread-before (s .scratch .now) (l .scratch) (s .out-at) (s .step) (l .k) (kept-row (s .v .now) (s .scratch .now) (s .at) (s .n)) (l .inv .3) in (
+    let same = spread-before (s .scratch .now) (l .scratch) (s .out-at) (s .step) (l .k) (ntt-row (s .v .now) (s .scratch .now) (s .at) (s .n)) (l .inv .3) in (
       b .pre .0,
       b .pre .1,
       vector-values (l .scratch) (s .at) (s .count) (s .n) (l .k) (l .place) (values-same (s .scratch .now) (l .scratch) (s .at) (s .count * s .n) (s .out-at) (l .inv .4) same (omega arith) (b .pre .2)) (omega arith) (l .inv .1),
@@ -50,12 +50,12 @@ loop-again : tie.Need-loop-again Inv-loop μ-loop
 loop-again c =
     let s = c .before .before .before .before .before .before .before .before .before .before .before .args in
     let l = c .before .before .before .before .before .before .before .loop in
-    let f : ℕ → Element = kept-row (s .v .now) (s .scratch .now) (s .at) (s .n) in
+    let f : ℕ → Element = ntt-row (s .v .now) (s .scratch .now) (s .at) (s .n) in
     let same = spread-before (s .scratch .now) (l .scratch) (s .out-at) (s .step) (l .k) f (l .inv .3) in
     let stored = c .before .before .store .ensures in
     let p = s .at + 192 * (l .k * s .n) in
     let cell = c .before .before .before .before .inner-product .ensures
-    ∙ ap words (ap (λ p. kept-dot (s .v .now) 0 (l .scratch) p (s .n)) (l .inv .1)
+    ∙ ap words (ap (λ p. ntt-dot (s .v .now) 0 (l .scratch) p (s .n)) (l .inv .1)
     ∙ dot-same (s .v .now) (s .v .now) 0 0 (l .scratch) (s .scratch .now) p p (s .n) (λ o h. refl) (λ o h. same (p + o) (omega (arith, rows-within (l .k) (s .count) (s .n) (omega arith))))) in (
       omega arith,
       omega arith,
@@ -69,7 +69,7 @@ returns c =
     let s = c .before .before .before .before .before .args in
     let l = c .before .loop in
     let done : l .k ≡ s .count = omega arith in
-    l .inv .3 ∙ ap (λ k. spread (s .scratch .now) (s .out-at) (s .step) k (kept-row (s .v .now) (s .scratch .now) (s .at) (s .n))) done
+    l .inv .3 ∙ ap (λ k. spread (s .scratch .now) (s .out-at) (s .step) k (ntt-row (s .v .now) (s .scratch .now) (s .at) (s .n))) done
 
 pub column-spec : {M : Type 1} → statement M
 column-spec =

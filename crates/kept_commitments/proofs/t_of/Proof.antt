@@ -6,27 +6,27 @@ use borrow.Author.Needs.{needs}
 use Rattle.lists.specs.Part.{splice}
 use Rattle.rq_matrix.proofs.Place.{product-bound}
 use Rattle.rq_matrix.proofs.Fill.{length-filled}
-use Rattle.kept_vectors.proofs.Laws.{keeps-values, keeps-before}
-use Rattle.kept_commitments.proofs.KeptColumns.{t-kept}
+use Rattle.kept_vectors.proofs.Laws.{ntt-form-values, ntt-form-before}
+use Rattle.kept_commitments.proofs.NttColumns.{t-ntt}
 use Rattle.kept_commitments.proofs.t_of.Statement.{statement}
 use Rattle.kept_commitments.proofs.t_of.Tie as tie
 
 columns-requires : tie.Need-columns-requires
 columns-requires c κs =
     let s = c .before .before .before .before .before .before .before .before .before .before .args in
-    let k = c .before .before .before .keep in
+    let k = c .before .before .before .to-ntt-form in
     let size = length-filled _ _ _ _ (k .ensures .0) in
-    (omega arith, keeps-values _ (s .at) (s .s .now) (s .s-at) (s .r * s .n) (k .ensures .1), (omega arith, omega (arith, size), omega arith, omega arith, omega arith))
+    (omega arith, ntt-form-values _ (s .at) (s .s .now) (s .s-at) (s .r * s .n) (k .ensures .1), (omega arith, omega (arith, size), omega arith, omega arith, omega arith))
 
 returns : tie.Need-returns
 returns c =
     let s = c .before .before .before .before .before .before .before .before .before .before .before .before .before .args in
-    let k = c .before .before .before .before .before .before .keep in
+    let k = c .before .before .before .before .before .before .to-ntt-form in
     let made = c .before .before .columns .ensures in (
       made
           ∙ ap₂ (λ l ws. splice l (s .out-at) ws) (k .ensures .0)
-          (t-kept (s .matrix .now) (s .m-at) (s .width) (s .n) _ (s .at) (s .s .now) (s .s-at) (s .r) (omega arith) (k .ensures .1) (λ i. omega (arith, c .before .before .before .before .before .before .before .before .before .before .before .before .shared-slice-known .given i))),
-      keeps-before _ (s .at) (s .s .now) (s .s-at) _ (s .out-at) _ (s .r * s .n) made (omega arith) (k .ensures .1),
+          (t-ntt (s .matrix .now) (s .m-at) (s .width) (s .n) _ (s .at) (s .s .now) (s .s-at) (s .r) (omega arith) (k .ensures .1) (λ i. omega (arith, c .before .before .before .before .before .before .before .before .before .before .before .before .shared-slice-known .given i))),
+      ntt-form-before _ (s .at) (s .s .now) (s .s-at) _ (s .out-at) _ (s .r * s .n) made (omega arith) (k .ensures .1),
     )
 
 pub t-of-spec : {M : Type 1} → statement M

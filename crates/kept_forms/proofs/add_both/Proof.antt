@@ -11,14 +11,14 @@ use Rattle.kept_forms.proofs.Forms.{form-made, form-room}
 use Rattle.kept_forms.proofs.add_both.Statement.{statement}
 use Rattle.kept_forms.proofs.add_both.Tie as tie
 
-store-values-requires : tie.Need-store-values-requires
-store-values-requires c κs = (c .before .before .before .before .before .before .before .before .before .pre .0, omega (arith, length-replicate {A = ℕ} 192 0))
+store-ntt-form-requires : tie.Need-store-ntt-form-requires
+store-ntt-form-requires c κs = (c .before .before .before .before .before .before .before .before .before .pre .0, omega (arith, length-replicate {A = ℕ} 192 0))
 
 add-product-requires : tie.Need-add-product-requires
 add-product-requires c κs =
     let b = c .before .before .before .before .before .before .before .before .before .before .before .before .before in
     let s = b .args in
-    let stored = c .before .before .before .store-values .ensures in
+    let stored = c .before .before .before .store-ntt-form .ensures in
     let loaded = c .before .before .before .before .before .before .load .ensures in (
       omega (arith, b .pre .2 .whole),
       omega (arith, b .pre .1 .1 .within),
@@ -31,7 +31,7 @@ add-product-requires-2 : tie.Need-add-product-requires-2
 add-product-requires-2 c κs =
     let b = c .before .before .before .before .before .before .before .before .before .before .before .before .before .before .before .before .before .before in
     let s = b .args in
-    let stored = c .before .before .before .before .before .before .before .before .store-values .ensures in
+    let stored = c .before .before .before .before .before .before .before .before .store-ntt-form .ensures in
     let loaded = c .before .before .before .before .before .before .before .before .before .before .before .load .ensures in (
       b .pre .3 .0,
       omega (arith, length-filled _ _ _ _ stored, length-replicate {A = ℕ} 192 0),
@@ -44,7 +44,7 @@ returns : tie.Need-returns
 returns c =
     let b = c .before .before .before .before .before .before .before .before .before .before .before .before .before .before .before .before .before .before .before .before .before in
     let s = b .args in
-    let stored = c .before .before .before .before .before .before .before .before .before .before .before .store-values .ensures in
+    let stored = c .before .before .before .before .before .before .before .before .before .before .before .store-ntt-form .ensures in
     let loaded = c .before .before .before .before .before .before .before .before .before .before .before .before .before .before .load .ensures in (
       term-made (part (s .from .now) (s .at) 64) _ _ loaded stored (s .sums .now) _ (s .weights .now) (s .weight) (b .pre .2 .whole) (c .before .before .before .before .before .before .before .add-product .ensures),
       form-made (part (s .from .now) (s .at) 64) _ _ loaded stored (s .forms .now) _ (s .form) (s .s .now) (c .before .before .add-product2 .ensures),
@@ -56,7 +56,7 @@ add-both-spec =
     (tie.spec
     (λ c κs. omega arith)
     (λ c. search needs)
-    store-values-requires
+    store-ntt-form-requires
     (λ c. search needs)
     add-product-requires
     (λ c. search needs)

@@ -14,8 +14,8 @@ use Rattle.definitions.proofs.Bridge.{words-element}
 use Rattle.protocol.specs.Formulas.{flat}
 use Rattle.protocol.proofs.Stored.{stored-none, stored-next, stored-rest, stored-all}
 use Rattle.aggregate_psi.proofs.Sums.{words-add-element}
-use Rattle.kept_sums.specs.Sums.{back-from}
-use Rattle.kept_sums.proofs.Laws.{back-from-element}
+use Rattle.kept_sums.specs.Sums.{inverse-from}
+use Rattle.kept_sums.proofs.Laws.{inverse-from-element}
 use Rattle.kept_forms.specs.Forms.{total}
 use Rattle.kept_forms.proofs.add_totals.Statement.{statement}
 use Rattle.kept_forms.proofs.add_totals.Tie as tie
@@ -31,12 +31,12 @@ loop-again c =
     let s = c .before .before .before .before .before .before .before .before .before .before .before .before .before .args in
     let l = c .before .before .before .before .before .before .before .before .before .loop in
     let here = zero-add (64 * l .k) in
-    let kept = stored-rest _ _ _ (l .k) _ (0 + 64 * l .k) 64 (l .inv .1) (omega arith) in
+    let unchanged = stored-rest _ _ _ (l .k) _ (0 + 64 * l .k) 64 (l .inv .1) (omega arith) in
     let e = c .before .before .before .before .add .ensures
     ∙ ap₂ radd
-    (c .before .before .before .before .before .load .ensures ∙ ap (λ p. part (l .totals) p 64) (sym here) ∙ kept)
-    (c .before .before .before .before .before .before .before .back .ensures ∙ sym (words-element (back-from (s .forms .now) (192 * l .k)) (back-from-element (s .forms .now) (192 * l .k))))
-    ∙ sym (words-add-element (part (s .totals .now) (0 + 64 * l .k) 64) (element (back-from (s .forms .now) (192 * l .k)))) in
+    (c .before .before .before .before .before .load .ensures ∙ ap (λ p. part (l .totals) p 64) (sym here) ∙ unchanged)
+    (c .before .before .before .before .before .before .before .inverse .ensures ∙ sym (words-element (inverse-from (s .forms .now) (192 * l .k)) (inverse-from-element (s .forms .now) (192 * l .k))))
+    ∙ sym (words-add-element (part (s .totals .now) (0 + 64 * l .k) 64) (element (inverse-from (s .forms .now) (192 * l .k)))) in
     let w = c .before .before .store .ensures ∙ ap (λ p. splice (l .totals) p (c .before .before .before .before .add .result .coeffs)) (sym here) ∙ stored-next _ _ _ (l .k) _ _ (l .inv .1) e in
     (omega arith, w, ap length w ∙ length-splice _ _ _)
 

@@ -12,8 +12,8 @@ use Rattle.kept_forms.proofs.Forms.{buffer-values, forms-stored}
 use Rattle.kept_forms.proofs.mix_and_form.Statement.{statement}
 use Rattle.kept_forms.proofs.mix_and_form.Tie as tie
 
-store-values-requires : tie.Need-store-values-requires
-store-values-requires c κs = (c .before .before .before .before .before .before .before .before .before .pre .0, omega (arith, length-replicate {A = ℕ} 192 0))
+store-ntt-form-requires : tie.Need-store-ntt-form-requires
+store-ntt-form-requires c κs = (c .before .before .before .before .before .before .before .before .before .pre .0, omega (arith, length-replicate {A = ℕ} 192 0))
 
 add-terms-requires : tie.Need-add-terms-requires
 add-terms-requires c κs =
@@ -27,7 +27,7 @@ add-column-requires c κs =
     let b = c .before .before .before .before .before .before .before .before .before .before .before .before .before .before .before .before .before .before in
     let s = b .args in
     let p = b .pre in
-    let stored = c .before .before .before .before .before .before .before .before .store-values .ensures in
+    let stored = c .before .before .before .before .before .before .before .before .store-ntt-form .ensures in
     let loaded = c .before .before .before .before .before .before .before .before .before .before .before .load .ensures in (
       p .0,
       (
@@ -43,8 +43,8 @@ add-column-requires c κs =
       p .2 .1,
     )
 
-back-requires : tie.Need-back-requires
-back-requires c κs =
+inverse-requires : tie.Need-inverse-requires
+inverse-requires c κs =
     let b = c .before .before .before .before .before .before .before .before .before .before .before .before .before .before .before .before .before .before .before .before .before .before .before in
     let size = terms-length _ _ _ _ _ _ _ _ (c .before .before .before .before .add-column .ensures .0) in
     (b .pre .0, omega (arith, size))
@@ -55,10 +55,10 @@ returns c =
     let s = m .before .before .before .before .before .before .before .before .before .before .before .before .args in
     let column = c .before .before .before .before .before .add-column .ensures in (
       mixed-words-are (s .job .now) (s .constraints) (s .scratch .now) (s .aggregated) (s .weights .now) _ _ _
-          (c .before .before .before .before .before .before .before .before .before .before .before .add-terms .ensures) (column .0) (c .back .ensures),
+          (c .before .before .before .before .before .before .before .before .before .before .before .add-terms .ensures) (column .0) (c .inverse .ensures),
       forms-stored (part (s .witness .now) (s .s) 64) _ _
           (c .before .before .before .before .before .before .before .before .before .before .before .before .before .before .before .before .before .load .ensures)
-          (c .before .before .before .before .before .before .before .before .before .before .before .before .before .before .store-values .ensures) (s .forms .now) _ (s .scratch .now)
+          (c .before .before .before .before .before .before .before .before .before .before .before .before .before .before .store-ntt-form .ensures) (s .forms .now) _ (s .scratch .now)
           (s .aggregated .at) (s .aggregated .step) (s .aggregated .count) (column .1),
     )
 
@@ -68,7 +68,7 @@ mix-and-form-spec =
     (tie.spec
     (λ c κs. omega arith)
     (λ c. search needs)
-    store-values-requires
+    store-ntt-form-requires
     (λ c. search needs)
     add-terms-requires
     (λ c. omega arith)
@@ -76,6 +76,6 @@ mix-and-form-spec =
     (λ c. search needs)
     add-column-requires
     (λ c. search needs)
-    back-requires
+    inverse-requires
     (λ c. search needs)
     returns)

@@ -12,14 +12,14 @@ use Rattle.protocol.specs.Formulas.{flat, triangle}
 use Rattle.rq_matrix.proofs.Place.{rows-within, triangular-suc, triangle-within}
 use Rattle.rq_matrix.proofs.Fill.{length-filled, triangle-none, triangle-next}
 use Rattle.kept_vectors.proofs.Laws.{values-before, values-first}
-use Rattle.kept_garbage.specs.KeptGarbage.{kept-gram}
+use Rattle.kept_garbage.specs.NttGarbage.{ntt-gram}
 use Rattle.kept_garbage.proofs.Laws.{gram-row}
 use Rattle.kept_garbage.proofs.compute_g.Statement.{statement}
 use Rattle.kept_garbage.proofs.compute_g.Tie as tie
 
 abbrev Inv-loop : tie.InvT-loop
 Inv-loop scratch₀ at r n out-at w buffer₀ place₀ i₀ scratch buffer place i =
-    (i ≤ r) × (place ≡ out-at + 64 * triangular i) × (scratch ≡ splice scratch₀ out-at (flat (triangle i (kept-gram scratch₀ at n)))) × (length scratch ≡ length scratch₀) × (length buffer ≡ 12288)
+    (i ≤ r) × (place ≡ out-at + 64 * triangular i) × (scratch ≡ splice scratch₀ out-at (flat (triangle i (ntt-gram scratch₀ at n)))) × (length scratch ≡ length scratch₀) × (length buffer ≡ 12288)
 
 abbrev μ-loop : tie.MeasureT-loop
 μ-loop scratch₀ at r n out-at w buffer₀ place₀ i₀ scratch buffer place i = r - i
@@ -32,7 +32,7 @@ g-row-requires c κs =
     let b = c .before .before .before .before .before .before .before in
     let s = b .args in
     let l = c .before .before .before .before .loop in
-    let cells = kept-gram (s .scratch .now) (s .at) (s .n) in
+    let cells = ntt-gram (s .scratch .now) (s .at) (s .n) in
     let within = rows-within (l .i) (s .r) (s .n) (omega arith) in
     let few : (l .i + 1) * s .n ≤ s .r * s .n = omega (arith, within) in (
       c .before .before .before .before .before .twiddles .ensures,
@@ -48,7 +48,7 @@ loop-again : tie.Need-loop-again Inv-loop μ-loop
 loop-again c =
     let s = c .before .before .before .before .before .before .before .before .before .before .before .args in
     let l = c .before .before .before .before .before .before .before .before .loop in
-    let cells = kept-gram (s .scratch .now) (s .at) (s .n) in
+    let cells = ntt-gram (s .scratch .now) (s .at) (s .n) in
     let made = gram-row (s .scratch .now) (l .scratch) _ (s .out-at) (flat (triangle (l .i) cells)) (s .at) (s .n) (s .r) (l .i) (l .place) (l .inv .2) (omega arith) (omega arith) (c .before .before .before .g-row .ensures .0) in
     let filled = triangle-next (s .scratch .now) (s .out-at) (l .scratch) _ (l .i) (l .place) cells (l .inv .2) (l .inv .1) made in (
       omega arith,
@@ -63,7 +63,7 @@ returns c =
     let s = c .before .before .before .before .args in
     let l = c .before .loop in
     let done : l .i ≡ s .r = omega arith in
-    l .inv .2 ∙ ap (λ k. splice (s .scratch .now) (s .out-at) (flat (triangle k (kept-gram (s .scratch .now) (s .at) (s .n))))) done
+    l .inv .2 ∙ ap (λ k. splice (s .scratch .now) (s .out-at) (flat (triangle k (ntt-gram (s .scratch .now) (s .at) (s .n))))) done
 
 pub compute-g-spec : {M : Type 1} → statement M
 compute-g-spec =

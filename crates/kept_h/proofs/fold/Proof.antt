@@ -8,7 +8,7 @@ use Rattle.protocol.specs.Parameters.{triangular}
 use Rattle.protocol.specs.Formulas.{flat, triangle}
 use Rattle.rq_matrix.proofs.Place.{triangular-suc, triangle-within}
 use Rattle.rq_matrix.proofs.Fill.{length-filled, triangle-none, triangle-next}
-use Rattle.kept_h.specs.KeptLines.{both-ways}
+use Rattle.kept_h.specs.NttLines.{both-ways}
 use Rattle.kept_h.proofs.Square.{both-row}
 use Rattle.kept_h.proofs.fold.Statement.{statement}
 use Rattle.kept_h.proofs.fold.Tie as tie

@@ -12,7 +12,7 @@ use Rattle.protocol.specs.Formulas.{flat}
 use Rattle.protocol.proofs.Stored.{stored-none}
 use Rattle.rq_matrix.proofs.Place.{rows-within}
 use Rattle.rq_matrix.proofs.Fill.{length-filled, fill-next}
-use Rattle.kept_h.specs.KeptLines.{both-ways}
+use Rattle.kept_h.specs.NttLines.{both-ways}
 use Rattle.kept_h.proofs.Square.{cell-sum, both-before}
 use Rattle.kept_h.proofs.h_row.Statement.{statement}
 use Rattle.kept_h.proofs.h_row.Tie as tie

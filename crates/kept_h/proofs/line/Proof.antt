@@ -4,7 +4,7 @@ use native.Mathlib.Omega.{arith}
 use borrow.Author.Needs.{needs}
 use Rattle.lists.specs.Part.{splice}
 use Rattle.protocol.specs.Formulas.{flat}
-use Rattle.kept_vectors.proofs.Laws.{keeps-values}
+use Rattle.kept_vectors.proofs.Laws.{ntt-form-values}
 use Rattle.kept_h.proofs.LineLaws.{line-copied}
 use Rattle.kept_h.proofs.line.Statement.{statement}
 use Rattle.kept_h.proofs.line.Tie as tie
@@ -14,7 +14,7 @@ row-requires c κs =
     let b = c .before .before .before .before .before .before .before .before .before .before in
     let s = b .args in (
       b .pre .0,
-      keeps-values _ 0 (s .scratch .now) (s .from) (s .n) (c .before .before .before .before .keep .ensures .1),
+      ntt-form-values _ 0 (s .scratch .now) (s .phi-at) (s .n) (c .before .before .before .before .to-ntt-form .ensures .1),
       b .pre .1,
       omega arith,
       omega arith,
@@ -24,8 +24,8 @@ row-requires c κs =
 returns : tie.Need-returns
 returns c =
     let s = c .before .before .before .before .before .before .before .before .before .before .before .before .before .args in
-    let copied = c .before .before .before .before .before .before .before .keep .ensures .0 in (
-      c .before .before .row .ensures ∙ ap (λ cells. splice (s .scratch .now) (s .out-at) (flat cells)) (line-copied (s .buffer .now) _ (s .scratch .now) (s .scratch .now) (s .from) (s .n) (s .at) (s .count) copied (omega arith)),
+    let copied = c .before .before .before .before .before .before .before .to-ntt-form .ensures .0 in (
+      c .before .before .row .ensures ∙ ap (λ cells. splice (s .scratch .now) (s .out-at) (flat cells)) (line-copied (s .buffer .now) _ (s .scratch .now) (s .scratch .now) (s .phi-at) (s .n) (s .at) (s .count) copied (omega arith)),
       copied,
     )
 

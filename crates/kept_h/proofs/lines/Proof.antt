@@ -12,24 +12,24 @@ use Rattle.protocol.proofs.Flat.{length-flat, length-rows}
 use Rattle.protocol.proofs.Stored.{rows-none, rows-next, rows-all}
 use Rattle.rq_matrix.proofs.Place.{rows-within}
 use Rattle.rq_matrix.proofs.Fill.{length-filled}
-use Rattle.kept_vectors.specs.Keeps.{kept-words, kept-row}
+use Rattle.kept_vectors.specs.NttForm.{ntt-words, ntt-row}
 use Rattle.kept_vectors.proofs.Laws.{values-before}
-use Rattle.kept_h.specs.KeptLines.{kept-line}
+use Rattle.kept_h.specs.NttLines.{ntt-line}
 use Rattle.kept_h.proofs.LineLaws.{line-between}
 use Rattle.kept_h.proofs.lines.Statement.{statement}
 use Rattle.kept_h.proofs.lines.Tie as tie
 
 abbrev Inv-loop : tie.InvT-loop
-Inv-loop scratch₀ from r n at out-at w buffer₀ start₀ place₀ i₀ scratch buffer start place i =
+Inv-loop scratch₀ φ-at r n at out-at w buffer₀ start₀ place₀ i₀ scratch buffer start place i =
     (i ≤ r)
-    × (start ≡ from + 64 * (i * n))
+    × (start ≡ φ-at + 64 * (i * n))
     × (place ≡ out-at + 64 * (i * r))
-    × (scratch ≡ splice scratch₀ out-at (flat (rows i r (kept-line scratch₀ from at n))))
+    × (scratch ≡ splice scratch₀ out-at (flat (rows i r (ntt-line scratch₀ φ-at at n))))
     × (length scratch ≡ length scratch₀)
     × (length buffer ≡ 12288)
 
 abbrev μ-loop : tie.MeasureT-loop
-μ-loop scratch₀ from r n at out-at w buffer₀ start₀ place₀ i₀ scratch buffer start place i = r - i
+μ-loop scratch₀ φ-at r n at out-at w buffer₀ start₀ place₀ i₀ scratch buffer start place i = r - i
 
 loop-holds : tie.Need-loop-holds Inv-loop μ-loop
 loop-holds c = (omega arith, omega arith, omega arith, rows-none _ _ _ _, refl, length-replicate {A = ℕ} 12288 0)
@@ -42,7 +42,7 @@ line-requires c κs =
     let across = rows-within (l .i) (s .r) (s .r) (omega arith) in
     let within = rows-within (l .i) (s .r) (s .n) (omega arith) in (
       c .before .before .before .before .before .twiddles .ensures,
-      values-before (s .scratch .now) (l .scratch) (s .out-at) (flat (rows (l .i) (s .r) (kept-line (s .scratch .now) (s .from) (s .at) (s .n)))) (s .at) (s .r * s .n) (l .inv .3) (omega arith) (b .pre .0),
+      values-before (s .scratch .now) (l .scratch) (s .out-at) (flat (rows (l .i) (s .r) (ntt-line (s .scratch .now) (s .phi-at) (s .at) (s .n)))) (s .at) (s .r * s .n) (l .inv .3) (omega arith) (b .pre .0),
       (omega arith, omega (arith, across), omega (arith, within), omega arith, omega arith, omega arith),
     )
 
@@ -56,7 +56,7 @@ loop-again : tie.Need-loop-again Inv-loop μ-loop
 loop-again c =
     let s = c .before .before .before .before .before .before .before .before .before .before .before .args in
     let l = c .before .before .before .before .before .before .before .before .loop in
-    let f : ℕ → ℕ → Element = kept-line (s .scratch .now) (s .from) (s .at) (s .n) in
+    let f : ℕ → ℕ → Element = ntt-line (s .scratch .now) (s .phi-at) (s .at) (s .n) in
     let made = c .before .before .before .line .ensures .0 in
     let across = rows-within (l .i) (s .r) (s .r) (omega arith) in
     let apart : s .out-at + length (flat (rows (l .i) (s .r) f)) ≤ l .start = omega (arith, across, length-flat (rows (l .i) (s .r) f), length-rows (l .i) f (s .r)) in (
@@ -65,7 +65,7 @@ loop-again c =
       omega arith,
       made
           ∙ ap (λ cells. splice (l .scratch) (l .place) (flat cells)) (line-between (s .scratch .now) (l .scratch) (s .out-at) (flat (rows (l .i) (s .r) f)) (l .start) (s .n) (s .at) (s .r) (l .inv .3) (omega arith) apart)
-          ∙ ap (λ p. splice (l .scratch) (l .place) (flat (table (s .r) (kept-row (kept-words (s .scratch .now) p (s .n)) (s .scratch .now) (s .at) (s .n))))) (l .inv .1)
+          ∙ ap (λ p. splice (l .scratch) (l .place) (flat (table (s .r) (ntt-row (ntt-words (s .scratch .now) p (s .n)) (s .scratch .now) (s .at) (s .n))))) (l .inv .1)
           ∙ ap (λ p. splice (l .scratch) p (flat (table (s .r) (f (l .i))))) (l .inv .2)
           ∙ rows-next (s .scratch .now) (l .scratch) (s .out-at) (l .i) (s .r) f (l .inv .3),
       length-filled _ _ _ _ made ∙ l .inv .4,
@@ -76,7 +76,7 @@ returns : tie.Need-returns Inv-loop μ-loop
 returns c =
     let s = c .before .before .before .before .args in
     let l = c .before .loop in
-    rows-all (s .scratch .now) (l .scratch) (s .out-at) (l .i) (s .r) (s .r) (kept-line (s .scratch .now) (s .from) (s .at) (s .n)) (l .inv .3) (omega arith)
+    rows-all (s .scratch .now) (l .scratch) (s .out-at) (l .i) (s .r) (s .r) (ntt-line (s .scratch .now) (s .phi-at) (s .at) (s .n)) (l .inv .3) (omega arith)
 
 pub lines-spec : {M : Type 1} → statement M
 lines-spec =

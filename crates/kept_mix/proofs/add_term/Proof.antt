@@ -10,14 +10,14 @@ use Rattle.kept_mix.proofs.Terms.{term-made, term-room}
 use Rattle.kept_mix.proofs.add_term.Statement.{statement}
 use Rattle.kept_mix.proofs.add_term.Tie as tie
 
-store-values-requires : tie.Need-store-values-requires
-store-values-requires c κs = (c .before .before .before .before .before .before .before .pre .0, omega (arith, length-replicate {A = ℕ} 192 0))
+store-ntt-form-requires : tie.Need-store-ntt-form-requires
+store-ntt-form-requires c κs = (c .before .before .before .before .before .before .before .pre .0, omega (arith, length-replicate {A = ℕ} 192 0))
 
 add-product-requires : tie.Need-add-product-requires
 add-product-requires c κs =
     let b = c .before .before .before .before .before .before .before .before .before .before .before in
     let s = b .args in
-    let stored = c .before .before .before .store-values .ensures in
+    let stored = c .before .before .before .store-ntt-form .ensures in
     let loaded = c .before .before .before .before .before .before .load .ensures in (
       omega (arith, b .pre .3 .whole),
       omega (arith, b .pre .2 .within),
@@ -30,7 +30,7 @@ returns : tie.Need-returns
 returns c =
     let b = c .before .before .before .before .before .before .before .before .before .before .before .before .before .before in
     let s = b .args in
-    term-made (part (s .from .now) (s .at) 64) _ _ (c .before .before .before .before .before .before .before .before .before .load .ensures) (c .before .before .before .before .before .before .store-values .ensures) (s .sums .now) _ (s .weights .now) (s .weight) (b .pre .3 .whole) (c .before .before .add-product .ensures)
+    term-made (part (s .from .now) (s .at) 64) _ _ (c .before .before .before .before .before .before .before .before .before .load .ensures) (c .before .before .before .before .before .before .store-ntt-form .ensures) (s .sums .now) _ (s .weights .now) (s .weight) (b .pre .3 .whole) (c .before .before .add-product .ensures)
 
 pub add-term-spec : {M : Type 1} → statement M
 add-term-spec =
@@ -38,7 +38,7 @@ add-term-spec =
     (tie.spec
     (λ c κs. omega arith)
     (λ c. search needs)
-    store-values-requires
+    store-ntt-form-requires
     (λ c. search needs)
     add-product-requires
     (λ c. search needs)

@@ -5,20 +5,20 @@ use Rattle.kept_mix.proofs.Faster.{faster-weights}
 use Rattle.kept_mix.proofs.aggregate.Statement.{statement}
 use Rattle.kept_mix.proofs.aggregate.Tie as tie
 
-kept-is-faster-requires : tie.Need-kept-is-faster-requires
-kept-is-faster-requires c κs = let p = c .before .before .before .pre in (p .1 .few, p .2 .few)
+ntt-is-faster-requires : tie.Need-ntt-is-faster-requires
+ntt-is-faster-requires c κs = let p = c .before .before .before .pre in (p .1 .few, p .2 .few)
 
-aggregate-kept-requires : tie.Need-aggregate-kept-requires
-aggregate-kept-requires c κs =
+aggregate-ntt-requires : tie.Need-aggregate-ntt-requires
+aggregate-ntt-requires c κs =
     let b = c .before .before .before .before .before .before in
-    (b .pre, faster-weights (b .args .width) (b .args .constraints .count) (b .args .aggregated .count) (sym (c .before .before .kept-is-faster .ensures) ∙ c .before .if1 .taken))
+    (b .pre, faster-weights (b .args .width) (b .args .constraints .count) (b .args .aggregated .count) (sym (c .before .before .ntt-is-faster .ensures) ∙ c .before .if1 .taken))
 
 pub aggregate-spec : {M : Type 1} → statement M
 aggregate-spec =
     tie.close
     (tie.spec
-    kept-is-faster-requires
-    aggregate-kept-requires
+    ntt-is-faster-requires
+    aggregate-ntt-requires
     (λ c κs. search needs)
     (λ c. search needs)
     (λ c. search needs)

@@ -28,8 +28,8 @@ add-terms-requires-2 c κs =
           (λ j. omega (arith, c .before .before .before .before .before .before .before .before .shared-slice-known .given j)),
     )
 
-back-requires : tie.Need-back-requires
-back-requires c κs =
+inverse-requires : tie.Need-inverse-requires
+inverse-requires c κs =
     let b = c .before .before .before .before .before .before .before .before .before .before .before .before in
     let size = terms-length _ _ _ _ _ _ _ _ (c .before .before .add-terms2 .ensures) in
     (b .pre .0, omega (arith, size))
@@ -38,7 +38,7 @@ returns : tie.Need-returns
 returns c =
     let s = c .before .before .before .before .before .before .before .before .before .before .before .before .before .args in
     mixed-words-are (s .job .now) (s .constraints) (s .scratch .now) (s .aggregated) (s .weights .now) _ _ _ (c .before .before .before .before .before .before .before .add-terms .ensures)
-    (c .before .before .before .add-terms2 .ensures) (c .back .ensures)
+    (c .before .before .before .add-terms2 .ensures) (c .inverse .ensures)
 
 pub mix-spec : {M : Type 1} → statement M
 mix-spec =
@@ -50,5 +50,5 @@ mix-spec =
     (λ c. search needs)
     add-terms-requires-2
     (λ c. search needs)
-    back-requires
+    inverse-requires
     returns)

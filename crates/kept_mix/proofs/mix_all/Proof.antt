@@ -11,15 +11,15 @@ use Rattle.protocol.specs.Formulas.{flat}
 use Rattle.protocol.proofs.Stored.{stored-none, stored-next, stored-all}
 use Rattle.inner_product.specs.Run.{further}
 use Rattle.aggregate.proofs.Grid.{rows-run, rows-same, row-ends}
-use Rattle.kept_mix.specs.Terms.{kept-mixed}
-use Rattle.kept_mix.proofs.Mixed.{kept-mixed-before}
+use Rattle.kept_mix.specs.Terms.{ntt-mixed}
+use Rattle.kept_mix.proofs.Mixed.{ntt-mixed-before}
 use Rattle.kept_mix.proofs.mix_all.Statement.{statement}
 use Rattle.kept_mix.proofs.mix_all.Tie as tie
 
 abbrev Inv-loop : tie.InvT-loop
 Inv-loop job constraints scratch₀ aggregated width to weights w c₀ scratch c =
     (c ≤ width)
-    × (scratch ≡ splice scratch₀ to (flat (table c (λ c. kept-mixed job (further constraints c) scratch₀ (further aggregated c) weights))))
+    × (scratch ≡ splice scratch₀ to (flat (table c (λ c. ntt-mixed job (further constraints c) scratch₀ (further aggregated c) weights))))
     × (length scratch ≡ length scratch₀)
 
 abbrev μ-loop : tie.MeasureT-loop
@@ -44,7 +44,7 @@ loop-again c =
     let s = c .before .before .before .before .before .before .before .before .before .before .before .before .before .before .args in
     let h = c .before .before .before .before .before .before .before .before .before .before .before .before .before .before .pre in
     let l = c .before .before .before .before .before .before .before .before .before .loop in
-    let e = c .before .before .before .before .mix .ensures ∙ ap words (kept-mixed-before _ _ _ _ (further (s .aggregated) (l .c)) _ (s .to) _ (l .inv .1)
+    let e = c .before .before .before .before .mix .ensures ∙ ap words (ntt-mixed-before _ _ _ _ (further (s .aggregated) (l .c)) _ (s .to) _ (l .inv .1)
     (λ m i. row-ends (s .aggregated) (s .width) (s .to) (l .c) m (h .1 .1 .1) (h .1 .2) (omega arith) i)) in
     let w = c .before .before .store .ensures ∙ stored-next _ _ _ (l .c) _ _ (l .inv .1) e in
     (omega arith, w, ap length w ∙ length-splice _ _ _)

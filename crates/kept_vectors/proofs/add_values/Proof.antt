@@ -11,7 +11,7 @@ use Rattle.lists.specs.Part.{splice}
 use Rattle.lists.proofs.Table.{length-table, is-table}
 use Rattle.lists.proofs.Splice.{length-splice, splice-nil, getD-splice-after}
 use Rattle.lists.proofs.Fill.{splice-table-next, getD-splice-table}
-use Rattle.kept_vectors.specs.Keeps.{values-added}
+use Rattle.kept_vectors.specs.NttForm.{values-added}
 use Rattle.kept_vectors.proofs.add_values.Statement.{statement}
 use Rattle.kept_vectors.proofs.add_values.Tie as tie
 

@@ -13,14 +13,14 @@ use Rattle.protocol.specs.Formulas.{flat}
 use Rattle.protocol.proofs.Stored.{stored-none}
 use Rattle.rq_matrix.proofs.Place.{rows-within}
 use Rattle.rq_matrix.proofs.Fill.{length-filled, fill-next}
-use Rattle.kept_vectors.specs.Keeps.{kept-dot, kept-row}
+use Rattle.kept_vectors.specs.NttForm.{ntt-dot, ntt-row}
 use Rattle.kept_vectors.proofs.Laws.{vector-values, values-before, dot-before}
 use Rattle.kept_vectors.proofs.row.Statement.{statement}
 use Rattle.kept_vectors.proofs.row.Tie as tie
 
 abbrev Inv-loop : tie.InvT-loop
 Inv-loop v n count w scratch₀ at out-at place₀ to₀ k₀ scratch place to k =
-    (k ≤ count) × (place ≡ at + 192 * (k * n)) × (to ≡ out-at + 64 * k) × (scratch ≡ splice scratch₀ out-at (flat (table k (kept-row v scratch₀ at n)))) × (length scratch ≡ length scratch₀)
+    (k ≤ count) × (place ≡ at + 192 * (k * n)) × (to ≡ out-at + 64 * k) × (scratch ≡ splice scratch₀ out-at (flat (table k (ntt-row v scratch₀ at n)))) × (length scratch ≡ length scratch₀)
 
 abbrev μ-loop : tie.MeasureT-loop
 μ-loop v n count w scratch₀ at out-at place₀ to₀ k₀ scratch place to k = count - k
@@ -36,7 +36,7 @@ inner-product-requires c κs =
       b .pre .0,
       b .pre .1,
       vector-values (l .scratch) (s .at) (s .count) (s .n) (l .k) (l .place)
-          (values-before (s .scratch .now) (l .scratch) (s .out-at) (flat (table (l .k) (kept-row (s .v .now) (s .scratch .now) (s .at) (s .n)))) (s .at) (s .count * s .n) (l .inv .3) (omega arith) (b .pre .2)) (omega arith) (l .inv .1),
+          (values-before (s .scratch .now) (l .scratch) (s .out-at) (flat (table (l .k) (ntt-row (s .v .now) (s .scratch .now) (s .at) (s .n)))) (s .at) (s .count * s .n) (l .inv .3) (omega arith) (b .pre .2)) (omega arith) (l .inv .1),
       b .pre .3,
     )
 
@@ -49,11 +49,11 @@ loop-again : tie.Need-loop-again Inv-loop μ-loop
 loop-again c =
     let s = c .before .before .before .before .before .before .before .before .before .before .before .args in
     let l = c .before .before .before .before .before .before .before .loop in
-    let f : ℕ → Element = kept-row (s .v .now) (s .scratch .now) (s .at) (s .n) in
+    let f : ℕ → Element = ntt-row (s .v .now) (s .scratch .now) (s .at) (s .n) in
     let stored = c .before .before .store .ensures in
     let within : s .at + 192 * (l .k * s .n) + 192 * s .n ≤ s .out-at = omega (arith, rows-within (l .k) (s .count) (s .n) (omega arith)) in
     let cell = c .before .before .before .before .inner-product .ensures
-    ∙ ap words (ap (λ p. kept-dot (s .v .now) 0 (l .scratch) p (s .n)) (l .inv .1) ∙ dot-before (s .v .now) (s .scratch .now) (l .scratch) (s .out-at) (flat (table (l .k) f)) (l .inv .3) (s .n) 0 (s .at + 192 * (l .k * s .n)) within) in (
+    ∙ ap words (ap (λ p. ntt-dot (s .v .now) 0 (l .scratch) p (s .n)) (l .inv .1) ∙ dot-before (s .v .now) (s .scratch .now) (l .scratch) (s .out-at) (flat (table (l .k) f)) (l .inv .3) (s .n) 0 (s .at + 192 * (l .k * s .n)) within) in (
       omega arith,
       omega arith,
       omega arith,
@@ -66,7 +66,7 @@ returns c =
     let s = c .before .before .before .before .before .args in
     let l = c .before .loop in
     let done : l .k ≡ s .count = omega arith in
-    l .inv .3 ∙ ap (λ k. splice (s .scratch .now) (s .out-at) (flat (table k (kept-row (s .v .now) (s .scratch .now) (s .at) (s .n))))) done
+    l .inv .3 ∙ ap (λ k. splice (s .scratch .now) (s .out-at) (flat (table k (ntt-row (s .v .now) (s .scratch .now) (s .at) (s .n))))) done
 
 pub row-spec : {M : Type 1} → statement M
 row-spec =

@@ -6,7 +6,7 @@ use native.Mathlib.Omega.{arith}
 use borrow.Author.Needs.{needs}
 use lib.ListN.{length, length-replicate}
 use Rattle.lists.proofs.Table.{length-table}
-use Rattle.kept_vectors.specs.Keeps.{value-sums}
+use Rattle.kept_vectors.specs.NttForm.{value-sums}
 use Rattle.kept_vectors.proofs.Sums.{length-sums, sums-none, sums-next, sums-room}
 use Rattle.kept_vectors.proofs.value_sums.Statement.{statement}
 use Rattle.kept_vectors.proofs.value_sums.Tie as tie

@@ -32,7 +32,7 @@ returns : tie.Need-returns
 unfolding table
 returns c =
     let s = c .before .before .before .before .before .before .before .before .before .before .before .before .args in
-    job-drawn-in (given (s .g)) (parametersOf (s .p)) (s .seed) _ (s .job .now) _ _ _ (c .before .before .before .before .before .before .before .before .before .before .before .before .pre .0 .same) (c .before .before .before .before .before .before .before .before .before .before .section-one-words .ensures) (c .before .before .before .before .before .before .before .copy .ensures)
+    job-drawn-in (given (s .g)) (parametersOf (s .params)) (s .seed) _ (s .job .now) _ _ _ (c .before .before .before .before .before .before .before .before .before .before .before .before .pre .0 .same) (c .before .before .before .before .before .before .before .before .before .before .section-one-words .ensures) (c .before .before .before .before .before .before .before .copy .ensures)
     (table-drawn (c .before .before .before .job-sections .ensures) (R.Word ∷ R.Word ∷ R.Later ∷ R.Word ∷ R.Word ∷ R.Later ∷ R.Word ∷ R.Word ∷ R.Word ∷ R.Word ∷ []) job-rules refl (s .seed) _ _ 31 _ (c .before .before .sections .ensures))
 
 pub draw-job-spec : {M : Type 1} → statement M

@@ -2,7 +2,7 @@
 use native.Mathlib.Omega.{arith}
 use borrow.Author.Needs.{needs}
 use Rattle.kept_mix.proofs.Terms.{none-small}
-use Rattle.load_products.proofs.Kept.{line-words}
+use Rattle.load_products.proofs.NttProducts.{line-words}
 use Rattle.load_products.proofs.line.Statement.{statement}
 use Rattle.load_products.proofs.line.Tie as tie
 
@@ -14,7 +14,7 @@ add-terms-requires c κs =
 returns : tie.Need-returns
 returns c =
     let s = c .before .before .before .before .before .before .before .before .args in
-    line-words (s .job .now) (s .at) (s .n) (s .kept .now) _ _ (c .before .before .before .add-terms .ensures) (c .back .ensures)
+    line-words (s .job .now) (s .at) (s .n) (s .transformed .now) _ _ (c .before .before .before .add-terms .ensures) (c .inverse .ensures)
 
 pub line-spec : {M : Type 1} → statement M
 line-spec = tie.close (tie.spec (λ c. search needs) add-terms-requires (λ c. search needs) (λ c κs. search needs) returns)

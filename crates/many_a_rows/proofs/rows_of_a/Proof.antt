@@ -1,4 +1,4 @@
--- `rows_of_a` meets its contract. The invariant: the first rows are done for every transcript that passes, and z is kept.
+-- `rows_of_a` meets its contract. The invariant: the first rows are done for every transcript that passes, and z is in NTT form.
 use mathlib.Core.Path.{_≡_, sym, ap, subst, _∙_}
 use mathlib.Core.Bool.{false}
 use Prim.Native.Nat.{_-_, _*_, _≤_}
@@ -7,29 +7,29 @@ use borrow.Author.Needs.{needs}
 use lib.ListN.{getD}
 use Rattle.protocol.specs.Parameters.{Parameters, parameters}
 use Rattle.protocol.specs.Layout.{scratch-need}
-use Rattle.protocol.specs.Kept.{Kept}
+use Rattle.protocol.specs.Unchanged.{Unchanged}
 use Rattle.protocol.specs.Many.{many-need, transcript-part, All-rows-done}
-use Rattle.workspace.proofs.Kept.{kept-refl, kept-trans}
-use Rattle.kept_vectors.proofs.Laws.{keeps-values}
+use Rattle.workspace.proofs.Unchanged.{unchanged-refl, unchanged-trans}
+use Rattle.kept_vectors.proofs.Laws.{ntt-form-values}
 use Rattle.many_windows.proofs.Windows.{rowable-sized}
-use Rattle.many_a_rows.specs.Kept.{z-at, All-z}
+use Rattle.many_a_rows.specs.NttForm.{z-at, All-z}
 use Rattle.many_a_rows.proofs.rows_of_a.Statement.{statement}
 use Rattle.many_a_rows.proofs.rows_of_a.Tie as tie
 
 abbrev Inv-loop : tie.InvT-loop
-Inv-loop job p count passes transcripts scratch₀ w row₀ scratch row =
-    (row ≤ p .kappa)
+Inv-loop job params count passes transcripts scratch₀ w row₀ scratch row =
+    (row ≤ params .kappa)
     × All-z job count (λ m. getD passes m false) transcripts scratch
     × All-rows-done job count (λ m. getD passes m false) transcripts scratch row
-    × Kept (many-need (parameters job) count) scratch₀ scratch
+    × Unchanged (many-need (parameters job) count) scratch₀ scratch
 
 abbrev μ-loop : tie.MeasureT-loop
-μ-loop job p count passes transcripts scratch₀ w row₀ scratch row = p .kappa - row
+μ-loop job params count passes transcripts scratch₀ w row₀ scratch row = params .kappa - row
 
 loop-holds : tie.Need-loop-holds Inv-loop μ-loop
 loop-holds c =
-    let e = c .before .before .keep-all .ensures in
-    (omega arith, e .1 .0, e .0, kept-refl _ _)
+    let e = c .before .before .all-to-ntt-form .ensures in
+    (omega arith, e .1 .0, e .0, unchanged-refl _ _)
 
 row-of-all-requires : tie.Need-row-of-all-requires Inv-loop μ-loop
 row-of-all-requires c κs =
@@ -45,8 +45,8 @@ row-of-all-requires c κs =
         sound = s .pre .0 .sound;
         job = s .pre .0 .job;
         few = s .pre .0 .few;
-        room = subst (λ n. many-need P (s .args .count) ≤ n) (sym (l .inv .3 .size ∙ k .keep-all .ensures .1 .1 .size)) (s .pre .0 .room);
-        values = λ m h u. keeps-values (l .scratch) (m * scratch-need P) (transcript-part P (s .args .count) (s .args .transcripts .now) m) (z-at P) (P .n) (l .inv .1 m h u);
+        room = subst (λ n. many-need P (s .args .count) ≤ n) (sym (l .inv .3 .size ∙ k .all-to-ntt-form .ensures .1 .1 .size)) (s .pre .0 .room);
+        values = λ m h u. ntt-form-values (l .scratch) (m * scratch-need P) (transcript-part P (s .args .count) (s .args .transcripts .now) m) (z-at P) (P .n) (l .inv .1 m h u);
       },
       t .if1 .taken,
     )
@@ -57,7 +57,7 @@ loop-again c =
     let s = c .before .before .before .before .before .before .before .before .before .before .before .before .before .before .before .before .before .args in
     let e = c .before .before .row-of-all .ensures in
     let made = e .0 (s .transcripts .now) (l .inv .1) (l .inv .2) in
-    (omega arith, made .0, made .1, kept-trans _ _ (l .scratch) _ (l .inv .3) (e .1))
+    (omega arith, made .0, made .1, unchanged-trans _ _ (l .scratch) _ (l .inv .3) (e .1))
 
 returns : tie.Need-returns Inv-loop μ-loop
 returns c =
@@ -65,9 +65,9 @@ returns c =
     let k = c .before .before .before .before .before in
     let s = k .before .before .before .before .before .before .before in
     let a = s .args in
-    let done : l .row ≡ a .p .kappa = omega arith in (
+    let done : l .row ≡ a .params .kappa = omega arith in (
       subst (λ ρ. All-rows-done (a .job .now) (a .count) (λ m. getD (a .passes) m false) (a .transcripts .now) (l .scratch) ρ) (done ∙ ap (λ (Q : Parameters). Q .κ) (s .pre .0 .same)) (l .inv .2),
-      kept-trans _ _ _ _ (k .keep-all .ensures .1 .1) (l .inv .3),
+      unchanged-trans _ _ _ _ (k .all-to-ntt-form .ensures .1 .1) (l .inv .3),
     )
 
 pub rows-of-a-spec : {M : Type 1} → statement M
@@ -85,5 +85,5 @@ rows-of-a-spec =
     (λ c. omega (arith, rowable-sized _ _ _ _ _ _ (c .before .before .before .before .before .before .before .before .before .before .before .before .before .before .before .before .before .pre .0) .within .κ .1))
     (λ c. omega arith)
     loop-again
-    (λ c. c .before .before .loop .inv .3 .size ∙ c .before .before .before .before .before .keep-all .ensures .1 .1 .size)
+    (λ c. c .before .before .loop .inv .3 .size ∙ c .before .before .before .before .before .all-to-ntt-form .ensures .1 .1 .size)
     returns)

@@ -2,7 +2,7 @@
 use mathlib.Core.Path.{sym, ap, _∙_}
 use borrow.Author.Needs.{needs}
 use Rattle.lists.specs.Part.{splice}
-use Rattle.many_a_rows.specs.Kept.{product-for}
+use Rattle.many_a_rows.specs.NttForm.{product-for}
 use Rattle.many_a_rows.proofs.store_product.Statement.{statement}
 use Rattle.many_a_rows.proofs.store_product.Tie as tie
 

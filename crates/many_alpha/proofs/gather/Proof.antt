@@ -4,8 +4,8 @@ use Prim.Native.Nat.{_+_, _-_, _*_, _≤_}
 use native.Mathlib.Omega.{arith}
 use lib.ListN.{length}
 use Rattle.lists.proofs.Splice.{length-part}
-use Rattle.protocol.specs.Kept.{Kept}
-use Rattle.workspace.proofs.Kept.{kept-refl, kept-weaken, kept-stored}
+use Rattle.protocol.specs.Unchanged.{Unchanged}
+use Rattle.workspace.proofs.Unchanged.{unchanged-refl, unchanged-weaken, unchanged-stored}
 use Rattle.many_alpha.specs.Alpha.{Gathered}
 use Rattle.many_alpha.proofs.Stores.{gathered-next}
 use Rattle.many_alpha.proofs.gather.Statement.{statement}
@@ -13,13 +13,13 @@ use Rattle.many_alpha.proofs.gather.Tie as tie
 
 abbrev Inv-loop : tie.InvT-loop
 Inv-loop from at step n out₀ start₀ place₀ m₀ out start place m =
-    (m ≤ n) × (start ≡ at + step * m) × (place ≡ 64 * m) × Gathered out from at step m × Kept (64 * m) out₀ out
+    (m ≤ n) × (start ≡ at + step * m) × (place ≡ 64 * m) × Gathered out from at step m × Unchanged (64 * m) out₀ out
 
 abbrev μ-loop : tie.MeasureT-loop
 μ-loop from at step n out₀ start₀ place₀ m₀ out start place m = n - m
 
 loop-holds : tie.Need-loop-holds Inv-loop μ-loop
-loop-holds c = (omega arith, omega arith, omega arith, λ i l. absurd (omega arith), kept-refl _ _)
+loop-holds c = (omega arith, omega arith, omega arith, λ i l. absurd (omega arith), unchanged-refl _ _)
 
 copy-requires : tie.Need-copy-requires Inv-loop μ-loop
 copy-requires c κs =
@@ -39,7 +39,7 @@ loop-again c =
       omega (arith, l .inv .1),
       omega (arith, l .inv .2),
       gathered-next (l .out) _ (s .args .from .now) (s .args .at) (s .args .step) (l .m) (l .start) (l .place) e (l .inv .2) (l .inv .1) (omega (arith, l .inv .1, within)) room (l .inv .3),
-      kept-stored (64 * (l .m + 1)) (s .args .out .now) (l .out) _ (l .place) _ (kept-weaken (64 * l .m) (64 * (l .m + 1)) (s .args .out .now) (l .out) (omega arith) (l .inv .4)) e (omega (arith, l .inv .2, size)),
+      unchanged-stored (64 * (l .m + 1)) (s .args .out .now) (l .out) _ (l .place) _ (unchanged-weaken (64 * l .m) (64 * (l .m + 1)) (s .args .out .now) (l .out) (omega arith) (l .inv .4)) e (omega (arith, l .inv .2, size)),
     )
 
 returns : tie.Need-returns Inv-loop μ-loop
@@ -47,7 +47,7 @@ returns c =
     let l = c .before .loop in
     let s = c .before .before .before .before in
     let n : l .m ≡ s .args .n = omega arith in
-    (λ i h. l .inv .3 i (omega arith), subst (λ k. Kept (64 * k) (s .args .out .now) (l .out)) n (l .inv .4))
+    (λ i h. l .inv .3 i (omega arith), subst (λ k. Unchanged (64 * k) (s .args .out .now) (l .out)) n (l .inv .4))
 
 pub gather-spec : {M : Type 1} → statement M
 gather-spec =

@@ -6,7 +6,7 @@ use Prim.Native.Nat.{ℕ, _+_, _-_, _*_, _≤_, _<_}
 use native.Mathlib.Omega.{arith}
 use lib.ListN.{length, getD}
 use Rattle.rq_matrix.proofs.Place.{rows-within}
-use Rattle.kept_vectors.specs.Keeps.{AllValues}
+use Rattle.kept_vectors.specs.NttForm.{AllValues}
 use Rattle.many_alpha.specs.Alpha.{Stored}
 use Rattle.many_alpha.proofs.Stores.{values-same, stored-none, stored-next, stored-skip}
 use Rattle.many_alpha.proofs.store_element.Statement.{statement}
@@ -26,7 +26,7 @@ within : (c : tie.Then1 Inv-loop μ-loop)
 within c =
     let s = c .before .before .before .before .before .before in
     let l = c .before .before .loop in (
-      omega (arith, s .pre .1 .room, l .inv .2 .kept .size, rows-within (l .m) (s .args .v .count) (s .args .v .need) (c .if1 .taken)),
+      omega (arith, s .pre .1 .room, l .inv .2 .unchanged .size, rows-within (l .m) (s .args .v .count) (s .args .v .need) (c .if1 .taken)),
       omega (arith, s .pre .1 .count, c .if1 .taken),
     )
 
@@ -36,7 +36,7 @@ inner-product-requires c κs =
     let l = c .before .before .before .before .loop in
     let g = s .pre .1 in
     let v = s .args .v in
-    let alpha = values-same (s .args .scratch .now) (l .scratch) (l .m * v .need) (v .k) (l .inv .2 .kept .size) (λ o n b. l .inv .2 .others (l .m) o n (omega (arith, g .values, g .inside)) (inl (omega (arith, g .values)))) (g .alpha-values (l .m) (c .before .before .if1 .taken) (c .before .if2 .taken)) in
+    let alpha = values-same (s .args .scratch .now) (l .scratch) (l .m * v .need) (v .k) (l .inv .2 .unchanged .size) (λ o n b. l .inv .2 .others (l .m) o n (omega (arith, g .values, g .inside)) (inl (omega (arith, g .values)))) (g .alpha-values (l .m) (c .before .before .if1 .taken) (c .before .if2 .taken)) in
     (s .pre .0, subst (λ p. AllValues (l .scratch) p (v .k)) (sym (l .inv .1)) alpha, g .column-values, g .few)
 
 -- after window m
@@ -75,9 +75,9 @@ store-element-spec =
     inner-product-requires
     (λ c. omega (arith, within (c .before .before .before .before), c .before .before .before .before .before .before .loop .inv .1, c .before .before .before .before .before .before .before .before .before .before .pre .1 .inside))
     (λ c κs. omega (arith, within (c .before .before .before .before), c .before .before .before .before .before .before .loop .inv .1, c .before .before .before .before .before .before .before .before .before .before .pre .1 .inside))
-    (λ c. omega (arith, within (c .before .before), c .before .before .before .before .loop .inv .1, c .before .before .before .before .loop .inv .2 .kept .size))
+    (λ c. omega (arith, within (c .before .before), c .before .before .before .before .loop .inv .1, c .before .before .before .before .loop .inv .2 .unchanged .size))
     (λ c. omega arith)
     (λ c. omega arith)
     loop-again
-    (λ c. c .before .before .loop .inv .2 .kept .size)
+    (λ c. c .before .before .loop .inv .2 .unchanged .size)
     returns)

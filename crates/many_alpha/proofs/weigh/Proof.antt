@@ -6,7 +6,7 @@ use native.Mathlib.Omega.{arith}
 use borrow.Author.Needs.{needs}
 use lib.ListN.{length, getD, length-replicate}
 use Rattle.aggregate_psi.proofs.Sums.{grid-run}
-use Rattle.kept_vectors.proofs.Laws.{keeps-values}
+use Rattle.kept_vectors.proofs.Laws.{ntt-form-values}
 use Rattle.many_alpha.specs.Alpha.{Alphas, Weighed, Beside}
 use Rattle.many_alpha.proofs.Stores.{beside-refl, beside-trans, weighed-none, alphas-stay, beside-stay, weighed-next}
 use Rattle.many_alpha.proofs.weigh.Statement.{statement}
@@ -21,11 +21,11 @@ abbrev μ-loop : tie.MeasureT-loop
 
 loop-holds : tie.Need-loop-holds Inv-loop μ-loop
 loop-holds c =
-    let e = c .before .before .keep-alphas .ensures in
+    let e = c .before .before .alphas-to-ntt-form .ensures in
     (omega arith, e .0, weighed-none _ _ _ _ _ _, beside-refl _ _, length-replicate {A = ℕ} 12288 0)
 
-keep-column-requires : tie.Need-keep-column-requires Inv-loop μ-loop
-keep-column-requires c κs =
+column-to-ntt-form-requires : tie.Need-column-to-ntt-form-requires Inv-loop μ-loop
+column-to-ntt-form-requires c κs =
     let s = c .before .before .before .before .before .before .before .before .before .before .before .before .before .before .before in
     let l = c .before .before .before .before .before .loop in
     let v = s .args .v in (
@@ -47,9 +47,9 @@ store-element-requires c κs =
         few = f .few;
         values = omega (arith, f .values);
         inside = omega (arith, f .elements, c .before .before .before .before .before .before .before .before .before .if1 .taken);
-        room = omega (arith, f .room, l .inv .3 .kept .size, c .before .before .before .before .before .before .before .before .before .before .before .before .before .before .keep-alphas .ensures .1 .kept .size);
-        column-values = keeps-values _ 0 _ 0 (v .k) (c .before .before .before .before .before .keep-column .ensures .0 .keeps);
-        alpha-values = λ i h t. keeps-values (l .scratch) (i * v .need) (s .args .randomness .now) (i * v .len + v .alpha) (v .k) (l .inv .1 i h t);
+        room = omega (arith, f .room, l .inv .3 .unchanged .size, c .before .before .before .before .before .before .before .before .before .before .before .before .before .before .alphas-to-ntt-form .ensures .1 .unchanged .size);
+        column-values = ntt-form-values _ 0 _ 0 (v .k) (c .before .before .before .before .before .column-to-ntt-form .ensures .0 .form);
+        alpha-values = λ i h t. ntt-form-values (l .scratch) (i * v .need) (s .args .randomness .now) (i * v .len + v .alpha) (v .k) (l .inv .1 i h t);
       },
     )
 
@@ -60,7 +60,7 @@ loop-again c =
     let l = c .before .before .before .before .before .before .before .before .before .before .before .before .before .before .loop in
     let f = s .pre .1 in
     let h = c .before .before .before .before .before .before .before .before .before .before .before .before .if1 .taken in
-    let col = c .before .before .before .before .before .before .before .before .keep-column .ensures in
+    let col = c .before .before .before .before .before .before .before .before .column-to-ntt-form .ensures in
     let done = c .before .before .store-element .ensures in (
       omega arith,
       alphas-stay (a .v) (λ m. getD (a .takes) m false) (a .job .now) (a .at) (a .randomness .now) (l .scratch) _ _ (l .c) _ _ f h (col .0) done (l .inv .1),
@@ -74,7 +74,7 @@ returns c =
     let a = c .before .before .before .before .before .before .before .before .before .before .before .before .args in
     let l = c .before .before .loop in
     let n : l .c ≡ a .v .width = omega arith in
-    (subst (λ k. Weighed (a .v) (λ m. getD (a .takes) m false) (a .job .now) (a .at) (a .randomness .now) (l .scratch) k) n (l .inv .2), beside-trans (a .v) (a .scratch .now) _ (l .scratch) (c .before .before .before .before .before .keep-alphas .ensures .1) (l .inv .3))
+    (subst (λ k. Weighed (a .v) (λ m. getD (a .takes) m false) (a .job .now) (a .at) (a .randomness .now) (l .scratch) k) n (l .inv .2), beside-trans (a .v) (a .scratch .now) _ (l .scratch) (c .before .before .before .before .before .alphas-to-ntt-form .ensures .1) (l .inv .3))
 
 pub weigh-spec : {M : Type 1} → statement M
 weigh-spec =
@@ -91,7 +91,7 @@ weigh-spec =
     (λ c. omega (arith, c .before .before .before .before .before .before .before .before .before .before .before .before .before .pre .1 .narrow))
     (λ c. search needs)
     (λ c. search needs)
-    keep-column-requires
+    column-to-ntt-form-requires
     (λ c. search needs)
     (λ c. omega (arith, c .before .before .before .before .before .before .before .before .before .before .before .before .before .before .before .before .before .before .pre .1 .narrow))
     (λ c. omega (arith, c .before .before .before .before .before .before .before .before .before .before .before .before .before .before .before .before .before .before .before .pre .1 .narrow, c .before .before .before .before .before .before .before .before .before .before .before .before .before .before .before .before .before .before .before .pre .1 .elements))
@@ -100,5 +100,5 @@ weigh-spec =
     (λ c. omega (arith, c .before .before .before .before .before .before .before .before .before .before .before .before .before .before .before .before .before .before .before .before .before .before .before .before .pre .1 .narrow))
     (λ c. omega arith)
     loop-again
-    (λ c. c .before .before .loop .inv .3 .kept .size ∙ c .before .before .before .before .before .keep-alphas .ensures .1 .kept .size)
+    (λ c. c .before .before .loop .inv .3 .unchanged .size ∙ c .before .before .before .before .before .alphas-to-ntt-form .ensures .1 .unchanged .size)
     returns)

@@ -21,28 +21,28 @@ use Rattle.many_beta.proofs.add_beta.Statement.{statement}
 use Rattle.many_beta.proofs.add_beta.Tie as tie
 
 abbrev Inv-loop : tie.InvT-loop
-Inv-loop weights beta scratch₀ from width number to c₀ scratch c =
-    (c ≤ width) × (scratch ≡ splice scratch₀ to (flat (table c (λ c. run scratch₀ to 64 c ⊕ beta-part weights beta scratch₀ from width number c)))) × (length scratch ≡ length scratch₀)
+Inv-loop weights beta scratch₀ from width count to c₀ scratch c =
+    (c ≤ width) × (scratch ≡ splice scratch₀ to (flat (table c (λ c. run scratch₀ to 64 c ⊕ beta-part weights beta scratch₀ from width count c)))) × (length scratch ≡ length scratch₀)
 
 abbrev μ-loop : tie.MeasureT-loop
-μ-loop weights beta scratch₀ from width number to c₀ scratch c = width - c
+μ-loop weights beta scratch₀ from width count to c₀ scratch c = width - c
 
 inner-product-requires : tie.Need-inner-product-requires Inv-loop μ-loop
 inner-product-requires c κs =
     let s = c .before .before .before .before .before in
     let l = c .before .before .loop in
-    (s .pre .0, grid-run (l .scratch) (s .args .from) (s .args .width) (s .args .number) (l .c) (grid-same _ _ _ _ _ (l .inv .2) (s .pre .1)) (omega arith) (omega arith))
+    (s .pre .0, grid-run (l .scratch) (s .args .from) (s .args .width) (s .args .count) (l .c) (grid-same _ _ _ _ _ (l .inv .2) (s .pre .1)) (omega arith) (omega arith))
 
 loop-again : tie.Need-loop-again Inv-loop μ-loop
 loop-again c =
     let s = c .before .before .before .before .before .before .before .before .before .before .before .before .before .args in
     let h = c .before .before .before .before .before .before .before .before .before .before .before .before .before .pre in
     let l = c .before .before .before .before .before .before .before .before .before .before .loop in
-    let kept = stored-rest _ _ _ (l .c) _ (s .to + 64 * l .c) 64 (l .inv .1) (omega arith) in
-    let same = beta-before (s .weights .now) (s .beta) (s .scratch .now) (l .scratch) (s .from) (s .width) (s .number) (l .c) (s .to) _ (l .inv .1) (λ m i. omega (arith, h .2, mul-le-mul-left (s .width) i)) in
+    let unchanged = stored-rest _ _ _ (l .c) _ (s .to + 64 * l .c) 64 (l .inv .1) (omega arith) in
+    let same = beta-before (s .weights .now) (s .beta) (s .scratch .now) (l .scratch) (s .from) (s .width) (s .count) (l .c) (s .to) _ (l .inv .1) (λ m i. omega (arith, h .2, mul-le-mul-left (s .width) i)) in
     let e = c .before .before .before .before .add .ensures
-    ∙ ap₂ radd (c .before .before .before .before .before .load .ensures ∙ kept) (c .before .before .before .before .before .before .before .inner-product .ensures ∙ ap words same)
-    ∙ sym (words-add-element (part (s .scratch .now) (s .to + 64 * l .c) 64) (beta-part (s .weights .now) (s .beta) (s .scratch .now) (s .from) (s .width) (s .number) (l .c))) in
+    ∙ ap₂ radd (c .before .before .before .before .before .load .ensures ∙ unchanged) (c .before .before .before .before .before .before .before .inner-product .ensures ∙ ap words same)
+    ∙ sym (words-add-element (part (s .scratch .now) (s .to + 64 * l .c) 64) (beta-part (s .weights .now) (s .beta) (s .scratch .now) (s .from) (s .width) (s .count) (l .c))) in
     let w = c .before .before .store .ensures ∙ stored-next _ _ _ (l .c) _ _ (l .inv .1) e in
     (omega arith, w, ap length w ∙ length-splice _ _ _)
 

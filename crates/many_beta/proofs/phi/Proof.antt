@@ -17,14 +17,15 @@ mul-width c =
 add-beta-requires : tie.Need-add-beta-requires
 add-beta-requires c κs =
     let s = c .before .before .before .before .before .before .before in
-    addable (s .args .job .now) (s .args .randomness .now) (s .args .window .now) (s .args .p) (s .args .q) (s .pre .0 .0) _ (c .before .before .of-randomness .ensures) (s .pre .0 .1) (omega arith)
+    addable (s .args .job .now) (s .args .randomness .now) (s .args .window .now) (s .args .params) (s .args .regions) (s .pre .0 .0) _ (c .before .before .of-randomness .ensures) (s .pre .0 .1)
+    (omega arith)
 
 returns : tie.Need-returns
 returns c =
     let s = c .before .before .before .before .before .before .before .before .before .before in
     c .before .before .add-beta .ensures
-    ∙ ap (splice (s .args .window .now) (s .args .q .phi))
-    (φ-made (s .args .job .now) (s .args .randomness .now) (s .args .window .now) (s .args .p) (s .args .q) (s .pre .0 .0) _ (c .before .before .before .before .before .of-randomness .ensures) (s .pre .0 .2) (s .pre .1 (c .before .before .before .before .before .before .if1 .taken)))
+    ∙ ap (splice (s .args .window .now) (s .args .regions .phi))
+    (φ-made (s .args .job .now) (s .args .randomness .now) (s .args .window .now) (s .args .params) (s .args .regions) (s .pre .0 .0) _ (c .before .before .before .before .before .of-randomness .ensures) (s .pre .0 .2) (s .pre .1 (c .before .before .before .before .before .before .if1 .taken)))
 
 pub phi-spec : {M : Type 1} → statement M
 phi-spec =

@@ -17,10 +17,10 @@ use Rattle.many_checks.proofs.check_az.Statement.{statement}
 use Rattle.many_checks.proofs.check_az.Tie as tie
 
 abbrev Inv-loop : tie.InvT-loop
-Inv-loop job transcript p q window t-at kappa k₀ k = (k ≤ kappa) × (first k (az-test job transcript (challenges-in window q)) ≡ fine)
+Inv-loop job transcript params regions window t-at kappa k₀ k = (k ≤ kappa) × (first k (az-test job transcript (challenges-in window regions)) ≡ fine)
 
 abbrev μ-loop : tie.MeasureT-loop
-μ-loop job transcript p q window t-at kappa k₀ k = kappa - k
+μ-loop job transcript params regions window t-at kappa k₀ k = kappa - k
 
 of-transcript-requires : tie.Need-of-transcript-requires Inv-loop μ-loop
 of-transcript-requires c κs = (reckoned (c .before .before .before .pre .0 .0), omega arith)
@@ -43,12 +43,12 @@ column-sum-requires c κs =
 -- the test of row k
 tested : (c : tie.After-same Inv-loop μ-loop)
     → let s = c .before .before .before .before .before .before .before .before .before .args in
-    az-test (s .job .now) (s .transcript .now) (challenges-in (s .window .now) (s .q)) (c .before .before .before .before .loop .k) ≡ cond (c .same .result) fine (failed 24 [])
+    az-test (s .job .now) (s .transcript .now) (challenges-in (s .window .now) (s .regions)) (c .before .before .before .before .loop .k) ≡ cond (c .same .result) fine (failed 24 [])
 tested c =
     let l = c .before .before .before .before in
     let s = c .before .before .before .before .before .before .before .before .before in
     let h = c .before .before .before .loop-test .taken in
-    az-tested (s .args .job .now) (s .args .transcript .now) (s .args .p) (s .args .q) (s .args .window .now) (s .pre .0 .0) (s .pre .0 .1) _ _ _ (l .loop .k) _ _ (c .same .result)
+    az-tested (s .args .job .now) (s .args .transcript .now) (s .args .params) (s .args .regions) (s .args .window .now) (s .pre .0 .0) (s .pre .0 .1) _ _ _ (l .loop .k) _ _ (c .same .result)
     refl refl (l .before .of-transcript .ensures)
     (read-a _ _ _ (s .pre .0 .0) (s .args .window .now) (s .pre .1) (l .loop .k) _ h (c .before .before .product .ensures)) (c .before .column-sum .ensures) (c .same .ensures)
 
@@ -56,20 +56,20 @@ loop-again : tie.Need-loop-again Inv-loop μ-loop
 loop-again c =
     let l = c .before .before .before .before .before in
     let s = c .before .before .before .before .before .before .before .before .before .before .args in
-    (omega arith, first-next (l .loop .k) (az-test (s .job .now) (s .transcript .now) (challenges-in (s .window .now) (s .q))) (l .loop .inv .1) (tested (c .before) ∙ ap (λ t. cond t fine (failed 24 [])) (not-false (c .before .same .result) (c .if1 .left))))
+    (omega arith, first-next (l .loop .k) (az-test (s .job .now) (s .transcript .now) (challenges-in (s .window .now) (s .regions))) (l .loop .inv .1) (tested (c .before) ∙ ap (λ t. cond t fine (failed 24 [])) (not-false (c .before .same .result) (c .if1 .left))))
 
 returns : tie.Need-returns Inv-loop μ-loop
 returns c =
     let l = c .before .before .before .before .before in
     let s = c .before .before .before .before .before .before .before .before .before .before in
-    az-fails (s .args .job .now) (s .args .transcript .now) (s .args .p) (s .args .q) (s .args .window .now) (s .pre .0 .0) (s .pre .0 .1) (challenges-in (s .args .window .now) (s .args .q)) (l .loop .k) (c .before .before .before .before .loop-test .taken) (l .loop .inv .1)
+    az-fails (s .args .job .now) (s .args .transcript .now) (s .args .params) (s .args .regions) (s .args .window .now) (s .pre .0 .0) (s .pre .0 .1) (challenges-in (s .args .window .now) (s .args .regions)) (l .loop .k) (c .before .before .before .before .loop-test .taken) (l .loop .inv .1)
     (tested (c .before) ∙ ap (λ t. cond t fine (failed 24 [])) (not-true (c .before .same .result) (c .if1 .taken)))
 
 returns-2 : tie.Need-returns-2 Inv-loop μ-loop
 returns-2 c =
     let l = c .before in
     let s = c .before .before .before .before .before .before in
-    az-passes (s .args .job .now) (s .args .transcript .now) (s .args .p) (s .args .q) (s .args .window .now) (s .pre .0 .0) (s .pre .0 .1) (challenges-in (s .args .window .now) (s .args .q)) (l .loop .k) (omega arith) (l .loop .inv .1)
+    az-passes (s .args .job .now) (s .args .transcript .now) (s .args .params) (s .args .regions) (s .args .window .now) (s .pre .0 .0) (s .pre .0 .1) (challenges-in (s .args .window .now) (s .args .regions)) (l .loop .k) (omega arith) (l .loop .inv .1)
 
 pub check-az-spec : {M : Type 1} → statement M
 check-az-spec =

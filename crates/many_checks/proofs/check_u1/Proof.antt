@@ -17,10 +17,10 @@ use Rattle.many_checks.proofs.check_u1.Statement.{statement}
 use Rattle.many_checks.proofs.check_u1.Tie as tie
 
 abbrev Inv-loop : tie.InvT-loop
-Inv-loop job transcript p window u-at rows b c k₀ k = (k ≤ rows) × (first k (u1-test job transcript) ≡ fine)
+Inv-loop job transcript params window u-at rows b c k₀ k = (k ≤ rows) × (first k (u1-test job transcript) ≡ fine)
 
 abbrev μ-loop : tie.MeasureT-loop
-μ-loop job transcript p window u-at rows b c k₀ k = rows - k
+μ-loop job transcript params window u-at rows b c k₀ k = rows - k
 
 of-transcript-requires : tie.Need-of-transcript-requires Inv-loop μ-loop
 of-transcript-requires c κs = (reckoned (c .before .before .before .pre .0 .0), omega arith)
@@ -32,7 +32,7 @@ loop-holds c = (omega arith, refl)
 -- u1 lies within the transcript
 within : (c : tie.In-loop Inv-loop μ-loop)
     → let s = c .before .before .before .before .before .before .args in
-    c .before .before .of-transcript .result + 64 * s .p .«kappa_1» ≤ length (s .transcript .now)
+    c .before .before .of-transcript .result + 64 * s .params .«kappa_1» ≤ length (s .transcript .now)
 within c = u₁-within _ _ _ (c .before .before .before .before .before .before .pre .0 .0) _ (c .before .before .of-transcript .ensures)
 
 product-requires : tie.Need-product-requires Inv-loop μ-loop
@@ -52,7 +52,7 @@ tested : (c : tie.After-same Inv-loop μ-loop)
 tested c =
     let l = c .before .before .before .before .before .before in
     let s = c .before .before .before .before .before .before .before .before .before .before .before in
-    u1-tested (s .args .job .now) (s .args .transcript .now) (s .args .p) (s .pre .0 .0) (s .args .window .now) (s .pre .1) _ (l .loop .k) _ _ _ _ (c .same .result)
+    u1-tested (s .args .job .now) (s .args .transcript .now) (s .args .params) (s .pre .0 .0) (s .args .window .now) (s .pre .1) _ (l .loop .k) _ _ _ _ (c .same .result)
     (c .before .before .before .before .before .loop-test .taken) (l .before .of-transcript .ensures) (c .before .before .before .before .load .ensures) (c .before .before .before .product .ensures) (c .before .before .product2 .ensures) (c .before .add .ensures) (c .same .ensures)
 
 loop-again : tie.Need-loop-again Inv-loop μ-loop
@@ -67,13 +67,13 @@ returns c =
     let s = c .before .before .before .before .before .before .before .before .before .before .before .before in
     tests-fail _ (l .loop .k) (u1-test (s .args .job .now) (s .args .transcript .now)) 28 (c .before .before .before .before .before .before .loop-test .taken) (l .loop .inv .1)
     (tested (c .before) ∙ ap (λ t. cond t fine (failed 28 [])) (not-true (c .before .same .result) (c .if1 .taken)))
-    ∙ u1-is (s .args .job .now) (s .args .transcript .now) (s .args .p) (s .pre .0 .0)
+    ∙ u1-is (s .args .job .now) (s .args .transcript .now) (s .args .params) (s .pre .0 .0)
 
 returns-2 : tie.Need-returns-2 Inv-loop μ-loop
 returns-2 c =
     let l = c .before in
     let s = c .before .before .before .before .before .before in
-    tests-pass (s .args .p .«kappa_1») (l .loop .k) (u1-test (s .args .job .now) (s .args .transcript .now)) (omega arith) (l .loop .inv .1) ∙ u1-is (s .args .job .now) (s .args .transcript .now) (s .args .p) (s .pre .0 .0)
+    tests-pass (s .args .params .«kappa_1») (l .loop .k) (u1-test (s .args .job .now) (s .args .transcript .now)) (omega arith) (l .loop .inv .1) ∙ u1-is (s .args .job .now) (s .args .transcript .now) (s .args .params) (s .pre .0 .0)
 
 pub check-u1-spec : {M : Type 1} → statement M
 check-u1-spec =

@@ -17,10 +17,10 @@ use Rattle.many_checks.proofs.check_u2.Statement.{statement}
 use Rattle.many_checks.proofs.check_u2.Tie as tie
 
 abbrev Inv-loop : tie.InvT-loop
-Inv-loop job transcript p window u-at rows d k₀ k = (k ≤ rows) × (first k (u2-test job transcript) ≡ fine)
+Inv-loop job transcript params window u-at rows d k₀ k = (k ≤ rows) × (first k (u2-test job transcript) ≡ fine)
 
 abbrev μ-loop : tie.MeasureT-loop
-μ-loop job transcript p window u-at rows d k₀ k = rows - k
+μ-loop job transcript params window u-at rows d k₀ k = rows - k
 
 of-transcript-requires : tie.Need-of-transcript-requires Inv-loop μ-loop
 of-transcript-requires c κs = (reckoned (c .before .before .before .pre .0 .0), omega arith)
@@ -32,7 +32,7 @@ loop-holds c = (omega arith, refl)
 -- u2 lies within the transcript
 within : (c : tie.In-loop Inv-loop μ-loop)
     → let s = c .before .before .before .before .before .before .before .before .args in
-    c .before .before .before .before .of-transcript .result + 64 * s .p .«kappa_2» ≤ length (s .transcript .now)
+    c .before .before .before .before .of-transcript .result + 64 * s .params .«kappa_2» ≤ length (s .transcript .now)
 within c = u₂-within _ _ _ (c .before .before .before .before .before .before .before .before .pre .0 .0) _ (c .before .before .before .before .of-transcript .ensures)
 
 product-requires : tie.Need-product-requires Inv-loop μ-loop
@@ -47,7 +47,7 @@ tested : (c : tie.After-same Inv-loop μ-loop)
 tested c =
     let l = c .before .before .before .before in
     let s = c .before .before .before .before .before .before .before .before .before .before .before in
-    u2-tested (s .args .job .now) (s .args .transcript .now) (s .args .p) (s .pre .0 .0) (s .args .window .now) (s .pre .1) _ (l .loop .k) _ _ (c .same .result)
+    u2-tested (s .args .job .now) (s .args .transcript .now) (s .args .params) (s .pre .0 .0) (s .args .window .now) (s .pre .1) _ (l .loop .k) _ _ (c .same .result)
     (c .before .before .before .loop-test .taken) (c .before .before .before .before .before .before .before .of-transcript .ensures) (c .before .before .load .ensures) (c .before .product .ensures) (c .same .ensures)
 
 loop-again : tie.Need-loop-again Inv-loop μ-loop
@@ -62,13 +62,13 @@ returns c =
     let s = c .before .before .before .before .before .before .before .before .before .before .before .before in
     tests-fail _ (l .loop .k) (u2-test (s .args .job .now) (s .args .transcript .now)) 29 (c .before .before .before .before .loop-test .taken) (l .loop .inv .1)
     (tested (c .before) ∙ ap (λ t. cond t fine (failed 29 [])) (not-true (c .before .same .result) (c .if1 .taken)))
-    ∙ u2-is (s .args .job .now) (s .args .transcript .now) (s .args .p) (s .pre .0 .0)
+    ∙ u2-is (s .args .job .now) (s .args .transcript .now) (s .args .params) (s .pre .0 .0)
 
 returns-2 : tie.Need-returns-2 Inv-loop μ-loop
 returns-2 c =
     let l = c .before in
     let s = c .before .before .before .before .before .before .before .before in
-    tests-pass (s .args .p .«kappa_2») (l .loop .k) (u2-test (s .args .job .now) (s .args .transcript .now)) (omega arith) (l .loop .inv .1) ∙ u2-is (s .args .job .now) (s .args .transcript .now) (s .args .p) (s .pre .0 .0)
+    tests-pass (s .args .params .«kappa_2») (l .loop .k) (u2-test (s .args .job .now) (s .args .transcript .now)) (omega arith) (l .loop .inv .1) ∙ u2-is (s .args .job .now) (s .args .transcript .now) (s .args .params) (s .pre .0 .0)
 
 pub check-u2-spec : {M : Type 1} → statement M
 check-u2-spec =

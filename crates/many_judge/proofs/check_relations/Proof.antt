@@ -2,7 +2,7 @@
 use mathlib.Core.Path.{_≡_, _∙_}
 use borrow.Author.Needs.{needs}
 use Rattle.definitions.specs.Answer.{ofChecked, _then_}
-use Rattle.workspace.proofs.Kept.{kept-refl}
+use Rattle.workspace.proofs.Unchanged.{unchanged-refl}
 use Rattle.verifier_common.specs.Answers.{az, z-inner}
 use Rattle.verifier_common.proofs.Sent.{received}
 use Rattle.verifier_common.proofs.Verdicts.{goes-on, stops}
@@ -17,7 +17,7 @@ returns c =
     let J = s .args .job .now in
     let R = s .args .randomness .now in
     let T = s .args .transcript .now in
-    (stops (s .args .opened) (stops (s .args .opened) (s .pre .1 .0) (c .match .keys2) (z-inner J R T)) (c .match .keys2) (aggregated J R T), kept-refl _ _)
+    (stops (s .args .opened) (stops (s .args .opened) (s .pre .1 .0) (c .match .keys2) (z-inner J R T)) (c .match .keys2) (aggregated J R T), unchanged-refl _ _)
 
 -- 24 passes and the answer is that of 25
 second : (c : tie.After-check-z-inner)
@@ -26,13 +26,13 @@ second : (c : tie.After-check-z-inner)
 second c =
     let s = c .before .before .before .before .before .before .before .before in
     c .check-z-inner .ensures
-    ∙ z-inner-held (s .args .job .now) (s .args .randomness .now) (s .args .transcript .now) (s .args .p) (s .args .q) (s .args .window .now) (s .pre .0 .1 .same) (s .pre .0 .2)
+    ∙ z-inner-held (s .args .job .now) (s .args .randomness .now) (s .args .transcript .now) (s .args .params) (s .args .regions) (s .args .window .now) (s .pre .0 .1 .same) (s .pre .0 .2)
     ∙ goes-on (s .args .opened) (s .pre .1 .0) (c .before .before .enum-told .given .1) (z-inner (s .args .job .now) (s .args .randomness .now) (s .args .transcript .now))
 
 returns-2 : tie.Need-returns-2
 returns-2 c =
     let s = c .before .before .before .before .before .before .before .before .before .args in
-    (stops (c .before .check-z-inner .result) (second (c .before)) (c .match2 .keys2) (aggregated (s .job .now) (s .randomness .now) (s .transcript .now)), kept-refl _ _)
+    (stops (c .before .check-z-inner .result) (second (c .before)) (c .match2 .keys2) (aggregated (s .job .now) (s .randomness .now) (s .transcript .now)), unchanged-refl _ _)
 
 returns-3 : tie.Need-returns-3
 returns-3 c =
@@ -47,7 +47,7 @@ check-relations-spec =
     (tie.spec
     (λ c. search needs)
     returns
-    (λ c κs. let s = c .before .before .before .before .before .before .before in (received (s .pre .0 .0 .posed), c-within (s .args .job .now) (s .args .transcript .now) (s .args .p) (s .args .q) (s .args .window .now) (s .pre .0 .0 .posed) (s .pre .0 .1)))
+    (λ c κs. let s = c .before .before .before .before .before .before .before in (received (s .pre .0 .0 .posed), c-within (s .args .job .now) (s .args .transcript .now) (s .args .params) (s .args .regions) (s .args .window .now) (s .pre .0 .0 .posed) (s .pre .0 .1)))
     (λ c. search needs)
     (λ c. search needs)
     returns-2

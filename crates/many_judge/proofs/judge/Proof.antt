@@ -16,7 +16,7 @@ check-rest-requires c κs =
     let s = n .before .before .before .before .before .before in
     let ready = ready-of _ _ _ _ _ (s .pre .0) _ (s .args .window .now) refl (n .before .lay-out .ensures) in (
       (sent-of _ _ _ _ _ (s .pre .0), ready, n .check-norms .ensures .1 (t .enum-told .given .1)),
-      (s .pre .1 .1 .0, alpha-placed (s .args .weighed) (s .args .job .now) (s .args .randomness .now) (s .args .p) _ (s .args .window .now) ready (s .pre .1 .1 .1)),
+      (s .pre .1 .1 .0, alpha-placed (s .args .weighed) (s .args .job .now) (s .args .randomness .now) (s .args .params) _ (s .args .window .now) ready (s .pre .1 .1 .1)),
     )
 
 returns : tie.Need-returns
@@ -36,7 +36,7 @@ returns-2 c =
     let s = n .before .before .before .before .before .before in
     let k = n .check-norms .ensures in
     let e = r .check-rest .ensures in (
-      goes-on-is (s .args .job .now) (s .args .randomness .now) (s .args .transcript .now) (s .args .p) (sent-of _ _ _ _ _ (s .pre .0) .posed .same)
+      goes-on-is (s .args .job .now) (s .args .randomness .now) (s .args .transcript .now) (s .args .params) (sent-of _ _ _ _ _ (s .pre .0) .posed .same)
           (n .check-norms .result .checked) (k .0) (t .enum-told .given .1) (n .check-norms .result .digits) (k .1 (t .enum-told .given .1))
           (r .check-rest .result) (e .0) (c .verdict-of2 .result) (c .verdict-of2 .ensures),
       e .1 .size,

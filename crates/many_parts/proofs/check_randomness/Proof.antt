@@ -14,7 +14,7 @@ use Rattle.many_parts.proofs.check_randomness.Tie as tie
 order : (c : tie.After-randomness-bounds) → (c .randomness-bounds .result .from ≤ c .randomness-bounds .result .to) × (c .randomness-bounds .result .to ≤ length (c .before .before .args .words .now))
 order c =
     let s = c .before .before .args in
-    in-order (s .words .now) (span (randomness-sections (parametersOf (s .p)))) (s .count) (s .m) (c .randomness-bounds .result) (c .randomness-bounds .ensures)
+    in-order (s .words .now) (span (randomness-sections (parametersOf (s .params)))) (s .count) (s .m) (c .randomness-bounds .result) (c .randomness-bounds .ensures)
 
 mul-check : tie.Need-mul-check
 mul-check c = omega (arith, order c)
@@ -32,7 +32,7 @@ returns : tie.Need-returns
 returns c =
     let k = c .before .before in
     let s = k .before .before .args in
-    let P = parametersOf (s .p) in
+    let P = parametersOf (s .params) in
     c .check .ensures ∙ ap (randomness-refusal P 7) (between (s .words .now) (span (randomness-sections P)) (s .count) (s .m) (k .randomness-bounds .result) (k .randomness-bounds .ensures))
 
 pub check-randomness-spec : {M : Type 1} → statement M

@@ -14,7 +14,7 @@ use Rattle.many_parts.proofs.check_transcript.Tie as tie
 order : (c : tie.After-transcript-bounds) → (c .transcript-bounds .result .from ≤ c .transcript-bounds .result .to) × (c .transcript-bounds .result .to ≤ length (c .before .before .args .words .now))
 order c =
     let s = c .before .before .args in
-    in-order (s .words .now) (span (transcript-sections (parametersOf (s .p)))) (s .count) (s .m) (c .transcript-bounds .result) (c .transcript-bounds .ensures)
+    in-order (s .words .now) (span (transcript-sections (parametersOf (s .params)))) (s .count) (s .m) (c .transcript-bounds .result) (c .transcript-bounds .ensures)
 
 mul-check : tie.Need-mul-check
 mul-check c = omega (arith, order c)
@@ -32,7 +32,7 @@ returns : tie.Need-returns
 returns c =
     let k = c .before .before in
     let s = k .before .before .args in
-    let P = parametersOf (s .p) in
+    let P = parametersOf (s .params) in
     c .check .ensures ∙ ap (transcript-refusal P) (between (s .words .now) (span (transcript-sections P)) (s .count) (s .m) (k .transcript-bounds .result) (k .transcript-bounds .ensures))
 
 pub check-transcript-spec : {M : Type 1} → statement M

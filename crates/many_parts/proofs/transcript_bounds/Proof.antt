@@ -10,7 +10,7 @@ use Rattle.many_parts.proofs.transcript_bounds.Statement.{statement}
 use Rattle.many_parts.proofs.transcript_bounds.Tie as tie
 
 -- the length that the job fixes
-len-is : (c : tie.After-span) → c .span .result ≡ span (transcript-sections (parametersOf (c .before .before .args .p)))
+len-is : (c : tie.After-span) → c .span .result ≡ span (transcript-sections (parametersOf (c .before .before .args .params)))
 len-is c = c .span .ensures ∙ ap (λ l. span (take 8 (drop 0 l))) (c .before .transcript-sections .ensures .lists)
 
 span-requires : tie.Need-span-requires

@@ -10,7 +10,7 @@ use Rattle.relation.specs.Parameters.{parametersOf}
 use Rattle.admission.proofs.Ready.{job-sound, job-laid, job-sized}
 use Rattle.aggregate_psi.specs.Grid.{Grid}
 use Rattle.aggregate.proofs.Laws.{job-at}
-use Rattle.workspace.proofs.Kept.{kept-refl}
+use Rattle.workspace.proofs.Unchanged.{unchanged-refl}
 use Rattle.many_alpha.specs.Alpha.{Fitting, Weighed, Beside}
 use Rattle.many_phi.specs.AlphaPart.{windows-of, shares}
 use Rattle.many_phi.proofs.Shares.{roomy}
@@ -61,21 +61,21 @@ returns c =
       sym (c .before .before .before .before .before .if1 .taken) ∙ shared-is (c .before .before .before .before .before .before),
       (
         λ t. parts-are J (s .count) R (λ m. getD (s .passes) m false) _ (subst (λ v. Weighed v (λ m. getD (s .passes) m false) J (job-at J 4) R (c .before .before .weigh .last .1 .1 .1 .1 .1 .0) (v .width)) v (subst (λ at. Weighed (c .before .before .before .before .before .before .before .windows .result) (λ m. getD (s .passes) m false) J at R (c .before .before .weigh .last .1 .1 .1 .1 .1 .0) (c .before .before .before .before .before .before .before .windows .result .width)) (place-is (c .before .before .before .before)) (e .0))),
-        (beside .products, beside .kept),
+        (beside .products, beside .unchanged),
       ),
     )
 
 returns-2 : tie.Need-returns-2
-returns-2 c = (sym (c .if1 .left) ∙ shared-is (c .before), (λ t. absurd (true≢false (sym t)), (λ i h. refl, kept-refl _ _)))
+returns-2 c = (sym (c .if1 .left) ∙ shared-is (c .before), (λ t. absurd (true≢false (sym t)), (λ i h. refl, unchanged-refl _ _)))
 
 pub alpha-parts-spec : {M : Type 1} → statement M
 alpha-parts-spec =
     tie.close
     (tie.spec
-    (λ c κs. let s = c .before .before .before in job-sized (s .args .job .now) (parametersOf (s .args .p)) (sym (s .pre .fit)) (s .pre .same))
+    (λ c κs. let s = c .before .before .before in job-sized (s .args .job .now) (parametersOf (s .args .params)) (sym (s .pre .fit)) (s .pre .same))
     shared-requires
-    (λ c κs. let s = c .before .before .before .before .before .before in (job-sized (s .args .job .now) (parametersOf (s .args .p)) (sym (s .pre .fit)) (s .pre .same), omega arith))
+    (λ c κs. let s = c .before .before .before .before .before .before in (job-sized (s .args .job .now) (parametersOf (s .args .params)) (sym (s .pre .fit)) (s .pre .same), omega arith))
     weigh-requires
-    (λ c. c .before .before .weigh .ensures .1 .kept .size)
+    (λ c. c .before .before .weigh .ensures .1 .unchanged .size)
     returns
     returns-2)

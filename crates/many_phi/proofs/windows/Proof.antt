@@ -21,7 +21,7 @@ returns c =
     let q = c .before .before .before .before .before .lay-out .ensures in
     let t = c .before .before .before .randomness-sections .ensures in
     let len = c .before .before .span .ensures ∙ ap (λ l. span (take 7 (drop 0 l))) (t .lists) in
-    (windows-made (parametersOf (s .p)) (s .count) _ _ _ _ (c .before .before .before .before .scratch-length .ensures) len (c .before .of-randomness .ensures) (omega (arith, q .first, q .a2, q .phi)), omega (arith, len, t .spans))
+    (windows-made (parametersOf (s .params)) (s .count) _ _ _ _ (c .before .before .before .before .scratch-length .ensures) len (c .before .of-randomness .ensures) (omega (arith, q .first, q .a2, q .phi)), omega (arith, len, t .spans))
 
 pub windows-spec : {M : Type 1} → statement M
 windows-spec =

@@ -15,7 +15,7 @@ of-job-requires c κs = (reckoned (c .before .before .before .pre .0), omega ari
 -- the row's place is small
 bounds : (c : tie.After-of-job)
     → let s = c .before .before .before .before .args in
-    (s .k * s .p .rank ≤ 1024) × (c .of-job .result + 64 * (s .k * s .p .rank) ≤ 2 ^ 62)
+    (s .k * s .params .rank ≤ 1024) × (c .of-job .result + 64 * (s .k * s .params .rank) ≤ 2 ^ 62)
 bounds c =
     let s = c .before .before .before .before in
     a-bounds _ _ _ (s .pre .0) _ _ (omega arith) (c .of-job .ensures) (s .pre .1)

@@ -5,11 +5,11 @@ use native.Mathlib.Omega.{arith}
 use borrow.Author.Needs.{needs}
 use lib.ListN.{length, replicate, length-replicate}
 use Rattle.lists.specs.Part.{part, splice}
-use Rattle.protocol.specs.Kept.{Kept}
+use Rattle.protocol.specs.Unchanged.{Unchanged}
 use Rattle.protocol.specs.Layout.{scratch-need}
 use Rattle.relation.specs.Parameters.{parametersOf}
 use Rattle.rq_matrix.proofs.Place.{rows-within}
-use Rattle.workspace.proofs.Kept.{kept-refl, kept-stored}
+use Rattle.workspace.proofs.Unchanged.{unchanged-refl, unchanged-stored}
 use Rattle.many_rows.proofs.Windows.{zero-next}
 use Rattle.many_rows.proofs.clear_products.Statement.{statement}
 use Rattle.many_rows.proofs.clear_products.Tie as tie
@@ -19,13 +19,13 @@ Inv-loop count scratch₀ need m₀ start₀ scratch m start =
     (m ≤ count)
     × (start ≡ m * need)
     × ((k : ℕ) → k < m → part scratch (k * need + (need - 4096)) 4096 ≡ replicate 4096 0)
-    × Kept (count * need) scratch₀ scratch
+    × Unchanged (count * need) scratch₀ scratch
 
 abbrev μ-loop : tie.MeasureT-loop
 μ-loop count scratch₀ need m₀ start₀ scratch m start = count - m
 
 loop-holds : tie.Need-loop-holds Inv-loop μ-loop
-loop-holds c = (omega arith, omega arith, λ k h. absurd (omega arith), kept-refl _ _)
+loop-holds c = (omega arith, omega arith, λ k h. absurd (omega arith), unchanged-refl _ _)
 
 -- the windows lie within the scratch, and each has room for the products
 bounds : (c : tie.In-loop Inv-loop μ-loop)
@@ -35,7 +35,7 @@ bounds : (c : tie.In-loop Inv-loop μ-loop)
 bounds c =
     let s = c .before .before .before .before in
     let e = c .before .before .scratch-length .ensures in
-    let large : 4096 ≤ scratch-need (parametersOf (s .args .p)) = omega arith in (
+    let large : 4096 ≤ scratch-need (parametersOf (s .args .params)) = omega arith in (
       subst (λ n. 4096 ≤ n) (sym e) large,
       subst (λ n. s .args .count * n ≤ length (s .args .scratch .now)) (sym e) (s .pre .1),
       rows-within (c .before .loop .m) (s .args .count) (c .before .before .scratch-length .result) (c .loop-test .taken),
@@ -54,7 +54,7 @@ loop-again c =
       omega arith,
       omega (arith, l .inv .1),
       zero-next (l .scratch) _ need (l .m) (s .count) (b .0) (i .loop-test .taken) (omega (arith, b .1, l .inv .3 .size)) stored (l .inv .2),
-      kept-stored (s .count * need) (s .scratch .now) (l .scratch) _ (l .m * need + (need - 4096)) (replicate 4096 0) (l .inv .3) stored (omega (arith, size, b)),
+      unchanged-stored (s .count * need) (s .scratch .now) (l .scratch) _ (l .m * need + (need - 4096)) (replicate 4096 0) (l .inv .3) stored (omega (arith, size, b)),
     )
 
 returns : tie.Need-returns Inv-loop μ-loop
@@ -63,7 +63,7 @@ returns c =
     let l = c .before .loop in
     let e = c .before .before .scratch-length .ensures in (
       λ m h. subst (λ n. part (l .scratch) (m * n + (n - 4096)) 4096 ≡ replicate 4096 0) e (l .inv .2 m (omega arith)),
-      subst (λ n. Kept (s .count * n) (s .scratch .now) (l .scratch)) e (l .inv .3),
+      subst (λ n. Unchanged (s .count * n) (s .scratch .now) (l .scratch)) e (l .inv .3),
     )
 
 pub clear-products-spec : {M : Type 1} → statement M

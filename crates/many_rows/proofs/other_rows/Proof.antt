@@ -8,7 +8,7 @@ use lib.ListN.{getD}
 use Rattle.protocol.specs.Parameters.{Parameters, parameters}
 use Rattle.protocol.specs.Many.{row-count}
 use Rattle.relation.specs.Parameters.{parametersOf}
-use Rattle.workspace.proofs.Kept.{kept-trans}
+use Rattle.workspace.proofs.Unchanged.{unchanged-trans}
 use Rattle.many_windows.specs.Digits.{Fitting}
 use Rattle.many_windows.proofs.Windows.{rowable-sized, few-rows}
 use Rattle.many_rows.specs.Rows.{Rowable}
@@ -17,15 +17,15 @@ use Rattle.many_rows.proofs.other_rows.Statement.{statement}
 use Rattle.many_rows.proofs.other_rows.Tie as tie
 
 -- there are few rows
-few : (s : tie.Start) → row-count (parametersOf (s .args .p)) ≤ 64
+few : (s : tie.Start) → row-count (parametersOf (s .args .params)) ≤ 64
 few s = few-rows _ _ _ _ _ _ (s .pre .0)
 
 -- the first row after those of A, by the parameters that the code holds
-first-is : (s : tie.Start) → parameters (s .args .job .now) .κ ≡ s .args .p .kappa
+first-is : (s : tie.Start) → parameters (s .args .job .now) .κ ≡ s .args .params .kappa
 first-is s = ap (λ (Q : Parameters). Q .κ) (sym (s .pre .0 .same))
 
 -- the digits have room where `fits` says so
-fitting : (c : tie.Then1) → Fitting (parametersOf (c .before .before .before .before .before .before .before .before .args .p))
+fitting : (c : tie.Then1) → Fitting (parametersOf (c .before .before .before .before .before .before .before .before .args .params))
 fitting c = leb-true _ _ (sym (c .before .fits2 .ensures) ∙ c .if1 .taken)
 
 digits-of-all-requires : tie.Need-digits-of-all-requires
@@ -39,7 +39,7 @@ some-rows-requires c κs =
     let s = t .before .before .before .before .before .before .before .before in
     let d = c .before .before .before .digits-of-all .ensures in (
       (
-        subst (λ n. Rowable (s .args .job .now) (s .args .transcripts .now) (s .args .count) (λ m. getD (s .args .passes) m false) n (s .args .p)) (sym (d .1 .1 .size)) (s .pre .0),
+        subst (λ n. Rowable (s .args .job .now) (s .args .transcripts .now) (s .args .count) (λ m. getD (s .args .passes) m false) n (s .args .params)) (sym (d .1 .1 .size)) (s .pre .0),
         omega arith,
         omega arith,
       ),
@@ -56,7 +56,7 @@ returns c =
     let s = c .before .before .before .before .before .before .before .before .before .before .before .before .before .before .before .before in
     let e = c .before .before .some-rows .ensures in
     let d = c .before .before .before .before .before .before .digits-of-all .ensures in
-    (rows-to _ _ _ _ _ _ _ (ap row-count (s .pre .0 .same)) (e .0), kept-trans _ _ _ _ (d .1 .1) (e .1))
+    (rows-to _ _ _ _ _ _ _ (ap row-count (s .pre .0 .same)) (e .0), unchanged-trans _ _ _ _ (d .1 .1) (e .1))
 
 returns-2 : tie.Need-returns-2
 returns-2 c =

@@ -8,10 +8,10 @@ use lib.ListN.{length, getD}
 use mir.Syntax.{w64}
 use mir.Val.{Fits}
 use Rattle.protocol.specs.Parameters.{parameters}
-use Rattle.protocol.specs.Kept.{Kept}
+use Rattle.protocol.specs.Unchanged.{Unchanged}
 use Rattle.protocol.specs.Many.{many-need, transcript-part}
 use Rattle.workspace.specs.Holds.{Holds}
-use Rattle.workspace.proofs.Kept.{kept-refl}
+use Rattle.workspace.proofs.Unchanged.{unchanged-refl}
 use Rattle.many_windows.specs.Digits.{Places, Stored-digits, window-digits}
 use Rattle.many_windows.proofs.Windows.{rowable-sized, posed, few-rows, need-is, need-large, window-within, place-is}
 use Rattle.many_windows.proofs.Digits.{held-all}
@@ -21,20 +21,20 @@ use Rattle.many_rows.proofs.row_of_all.Statement.{statement}
 use Rattle.many_rows.proofs.row_of_all.Tie as tie
 
 abbrev Inv-loop : tie.InvT-loop
-Inv-loop job p row count transcripts scratch₀ stored passes need m₀ start₀ scratch m start =
+Inv-loop job params row count transcripts scratch₀ stored passes need m₀ start₀ scratch m start =
     (m ≤ count)
     × (start ≡ m * need)
     × Progress job transcripts count (λ m. getD passes m false) row scratch m
-    × Kept (many-need (parameters job) count) scratch₀ scratch
+    × Unchanged (many-need (parameters job) count) scratch₀ scratch
     × Stored-digits job count (λ m. getD passes m false) transcripts scratch stored
 
 abbrev μ-loop : tie.MeasureT-loop
-μ-loop job p row count transcripts scratch₀ stored passes need m₀ start₀ scratch m start = count - m
+μ-loop job params row count transcripts scratch₀ stored passes need m₀ start₀ scratch m start = count - m
 
 loop-holds : tie.Need-loop-holds Inv-loop μ-loop
 loop-holds c =
     let s = c .before .before .before .before in
-    (omega arith, omega arith, progress-none _ _ _ _ _ (s .args .scratch .now) (s .pre .1 .0), kept-refl _ _, s .pre .1 .1)
+    (omega arith, omega arith, progress-none _ _ _ _ _ (s .args .scratch .now) (s .pre .1 .0), unchanged-refl _ _, s .pre .1 .1)
 
 -- window m lies within the scratch, and the row is one of few
 bounds : (c : tie.In-loop Inv-loop μ-loop)

@@ -22,7 +22,7 @@ use Rattle.many_rows.proofs.row_of_one.Tie as tie
 -- the transcript is posed
 posed : (c : tie.Then1)
     → let s = c .before .before .before .before .args in
-    Posed (s .job .now) (transcript-part (parameters (s .job .now)) (s .count) (s .transcripts .now) (s .m)) (s .p)
+    Posed (s .job .now) (transcript-part (parameters (s .job .now)) (s .count) (s .transcripts .now) (s .m)) (s .params)
 posed c = c .before .before .before .before .pre .1 .0 (c .if1 .taken)
 
 transcript-bounds-requires : tie.Need-transcript-bounds-requires
@@ -34,7 +34,7 @@ transcript-bounds-requires c κs =
 order : (c : tie.After-transcript-bounds) → (c .transcript-bounds .result .from ≤ c .transcript-bounds .result .to) × (c .transcript-bounds .result .to ≤ length (c .before .before .before .before .before .args .transcripts .now))
 order c =
     let s = c .before .before .before .before .before .args in
-    in-order (s .transcripts .now) (span (transcript-sections (parametersOf (s .p)))) (s .count) (s .m) (c .transcript-bounds .result) (c .transcript-bounds .ensures)
+    in-order (s .transcripts .now) (span (transcript-sections (parametersOf (s .params)))) (s .count) (s .m) (c .transcript-bounds .result) (c .transcript-bounds .ensures)
 
 -- what lies between them
 lent : (c : tie.After-transcript-bounds)
@@ -43,14 +43,14 @@ lent : (c : tie.After-transcript-bounds)
     ≡ transcript-part (parameters (s .job .now)) (s .count) (s .transcripts .now) (s .m)
 lent c =
     let s = c .before .before .before .before .before .args in
-    between (s .transcripts .now) (span (transcript-sections (parametersOf (s .p)))) (s .count) (s .m) (c .transcript-bounds .result) (c .transcript-bounds .ensures)
+    between (s .transcripts .now) (span (transcript-sections (parametersOf (s .params)))) (s .count) (s .m) (c .transcript-bounds .result) (c .transcript-bounds .ensures)
     ∙ ap (λ P. transcript-part P (s .count) (s .transcripts .now) (s .m)) (posed (c .before) .same)
 
 store-row-requires : tie.Need-store-row-requires
 store-row-requires c κs =
     let b = c .before .before in
     let s = c .before .before .before .before .before .before .before in (
-      (subst (λ X. Posed (s .args .job .now) X (s .args .p)) (sym (lent b)) (posed (b .before)), s .pre .0 .2, s .pre .0 .3),
+      (subst (λ X. Posed (s .args .job .now) X (s .args .params)) (sym (lent b)) (posed (b .before)), s .pre .0 .2, s .pre .0 .3),
       λ e. subst (λ X. AllHeld (s .args .job .now) X (s .args .scratch .now) (s .args .held)) (sym (lent b)) (s .pre .1 .1 (b .before .if1 .taken) e),
     )
 

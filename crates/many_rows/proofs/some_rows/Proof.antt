@@ -5,9 +5,9 @@ use Prim.Native.Nat.{_-_, _≤_}
 use native.Mathlib.Omega.{arith}
 use lib.ListN.{getD}
 use Rattle.protocol.specs.Parameters.{parameters}
-use Rattle.protocol.specs.Kept.{Kept}
+use Rattle.protocol.specs.Unchanged.{Unchanged}
 use Rattle.protocol.specs.Many.{many-need, All-rows-done}
-use Rattle.workspace.proofs.Kept.{kept-refl, kept-trans}
+use Rattle.workspace.proofs.Unchanged.{unchanged-refl, unchanged-trans}
 use Rattle.many_windows.specs.Digits.{Stored-digits}
 use Rattle.many_windows.proofs.Windows.{few-rows}
 use Rattle.many_rows.specs.Rows.{Rowable}
@@ -16,25 +16,25 @@ use Rattle.many_rows.proofs.some_rows.Statement.{statement}
 use Rattle.many_rows.proofs.some_rows.Tie as tie
 
 abbrev Inv-loop : tie.InvT-loop
-Inv-loop job p first last count passes transcripts scratch₀ stored row₀ scratch row =
+Inv-loop job params first last count passes transcripts scratch₀ stored row₀ scratch row =
     (row ≤ last)
     × All-rows-done job count (λ m. getD passes m false) transcripts scratch row
-    × Kept (many-need (parameters job) count) scratch₀ scratch
+    × Unchanged (many-need (parameters job) count) scratch₀ scratch
     × Stored-digits job count (λ m. getD passes m false) transcripts scratch stored
 
 abbrev μ-loop : tie.MeasureT-loop
-μ-loop job p first last count passes transcripts scratch₀ stored row₀ scratch row = last - row
+μ-loop job params first last count passes transcripts scratch₀ stored row₀ scratch row = last - row
 
 loop-holds : tie.Need-loop-holds Inv-loop μ-loop
 loop-holds c =
     let s = c .before .before .before .pre in
-    (s .0 .1, s .1 .0, kept-refl _ _, s .1 .1)
+    (s .0 .1, s .1 .0, unchanged-refl _ _, s .1 .1)
 
 row-of-all-requires : tie.Need-row-of-all-requires Inv-loop μ-loop
 row-of-all-requires c κs =
     let l = c .before .before .loop in
     let s = c .before .before .before .before .before .before in
-    ((subst (λ n. Rowable (s .args .job .now) (s .args .transcripts .now) (s .args .count) (λ m. getD (s .args .passes) m false) n (s .args .p)) (sym (l .inv .2 .size)) (s .pre .0 .0), omega (arith, s .pre .0 .2)), (l .inv .1, l .inv .3))
+    ((subst (λ n. Rowable (s .args .job .now) (s .args .transcripts .now) (s .args .count) (λ m. getD (s .args .passes) m false) n (s .args .params)) (sym (l .inv .2 .size)) (s .pre .0 .0), omega (arith, s .pre .0 .2)), (l .inv .1, l .inv .3))
 
 -- there are few rows
 few : (s : tie.Start Inv-loop μ-loop) → s .args .last ≤ 64
@@ -44,7 +44,7 @@ loop-again : tie.Need-loop-again Inv-loop μ-loop
 loop-again c =
     let l = c .before .before .before .before .before .loop in
     let e = c .before .before .row-of-all .ensures in
-    (omega arith, e .0, kept-trans _ _ (l .scratch) _ (l .inv .2) (e .1 .1), e .1 .0)
+    (omega arith, e .0, unchanged-trans _ _ (l .scratch) _ (l .inv .2) (e .1 .1), e .1 .0)
 
 returns : tie.Need-returns Inv-loop μ-loop
 returns c =

@@ -6,10 +6,10 @@ use native.Mathlib.Omega.{arith}
 use borrow.Author.Needs.{needs}
 use lib.ListN.{length, getD}
 use Rattle.protocol.specs.Parameters.{parameters}
-use Rattle.protocol.specs.Kept.{Kept}
+use Rattle.protocol.specs.Unchanged.{Unchanged}
 use Rattle.protocol.specs.Many.{many-need}
 use Rattle.relation.specs.Parameters.{parametersOf}
-use Rattle.workspace.proofs.Kept.{kept-refl}
+use Rattle.workspace.proofs.Unchanged.{unchanged-refl}
 use Rattle.many_windows.specs.Digits.{Fitting}
 use Rattle.many_windows.proofs.Windows.{rowable-sized, part-received, need-is, need-large, window-within}
 use Rattle.many_windows.proofs.Digits.{Begun, begun-none, begun-next}
@@ -17,19 +17,19 @@ use Rattle.many_windows.proofs.digits_of_all.Statement.{statement}
 use Rattle.many_windows.proofs.digits_of_all.Tie as tie
 
 abbrev Inv-loop : tie.InvT-loop
-Inv-loop job p count transcripts scratch₀ passes need m₀ start₀ scratch m start =
+Inv-loop job params count transcripts scratch₀ passes need m₀ start₀ scratch m start =
     (m ≤ count)
     × (start ≡ m * need)
     × Begun job transcripts count (λ m. getD passes m false) (parameters job .κ) scratch m
-    × Kept (many-need (parameters job) count) scratch₀ scratch
+    × Unchanged (many-need (parameters job) count) scratch₀ scratch
 
 abbrev μ-loop : tie.MeasureT-loop
-μ-loop job p count transcripts scratch₀ passes need m₀ start₀ scratch m start = count - m
+μ-loop job params count transcripts scratch₀ passes need m₀ start₀ scratch m start = count - m
 
 loop-holds : tie.Need-loop-holds Inv-loop μ-loop
 loop-holds c =
     let s = c .before .before .before .before in
-    (omega arith, omega arith, begun-none _ _ _ _ _ (s .args .scratch .now) (s .pre .1), kept-refl _ _)
+    (omega arith, omega arith, begun-none _ _ _ _ _ (s .args .scratch .now) (s .pre .1), unchanged-refl _ _)
 
 -- window m lies within the scratch
 bounds : (c : tie.In-loop Inv-loop μ-loop)
@@ -60,7 +60,7 @@ loop-again c =
     let room = subst (λ k. many-need (parameters (s .args .job .now)) (s .args .count) ≤ k) (sym (l .inv .3 .size)) (s .pre .0 .0 .room) in
     let next =
     begun-next (s .args .job .now) (s .args .transcripts .now) (s .args .count) _ _ fitting (s .args .scratch .now) (l .scratch) _ (l .m) (l .start) room h at
-    (parametersOf (s .args .p)) (s .pre .0 .0 .same) _ refl (c .before .before .digits-of-one .ensures) (l .inv .2, l .inv .3) in
+    (parametersOf (s .args .params)) (s .pre .0 .0 .same) _ refl (c .before .before .digits-of-one .ensures) (l .inv .2, l .inv .3) in
     (omega arith, omega (arith, l .inv .1), next .0, next .1)
 
 returns : tie.Need-returns Inv-loop μ-loop

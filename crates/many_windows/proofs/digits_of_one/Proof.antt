@@ -18,7 +18,7 @@ use Rattle.many_windows.proofs.digits_of_one.Tie as tie
 -- the transcript is received
 received : (c : tie.Then1)
     → let s = c .before .before .before .args in
-    Received (transcript-part (parametersOf (s .p)) (s .count) (s .transcripts .now) (s .m)) (s .p)
+    Received (transcript-part (parametersOf (s .params)) (s .count) (s .transcripts .now) (s .m)) (s .params)
 received c = c .before .before .before .pre .1 (c .if1 .taken)
 
 transcript-bounds-requires : tie.Need-transcript-bounds-requires
@@ -32,35 +32,35 @@ order : (c : tie.After-transcript-bounds)
     × (c .transcript-bounds .result .to ≤ length (c .before .before .before .before .args .transcripts .now))
 order c =
     let s = c .before .before .before .before .args in
-    in-order (s .transcripts .now) (span (transcript-sections (parametersOf (s .p)))) (s .count) (s .m) (c .transcript-bounds .result) (c .transcript-bounds .ensures)
+    in-order (s .transcripts .now) (span (transcript-sections (parametersOf (s .params)))) (s .count) (s .m) (c .transcript-bounds .result) (c .transcript-bounds .ensures)
 
 -- what lies between them
 lent : (c : tie.After-transcript-bounds)
     → let s = c .before .before .before .before .args in
     part (s .transcripts .now) (c .transcript-bounds .result .from) (c .transcript-bounds .result .to - c .transcript-bounds .result .from)
-    ≡ transcript-part (parametersOf (s .p)) (s .count) (s .transcripts .now) (s .m)
+    ≡ transcript-part (parametersOf (s .params)) (s .count) (s .transcripts .now) (s .m)
 lent c =
     let s = c .before .before .before .before .args in
-    between (s .transcripts .now) (span (transcript-sections (parametersOf (s .p)))) (s .count) (s .m) (c .transcript-bounds .result) (c .transcript-bounds .ensures)
+    between (s .transcripts .now) (span (transcript-sections (parametersOf (s .params)))) (s .count) (s .m) (c .transcript-bounds .result) (c .transcript-bounds .ensures)
 
 store-window-requires : tie.Need-store-window-requires
 store-window-requires c κs =
     let b = c .before .before in
     let s = c .before .before .before .before .before .before in
-    (subst (λ X. Received X (s .args .p)) (sym (lent b)) (received (b .before)), s .pre .0 .2)
+    (subst (λ X. Received X (s .args .params)) (sym (lent b)) (received (b .before)), s .pre .0 .2)
 
 returns : tie.Need-returns
 returns c =
     let b = c .before .before .before .before .before in
     let s = c .before .before .before .before .before .before .before .before .before .args in
     c .before .before .store-window .ensures
-    ∙ ap (λ X. splice (s .scratch .now) (s .start) (window-digits (parametersOf (s .p)) X)) (lent b)
-    ∙ ap (λ t. digits-for (parametersOf (s .p)) (s .transcripts .now) (s .count) (s .m) (s .start) t (s .scratch .now)) (sym (b .before .if1 .taken))
+    ∙ ap (λ X. splice (s .scratch .now) (s .start) (window-digits (parametersOf (s .params)) X)) (lent b)
+    ∙ ap (λ t. digits-for (parametersOf (s .params)) (s .transcripts .now) (s .count) (s .m) (s .start) t (s .scratch .now)) (sym (b .before .if1 .taken))
 
 returns-2 : tie.Need-returns-2
 returns-2 c =
     let s = c .before .before .before .args in
-    ap (λ t. digits-for (parametersOf (s .p)) (s .transcripts .now) (s .count) (s .m) (s .start) t (s .scratch .now)) (sym (c .if1 .left))
+    ap (λ t. digits-for (parametersOf (s .params)) (s .transcripts .now) (s .count) (s .m) (s .start) t (s .scratch .now)) (sym (c .if1 .left))
 
 pub digits-of-one-spec : {M : Type 1} → statement M
 digits-of-one-spec =

@@ -12,9 +12,10 @@ use Rattle.many_windows.proofs.fits.Tie as tie
 
 returns : tie.Need-returns
 returns c =
-    let p = c .before .before .before .before .before .before .args .p in
-    ap (λ n. leb (64 * (p .multiplicity * p .kappa * p .«t_1» + (n * p .«t_2» + n * p .«t_1»))) (c .scratch-length .result - 4096)) (c .before .before .before .triangle .ensures .0)
-    ∙ ap (λ n. leb (64 * digit-count (parametersOf p)) (n - 4096)) (c .scratch-length .ensures)
+    let params = c .before .before .before .before .before .before .args .params in
+    ap (λ n. leb (64 * (params .multiplicity * params .kappa * params .«t_1» + (n * params .«t_2» + n * params .«t_1»))) (c .scratch-length .result - 4096))
+    (c .before .before .before .triangle .ensures .0)
+    ∙ ap (λ n. leb (64 * digit-count (parametersOf params)) (n - 4096)) (c .scratch-length .ensures)
 
 pub fits-spec : {M : Type 1} → statement M
 fits-spec =

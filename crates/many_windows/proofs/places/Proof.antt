@@ -14,7 +14,7 @@ returns c =
       stored = refl;
       t = refl;
       g = refl;
-      h = ap (λ n. s .start + 64 * (s .p .multiplicity * s .p .kappa * s .p .«t_1») + 64 * (n * s .p .«t_2»)) (c .before .triangle .ensures .0);
+      h = ap (λ n. s .start + 64 * (s .params .multiplicity * s .params .kappa * s .params .«t_1») + 64 * (n * s .params .«t_2»)) (c .before .triangle .ensures .0);
     }
 
 pub places-spec : {M : Type 1} → statement M

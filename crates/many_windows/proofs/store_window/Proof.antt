@@ -22,7 +22,7 @@ store-cells-requires-2 c κs =
     let w = c .before .before .before .before .before .before .before .before .before .before .places .ensures in
     let t = c .before .before .before .before .before .before .before .before .before .triangle .ensures in
     let size = length-filled _ (s .args .scratch .now) _ _ (c .before .before .before .store-cells .ensures) in
-    (g-cells _ _ (s .pre .0) _ _ (c .before .before .before .before .before .before .of-transcript2 .ensures) t, base-large _ _ (s .pre .0), omega (arith, w .g, s .pre .1, size, ap (λ n. n * s .args .p .«t_2») (t .0)))
+    (g-cells _ _ (s .pre .0) _ _ (c .before .before .before .before .before .before .of-transcript2 .ensures) t, base-large _ _ (s .pre .0), omega (arith, w .g, s .pre .1, size, ap (λ n. n * s .args .params .«t_2») (t .0)))
 
 store-cells-requires-3 : tie.Need-store-cells-requires-3
 store-cells-requires-3 c κs =
@@ -30,7 +30,7 @@ store-cells-requires-3 c κs =
     let w = c .before .before .before .before .before .before .before .before .before .before .before .before .before .before .places .ensures in
     let t = c .before .before .before .before .before .before .before .before .before .before .before .before .before .triangle .ensures in
     let size = length-filled _ _ _ _ (c .before .before .before .store-cells2 .ensures) ∙ length-filled _ (s .args .scratch .now) _ _ (c .before .before .before .before .before .before .before .store-cells .ensures) in
-    (h-cells _ _ (s .pre .0) _ _ (c .before .before .before .before .before .before .before .before .before .of-transcript3 .ensures) t, base-large _ _ (s .pre .0), omega (arith, w .h, s .pre .1, size, ap (λ n. n * s .args .p .«t_1») (t .0)))
+    (h-cells _ _ (s .pre .0) _ _ (c .before .before .before .before .before .before .before .before .before .of-transcript3 .ensures) t, base-large _ _ (s .pre .0), omega (arith, w .h, s .pre .1, size, ap (λ n. n * s .args .params .«t_1») (t .0)))
 
 returns : tie.Need-returns
 returns c =

@@ -19,21 +19,21 @@ within : (c : tie.In-loop Inv-loop μ-loop)
     s .at + c .before .loop .k * s .width < length (s .randomness .now)
 within c = c .before .before .before .pre .0 .1 (c .before .loop .k) (omega arith)
 
-join-requires : tie.Need-join-requires Inv-loop μ-loop
-join-requires c κs =
+combine-requires : tie.Need-combine-requires Inv-loop μ-loop
+combine-requires c κs =
     let l = c .before .before .loop in
     (l .inv .1 .reduced, c .before .before .before .before .pre .1 (l .k) (omega arith))
 
 returns : tie.Need-returns Inv-loop μ-loop
 returns c =
-    let j = c .before .before .join in
+    let j = c .before .before .combine in
     let l = c .before .before .before .before .before .loop in
     let s = c .before .before .before .before .before .before .before .args in
     taken-stop _ _ _ _ (l .inv .1) (j .result) (c .enum-told .given .1) (j .ensures) (s .rows) (omega arith)
 
 loop-again : tie.Need-loop-again Inv-loop μ-loop
 loop-again c =
-    let j = c .before .before .before .join in
+    let j = c .before .before .before .combine in
     let l = c .before .before .before .before .before .before .loop in
     let b = c .before .both .given in
     (omega arith, taken-next _ _ _ _ (l .inv .1) (j .result) (b .0 .0) (b .1) (j .ensures))
@@ -57,7 +57,7 @@ smallest-for-spec =
     (λ c. within (c .before))
     (λ c. omega arith)
     (λ c. omega arith)
-    join-requires
+    combine-requires
     (λ c. search needs)
     returns
     (λ c. search needs)

@@ -12,7 +12,7 @@ use Rattle.protocol.specs.Formulas.{flat}
 use Rattle.protocol.proofs.Stored.{stored-none, stored-next, stored-all}
 use Rattle.rq_matrix.proofs.Fill.{length-filled}
 use Rattle.inner_product.specs.Run.{further}
-use Rattle.kept_mix.proofs.Mixed.{kept-mixed-before}
+use Rattle.kept_mix.proofs.Mixed.{ntt-mixed-before}
 use Rattle.one_pass.specs.Pass.{column-mixed}
 use Rattle.one_pass.proofs.Forms.{run-same, Lines, lines-none, lines-next, lines-small, lines-total}
 use Rattle.one_pass.proofs.mix_vector.Statement.{statement}
@@ -72,7 +72,7 @@ loop-again c =
     let more = c .before .before .before .before .before .before .before .before .before .before .loop-test .taken in
     let made = c .before .before .before .before .before .mix-and-form .ensures in
     let new = flat (table (l .m) (column-mixed (s .job .now) (s .constraints) (s .scratch .now) (s .aggregated) (s .weights .now))) in
-    let e = made .0 ∙ ap words (kept-mixed-before _ _ _ _ (further (s .aggregated) (l .m)) _ (s .to) _ (l .inv .1) (λ k i. p .before (l .m) k more i)) in
+    let e = made .0 ∙ ap words (ntt-mixed-before _ _ _ _ (further (s .aggregated) (l .m)) _ (s .to) _ (l .inv .1) (λ k i. p .before (l .m) k more i)) in
     let w = c .before .before .store .ensures ∙ stored-next _ _ _ (l .m) _ _ (l .inv .1) e in (
       omega (arith, more),
       w,

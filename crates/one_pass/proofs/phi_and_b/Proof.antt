@@ -20,8 +20,8 @@ mul-step c =
     let b = c .before .before .before .before .before .before in
     omega (arith, product-bound (b .args .r) (b .args .n) (b .pre .1 .5) (b .pre .1 .6))
 
-phi-and-b-kept-requires : tie.Need-phi-and-b-kept-requires
-phi-and-b-kept-requires c κs =
+phi-and-b-ntt-requires : tie.Need-phi-and-b-ntt-requires
+phi-and-b-ntt-requires c κs =
     let b = c .before .before .before .before .before .before .before in
     let chosen = pass-weights (b .args .r * b .args .n) (b .args .constraints .count) (b .args .count) (sym (c .before .before .one-pass-is-faster .ensures) ∙ c .before .if1 .taken) in
     (b .pre, chosen .0, chosen .1)
@@ -35,7 +35,7 @@ returns-2 : tie.Need-returns-2
 returns-2 c =
     let s = c .before .before .before .before .before .before .before .before .before .before .before .before .before .before .args in
     c .before .before .b-double-prime .ensures
-    ∙ ap (λ x. with-b″ x (s .q) (s .count) (s .r) (s .n) (s .witness .now) (s .s)) (c .before .before .before .before .before .before .aggregate .ensures)
+    ∙ ap (λ x. with-b″ x (s .regions) (s .count) (s .r) (s .n) (s .witness .now) (s .s)) (c .before .before .before .before .before .before .aggregate .ensures)
 
 pub phi-and-b-spec : {M : Type 1} → statement M
 phi-and-b-spec =
@@ -43,7 +43,7 @@ phi-and-b-spec =
     (tie.spec
     mul-width
     (λ c κs. let p = c .before .before .before .before .pre .0 in (p .1 .few, p .2 .few))
-    phi-and-b-kept-requires
+    phi-and-b-ntt-requires
     mul-step
     (λ c κs. c .before .before .before .before .before .before .before .pre .0)
     b-double-prime-requires

@@ -1,6 +1,6 @@
 -- `commit` meets its contract.
 use borrow.Author.Needs.{needs}
-use Rattle.workspace.proofs.Kept.{kept-refl}
+use Rattle.workspace.proofs.Unchanged.{unchanged-refl}
 use Rattle.prover_commit.proofs.Answers.{passed-on, gone-on}
 use Rattle.prover_commit.proofs.Commitments.{witness-checks, first-is}
 use Rattle.prover_commit.proofs.commit.Statement.{statement}
@@ -8,7 +8,7 @@ use Rattle.prover_commit.proofs.commit.Tie as tie
 
 returns : tie.Need-returns
 returns c =
-    passed-on (c .before .before .before .check-witness .result) _ _ (c .before .refusal .given .1) (c .before .before .before .check-witness .ensures) (first-is _ _ _ _ _ (c .before .before .before .before .before .before .before .pre)) (kept-refl _ _)
+    passed-on (c .before .before .before .check-witness .result) _ _ (c .before .refusal .given .1) (c .before .before .before .check-witness .ensures) (first-is _ _ _ _ _ (c .before .before .before .before .before .before .before .pre)) (unchanged-refl _ _)
 
 returns-2 : tie.Need-returns-2
 returns-2 c =

@@ -15,4 +15,4 @@ commit-t-and-g-spec =
     (λ c. search needs)
     (λ c. c .before .before .commit-plain .ensures)
     (λ c. search needs)
-    (λ c. c .before .before .commit-kept .ensures))
+    (λ c. c .before .before .commit-ntt .ensures))

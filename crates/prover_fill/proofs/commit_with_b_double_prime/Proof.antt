@@ -5,7 +5,7 @@ use Rattle.definitions.specs.declared.answers.Proved.the-variants as E
 use Rattle.protocol.specs.Prover.{round₃}
 use Rattle.prover_commit.proofs.Answers.{passed-on, gone-on, without-h}
 use Rattle.prover_commit.proofs.Commitments.{from-made, b″-fits, b″-made}
-use Rattle.prover_fill.proofs.Scratch.{double-prime-needs, b″-needs, b″-there, round₃-kept}
+use Rattle.prover_fill.proofs.Scratch.{double-prime-needs, b″-needs, b″-there, round₃-unchanged}
 use Rattle.prover_fill.proofs.commit_with_b_double_prime.Statement.{statement}
 use Rattle.prover_fill.proofs.commit_with_b_double_prime.Tie as tie
 
@@ -37,7 +37,7 @@ returns-2 c =
     let e = b″-made _ (b .args .witness .now) _ _ _ (n .0) (b .args .randomness .now) _ (n .1) (n .2) (n .3) (c .before .before .b-double-prime .ensures) in (
       gone-on (m .commit .result) E.Made told (m .commit .ensures .0) refl (without-h (b .args .job .now) (b .args .randomness .now) (b .args .witness .now) round₃ refl),
       (
-        round₃-kept _ (b .args .randomness .now) (b .args .witness .now) _ _ _ (b .pre .0) (b .pre .1) _ (m .commit .ensures .1 .0) k _ (c .before .before .before .before .before .before .double-prime .ensures) _ e,
+        round₃-unchanged _ (b .args .randomness .now) (b .args .witness .now) _ _ _ (b .pre .0) (b .pre .1) _ (m .commit .ensures .1 .0) k _ (c .before .before .before .before .before .before .double-prime .ensures) _ e,
         b″-there _ (b .args .randomness .now) (b .args .witness .now) _ _ _ (b .pre .0) (b .pre .1) _ (m .commit .ensures .1 .0) k _ (c .before .before .before .before .before .before .double-prime .ensures) _ e,
       ),
     )

@@ -33,7 +33,7 @@ of-randomness-requires-2 c κs = (ready-sized _ _ _ _ (c .before .before .before
 phi-and-b-requires : tie.Need-phi-and-b-requires
 phi-and-b-requires c κs =
     let s = c .before .before .before .before .before .before .before .before .before in (
-      φ-requires (s .args .job .now) (s .args .randomness .now) (s .args .scratch .now) (s .args .p) (s .args .q) (s .pre .0 .ready) _ _ _ (s .pre .1) (omega arith) (c .before .before .before .of-job .ensures) (c .before .before .of-randomness .ensures) (c .before .of-randomness2 .ensures),
+      φ-requires (s .args .job .now) (s .args .randomness .now) (s .args .scratch .now) (s .args .params) (s .args .regions) (s .pre .0 .ready) _ _ _ (s .pre .1) (omega arith) (c .before .before .before .of-job .ensures) (c .before .before .of-randomness .ensures) (c .before .of-randomness2 .ensures),
       b″-fits _ _ _ _ _ (s .pre .0),
     )
 
@@ -41,8 +41,8 @@ returns : tie.Need-returns
 returns c =
     let s = c .before .before .before .before .before .before .before .before .before .before .before .before in
     c .before .before .phi-and-b .ensures
-    ∙ ap (λ φ. with-b″ (splice (s .args .scratch .now) (s .args .q .phi) φ) (s .args .witness .now) (s .args .p) (s .args .q))
-    (φ-made (s .args .job .now) (s .args .randomness .now) (s .args .scratch .now) (s .args .p) (s .args .q) (s .pre .0 .ready) _ _ _ (s .pre .2) (c .before .before .before .before .before .before .of-job .ensures) (c .before .before .before .before .before .of-randomness .ensures) (c .before .before .before .before .of-randomness2 .ensures))
+    ∙ ap (λ φ. with-b″ (splice (s .args .scratch .now) (s .args .regions .phi) φ) (s .args .witness .now) (s .args .params) (s .args .regions))
+    (φ-made (s .args .job .now) (s .args .randomness .now) (s .args .scratch .now) (s .args .params) (s .args .regions) (s .pre .0 .ready) _ _ _ (s .pre .2) (c .before .before .before .before .before .before .of-job .ensures) (c .before .before .before .before .before .of-randomness .ensures) (c .before .before .before .before .of-randomness2 .ensures))
 
 pub phi-and-b-spec : {M : Type 1} → statement M
 phi-and-b-spec = tie.close (tie.spec mul-width mul-step of-job-requires of-randomness-requires of-randomness-requires-2 phi-and-b-requires (λ c. search needs) returns)

@@ -11,18 +11,18 @@ compute-z-requires : tie.Need-compute-z-requires
 compute-z-requires c κs =
     let b = c .before .before .before .before in
     let a = b .args in
-    (b .pre .0, b .pre .1, room-first _ (a .at) ((z-in (parametersOf (a .p)) (a .q) (a .scratch .now) (a .witness .now)) ∷ []) (t-g-h-in (parametersOf (a .p)) (a .q) (a .scratch .now)) (b .pre .2))
+    (b .pre .0, b .pre .1, room-first _ (a .at) ((z-in (parametersOf (a .params)) (a .regions) (a .scratch .now) (a .witness .now)) ∷ []) (t-g-h-in (parametersOf (a .params)) (a .regions) (a .scratch .now)) (b .pre .2))
 
 put-t-g-h-requires : tie.Need-put-t-g-h-requires
 put-t-g-h-requires c κs =
     let b = c .before .before .before .before .before .before .before .before in
     let a = b .args in
-    (b .pre .0, put-room (a .output .now) _ (a .at) _ ((z-in (parametersOf (a .p)) (a .q) (a .scratch .now) (a .witness .now)) ∷ []) (t-g-h-in (parametersOf (a .p)) (a .q) (a .scratch .now)) (b .pre .2) (c .before .before .before .compute-z .ensures))
+    (b .pre .0, put-room (a .output .now) _ (a .at) _ ((z-in (parametersOf (a .params)) (a .regions) (a .scratch .now) (a .witness .now)) ∷ []) (t-g-h-in (parametersOf (a .params)) (a .regions) (a .scratch .now)) (b .pre .2) (c .before .before .before .compute-z .ensures))
 
 returns : tie.Need-returns
 returns c =
     let a = c .before .before .before .before .before .before .before .before .before .before .before .args in
-    put-after (a .output .now) _ _ (a .at) _ _ ((z-in (parametersOf (a .p)) (a .q) (a .scratch .now) (a .witness .now)) ∷ []) (t-g-h-in (parametersOf (a .p)) (a .q) (a .scratch .now)) (c .before .before .before .before .before .before .compute-z .ensures) (c .before .before .put-t-g-h .ensures)
+    put-after (a .output .now) _ _ (a .at) _ _ ((z-in (parametersOf (a .params)) (a .regions) (a .scratch .now) (a .witness .now)) ∷ []) (t-g-h-in (parametersOf (a .params)) (a .regions) (a .scratch .now)) (c .before .before .before .before .before .before .compute-z .ensures) (c .before .before .put-t-g-h .ensures)
 
 pub put-z-t-g-h-spec : {M : Type 1} → statement M
 put-z-t-g-h-spec = tie.close (tie.spec compute-z-requires put-t-g-h-requires (λ c. search needs) returns)

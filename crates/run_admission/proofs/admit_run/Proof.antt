@@ -10,12 +10,12 @@ use Rattle.run_admission.proofs.admit_run.Tie as tie
 
 returns : tie.Need-returns
 returns c =
-    let f = fitted _ (c .before .before .before .before .check .ensures .0) (c .before .before .before .before .check .ensures .1) (c .before .before .p .given .1) in
+    let f = fitted _ (c .before .before .before .before .check .ensures .0) (c .before .before .before .before .check .ensures .1) (c .before .before .params .given .1) in
     (run-empty _ _ _ (f .1) (f .0) (c .if1 .taken), tt)
 
 returns-2 : tie.Need-returns-2
 returns-2 c =
-    let f = fitted _ (c .before .before .before .before .before .before .check .ensures .0) (c .before .before .before .before .before .before .check .ensures .1) (c .before .before .before .before .p .given .1) in
+    let f = fitted _ (c .before .before .before .before .before .before .check .ensures .0) (c .before .before .before .before .before .before .check .ensures .1) (c .before .before .before .before .params .given .1) in
     (run-past _ _ _ (f .1) (f .0) (omega (arith, c .before .before .if1 .left)) (c .if2 .taken), tt)
 
 returns-3 : tie.Need-returns-3
@@ -23,7 +23,7 @@ returns-3 c = (job-refuses _ _ (c .before .refusal .given .0 .0) (sym (ap ofAdmi
 
 returns-4 : tie.Need-returns-4
 returns-4 c =
-    let f = fitted _ (c .before .before .before .before .before .before .check .ensures .0) (c .before .before .before .before .before .before .check .ensures .1) (c .before .before .before .before .p .given .1) in
+    let f = fitted _ (c .before .before .before .before .before .before .check .ensures .0) (c .before .before .before .before .before .before .check .ensures .1) (c .before .before .before .before .params .given .1) in
     run-fits _ _ _ (f .1) (f .0) (omega (arith, c .before .before .if1 .left)) (omega (arith, c .if2 .left))
 
 pub admit-run-spec : {M : Type 1} → statement M

@@ -13,10 +13,10 @@ use Rattle.run_projection.proofs.project.Statement.{statement}
 use Rattle.run_projection.proofs.project.Tie as tie
 
 -- what holds of a call that is refused nothing
-fit : (c : tie.After-known-told3) → let s = c .before .before .before .before .before .before .before .before .before .args in Projectable (s .job .now) (run (s .first) (s .end)) (s .projection .now) (s .vectors .now) (length (s .scratch .now)) (length (s .output .now)) (c .before .p .given .0 .0)
+fit : (c : tie.After-known-told3) → let s = c .before .before .before .before .before .before .before .before .before .args in Projectable (s .job .now) (run (s .first) (s .end)) (s .projection .now) (s .vectors .now) (length (s .scratch .now)) (length (s .output .now)) (c .before .params .given .0 .0)
 fit c =
     let s = c .before .before .before .before .before .before .before .before .before .args in
-    at-fit (Projectable (s .job .now) (run (s .first) (s .end)) (s .projection .now) (s .vectors .now) (length (s .scratch .now)) (length (s .output .now))) (c .before .before .before .admit-projection .ensures .1) (c .before .p .given .1)
+    at-fit (Projectable (s .job .now) (run (s .first) (s .end)) (s .projection .now) (s .vectors .now) (length (s .scratch .now)) (length (s .output .now))) (c .before .before .before .admit-projection .ensures .1) (c .before .params .given .1)
 
 work-requires : tie.Need-work-requires
 work-requires c κs =
@@ -56,7 +56,7 @@ returns-3 c =
     let h = fit k in
     let w = c .before .before .before .before .work .ensures in
     let e : fine ≡ project-refusal (s .job .now) (run (s .first) (s .end)) (s .projection .now) (s .vectors .now) (length (s .scratch .now)) (length (s .output .now)) =
-    found (k .before .before .before .admit-projection .ensures .0) (k .before .p .given .1) in
+    found (k .before .before .before .admit-projection .ensures .0) (k .before .params .given .1) in
     record {
       answer = made-answer _ (w .0 .0) (w .0 .1) ∙ ap labradorAnswer e;
       output-left = worked-output (s .job .now) (run (s .first) (s .end)) (s .projection .now) (s .vectors .now) (s .scratch .now) (s .output .now) _ h e _ (w .1 .0);

@@ -15,7 +15,7 @@ returns c =
       (refl, refl),
       (
         c .before .before .before .before .before .before .before .put-p .ensures,
-        zeros-put (scratch-need (parametersOf (s .args .p))) (s .args .scratch .now) _ (s .pre .1 .1)
+        zeros-put (scratch-need (parametersOf (s .args .params))) (s .args .scratch .now) _ (s .pre .1 .1)
             (c .before .before .clear .ensures ∙ ap (λ n. splice (s .args .scratch .now) 0 (replicate n 0)) (c .before .before .before .before .scratch-length .ensures)),
       ),
     )

@@ -14,19 +14,19 @@ use Rattle.run_rows.proofs.commit.Tie as tie
 check-witness-requires : tie.Need-check-witness-requires
 check-witness-requires c κs =
     let s = c .before .before .before in
-    norms-room (s .args .job .now) (run (s .args .first) (s .args .end)) (s .args .vectors .now) (s .args .output .now) (s .args .p) (s .pre)
+    norms-room (s .args .job .now) (run (s .args .first) (s .args .end)) (s .args .vectors .now) (s .args .output .now) (s .args .params) (s .pre)
 
 clear-requires : tie.Need-clear-requires
 clear-requires c κs =
     let s = c .before .before .before .before .before .before .before .before .before in
-    rows-room (s .args .job .now) (run (s .args .first) (s .args .end)) (s .args .vectors .now) (s .args .output .now) (s .args .p) (s .pre)
+    rows-room (s .args .job .now) (run (s .args .first) (s .args .end)) (s .args .vectors .now) (s .args .output .now) (s .args .params) (s .pre)
 
 returns : tie.Need-returns
 returns c =
     let s = c .before .before .before .before .before .before .before .before .before .before in
     let e = sym (ap ofProved (c .before .before .before .before .enum-told .given .1)) ∙ c .before .before .before .before .before .before .check-witness .ensures in (
-      made-answer (s .args .job .now) (run (s .args .first) (s .args .end)) (s .args .vectors .now) (s .args .output .now) (s .args .p) (s .pre) e _ refl refl,
-      made-output (s .args .job .now) (run (s .args .first) (s .args .end)) (s .args .vectors .now) (s .args .output .now) (s .args .p) (s .pre) e _ (c .before .before .put-rows .ensures),
+      made-answer (s .args .job .now) (run (s .args .first) (s .args .end)) (s .args .vectors .now) (s .args .output .now) (s .args .params) (s .pre) e _ refl refl,
+      made-output (s .args .job .now) (run (s .args .first) (s .args .end)) (s .args .vectors .now) (s .args .output .now) (s .args .params) (s .pre) e _ (c .before .before .put-rows .ensures),
     )
 
 add-place : tie.Need-add-t18
@@ -36,7 +36,7 @@ add-place c =
     let e = sym (ap ofProved (c .before .before .before .before .before .before .before .before .refusal .given .1)) ∙ c .before .before .before .before .before .before .before .before .before .before .check-witness .ensures in
     omega (
       arith,
-      few-places (s .args .job .now) (run (s .args .first) (s .args .end)) (s .args .vectors .now) (s .args .output .now) (s .args .p) (s .pre) r e,
+      few-places (s .args .job .now) (run (s .args .first) (s .args .end)) (s .args .vectors .now) (s .args .output .now) (s .args .params) (s .pre) r e,
       c .before .number-of .ensures .1,
       s .pre .in-job .some,
       s .pre .in-job .within,
@@ -50,8 +50,8 @@ returns-2 c =
     let e = sym (ap ofProved (c .before .before .before .before .before .before .before .before .refusal .given .1)) ∙ c .before .before .before .before .before .before .before .before .before .before .check-witness .ensures in
     let n = c .before .number-of .ensures in (
       (λ i. record { number = n .0 i; place = ap (λ k. s .args .first + k) (n .1) i })
-          ∙ ap labradorAnswer (sym (norm-refused (s .args .job .now) (run (s .args .first) (s .args .end)) (s .args .vectors .now) (s .args .output .now) (s .args .p) (s .pre) r e)),
-      refused-output (s .args .job .now) (run (s .args .first) (s .args .end)) (s .args .vectors .now) (s .args .output .now) (s .args .p) (s .pre) r e _ (c .before .before .before .before .clear .ensures),
+          ∙ ap labradorAnswer (sym (norm-refused (s .args .job .now) (run (s .args .first) (s .args .end)) (s .args .vectors .now) (s .args .output .now) (s .args .params) (s .pre) r e)),
+      refused-output (s .args .job .now) (run (s .args .first) (s .args .end)) (s .args .vectors .now) (s .args .output .now) (s .args .params) (s .pre) r e _ (c .before .before .before .before .clear .ensures),
     )
 
 pub commit-spec : {M : Type 1} → statement M

@@ -13,7 +13,7 @@ use Rattle.run_rows.proofs.put_rows.Tie as tie
 commit-all-requires : tie.Need-commit-all-requires
 commit-all-requires c κs =
     let s = c .before .before .before .before .before .before in
-    let r = commit-room (s .args .job .now) (run (s .args .first) (s .args .end)) (s .args .vectors .now) (s .args .output .now) (s .args .p) (s .pre) _ (c .before .before .of-job .ensures) in
+    let r = commit-room (s .args .job .now) (run (s .args .first) (s .args .end)) (s .args .vectors .now) (s .args .output .now) (s .args .params) (s .pre) _ (c .before .before .of-job .ensures) in
     (r .0, r .1, simp length-set (r .2), r .3, r .4)
 
 same-length : tie.Need-same-length
@@ -22,7 +22,7 @@ same-length c = ap length (c .before .before .commit-all .ensures) ∙ length-sp
 returns : tie.Need-returns
 returns c =
     let s = c .before .before .before .before .before .before .before .before .before in
-    rows-stored (s .args .job .now) (run (s .args .first) (s .args .end)) (s .args .vectors .now) (s .args .output .now) (s .args .p) (s .pre) _ (c .before .before .before .before .before .of-job .ensures) _ (c .before .before .commit-all .ensures)
+    rows-stored (s .args .job .now) (run (s .args .first) (s .args .end)) (s .args .vectors .now) (s .args .output .now) (s .args .params) (s .pre) _ (c .before .before .before .before .before .of-job .ensures) _ (c .before .before .commit-all .ensures)
 
 pub put-rows-spec : {M : Type 1} → statement M
 put-rows-spec =
@@ -33,7 +33,7 @@ put-rows-spec =
     (λ c. omega (arith, few-rows (c .before .before .before .before .before .pre .in-job)))
     (λ c. omega (arith, few-rows (c .before .before .before .before .before .pre .in-job)))
     (λ c. omega (arith, few-rows (c .before .before .before .before .before .pre .in-job)))
-    (λ c. let s = c .before .before .before .before .before in omega (arith, rows-room (s .args .job .now) (run (s .args .first) (s .args .end)) (s .args .vectors .now) (s .args .output .now) (s .args .p) (s .pre)))
+    (λ c. let s = c .before .before .before .before .before in omega (arith, rows-room (s .args .job .now) (run (s .args .first) (s .args .end)) (s .args .vectors .now) (s .args .output .now) (s .args .params) (s .pre)))
     commit-all-requires
     same-length
     returns)

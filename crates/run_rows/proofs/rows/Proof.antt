@@ -19,13 +19,13 @@ use Rattle.run_rows.proofs.rows.Tie as tie
 
 -- what holds of a call that is refused nothing before its work
 module _ (c : tie.After-known-told3) where
-  fit : let s = c .before .before .before .before .before .before .before .before .args in Runnable (s .job .now) (run (s .first) (s .end)) (s .vectors .now) (length (s .scratch .now)) (rows-section (parameters (s .job .now)) (run (s .first) (s .end))) (length (s .output .now)) (c .before .p .given .0 .0)
+  fit : let s = c .before .before .before .before .before .before .before .before .args in Runnable (s .job .now) (run (s .first) (s .end)) (s .vectors .now) (length (s .scratch .now)) (rows-section (parameters (s .job .now)) (run (s .first) (s .end))) (length (s .output .now)) (c .before .params .given .0 .0)
   fit =
       let s = c .before .before .before .before .before .before .before .before .args in
-      at-fit (Runnable (s .job .now) (run (s .first) (s .end)) (s .vectors .now) (length (s .scratch .now)) (rows-section (parameters (s .job .now)) (run (s .first) (s .end))) (length (s .output .now))) (c .before .before .before .admit-rows .ensures .1) (c .before .p .given .1)
+      at-fit (Runnable (s .job .now) (run (s .first) (s .end)) (s .vectors .now) (length (s .scratch .now)) (rows-section (parameters (s .job .now)) (run (s .first) (s .end))) (length (s .output .now))) (c .before .before .before .admit-rows .ensures .1) (c .before .params .given .1)
 
   unrefused : let s = c .before .before .before .before .before .before .before .before .args in fine ≡ rows-refusal (s .job .now) (run (s .first) (s .end)) (s .vectors .now) (length (s .scratch .now)) (length (s .output .now))
-  unrefused = found (c .before .before .before .admit-rows .ensures .0) (c .before .p .given .1)
+  unrefused = found (c .before .before .before .admit-rows .ensures .0) (c .before .params .given .1)
 
 clear-requires : tie.Need-clear-requires
 clear-requires c κs =
@@ -59,7 +59,7 @@ returns-3 : tie.Need-returns-3
 returns-3 c =
     let k = c .before .before .before .before .before .before .before .before .before in
     let s = k .before .before .before .before .before .before .before .before .args in
-    let p = k .before .p .given .0 .0 in
+    let p = k .before .params .given .0 .0 in
     let e = unrefused k in
     let w = c .before .before .before .before .before .before .before .commit .ensures in
     record {

@@ -8,7 +8,7 @@ use Rattle.transcript_length.proofs.transcript_length.Tie as tie
 
 output-length-requires : tie.Need-output-length-requires
 output-length-requires c κs =
-    (fit-sized _ _ _ (c .before .before .before .check .ensures .0) (c .before .before .before .check .ensures .1) (c .before .p .given .1), omega arith)
+    (fit-sized _ _ _ (c .before .before .before .check .ensures .0) (c .before .before .before .check .ensures .1) (c .before .params .given .1), omega arith)
 
 returns : tie.Need-returns
 returns c = length-none _ _ (c .before .before .check .ensures .0) (c .enum-told .given .0 .0) (c .enum-told .given .1)
@@ -16,7 +16,7 @@ returns c = length-none _ _ (c .before .before .check .ensures .0) (c .enum-told
 returns-2 : tie.Need-returns-2
 returns-2 c =
     let told = c .before .before .before .before .check .ensures in
-    length-found _ _ (told .0) _ _ (told .1) (c .before .before .p .given .1) (c .output-length .ensures)
+    length-found _ _ (told .0) _ _ (told .1) (c .before .before .params .given .1) (c .output-length .ensures)
 
 pub transcript-length-spec : {M : Type 1} → statement M
 transcript-length-spec =

@@ -26,14 +26,14 @@ of-randomness-requires-2 c κs = (ready-sized _ _ _ _ (c .before .before .before
 aggregate-requires : tie.Need-aggregate-requires
 aggregate-requires c κs =
     let s = c .before .before .before .before .before .before .before .before in
-    a-requires (s .args .job .now) (s .args .randomness .now) (s .args .scratch .now) (s .args .p) (s .args .q) (s .pre .0) _ _ _ _ (s .pre .1) (omega arith) (c .before .before .before .before .triangle .ensures .0) (c .before .before .before .of-job .ensures) (c .before .before .of-randomness .ensures) (c .before .of-randomness2 .ensures)
+    a-requires (s .args .job .now) (s .args .randomness .now) (s .args .scratch .now) (s .args .params) (s .args .regions) (s .pre .0) _ _ _ _ (s .pre .1) (omega arith) (c .before .before .before .before .triangle .ensures .0) (c .before .before .before .of-job .ensures) (c .before .before .of-randomness .ensures) (c .before .of-randomness2 .ensures)
 
 returns : tie.Need-returns
 returns c =
     let s = c .before .before .before .before .before .before .before .before .before .before .before in
     c .before .before .aggregate .ensures
-    ∙ ap (splice (s .args .scratch .now) (s .args .q .a))
-    (a-made (s .args .job .now) (s .args .randomness .now) (s .args .scratch .now) (s .args .p) (s .args .q) (s .pre .0) _ _ _ _ (s .pre .2) (c .before .before .before .before .before .before .before .triangle .ensures .0) (c .before .before .before .before .before .before .of-job .ensures) (c .before .before .before .before .before .of-randomness .ensures) (c .before .before .before .before .of-randomness2 .ensures))
+    ∙ ap (splice (s .args .scratch .now) (s .args .regions .«a_or_h»))
+    (a-made (s .args .job .now) (s .args .randomness .now) (s .args .scratch .now) (s .args .params) (s .args .regions) (s .pre .0) _ _ _ _ (s .pre .2) (c .before .before .before .before .before .before .before .triangle .ensures .0) (c .before .before .before .before .before .before .of-job .ensures) (c .before .before .before .before .before .of-randomness .ensures) (c .before .before .before .before .of-randomness2 .ensures))
 
 pub a-spec : {M : Type 1} → statement M
 a-spec = tie.close (tie.spec triangle-requires mul-step of-job-requires of-randomness-requires of-randomness-requires-2 aggregate-requires (λ c. search needs) returns)

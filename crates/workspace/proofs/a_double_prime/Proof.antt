@@ -20,14 +20,14 @@ of-randomness-requires c κs = (ready-sized _ _ _ _ (c .before .before .before .
 a-double-prime-requires : tie.Need-a-double-prime-requires
 a-double-prime-requires c κs =
     let s = c .before .before .before .before .before .before .before in
-    a″-requires (s .args .job .now) (s .args .randomness .now) (s .args .scratch .now) (s .args .p) (s .args .q) (s .pre .0) _ _ _ (s .pre .1) (c .before .before .before .triangle .ensures .0) (c .before .before .of-job .ensures) (c .before .of-randomness .ensures)
+    a″-requires (s .args .job .now) (s .args .randomness .now) (s .args .scratch .now) (s .args .params) (s .args .regions) (s .pre .0) _ _ _ (s .pre .1) (c .before .before .before .triangle .ensures .0) (c .before .before .of-job .ensures) (c .before .of-randomness .ensures)
 
 returns : tie.Need-returns
 returns c =
     let s = c .before .before .before .before .before .before .before .before .before .before in
     c .before .before .a-double-prime .ensures
-    ∙ ap (splice (s .args .scratch .now) (s .args .q .a2))
-    (a″-made (s .args .job .now) (s .args .randomness .now) (s .args .scratch .now) (s .args .p) (s .args .q) (s .pre .0) _ _ _ (c .before .before .before .before .before .before .triangle .ensures .0) (c .before .before .before .before .before .of-job .ensures) (c .before .before .before .before .of-randomness .ensures))
+    ∙ ap (splice (s .args .scratch .now) (s .args .regions .a2))
+    (a″-made (s .args .job .now) (s .args .randomness .now) (s .args .scratch .now) (s .args .params) (s .args .regions) (s .pre .0) _ _ _ (c .before .before .before .before .before .before .triangle .ensures .0) (c .before .before .before .before .before .of-job .ensures) (c .before .before .before .before .of-randomness .ensures))
 
 pub a-double-prime-spec : {M : Type 1} → statement M
 a-double-prime-spec = tie.close (tie.spec triangle-requires of-job-requires of-randomness-requires a-double-prime-requires (λ c. search needs) returns)

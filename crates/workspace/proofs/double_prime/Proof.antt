@@ -17,7 +17,7 @@ a-double-prime-requires c κs =
 returns : tie.Need-returns
 returns c =
     let s = c .before .before .before .before .before .before .before .before .before .before .before in
-    double-prime-made (s .args .job .now) (s .args .randomness .now) (s .args .scratch .now) (s .args .p) (s .args .q) (s .pre .0) _ _ (c .before .before .before .before .before .before .phi-double-prime .ensures) (c .before .before .a-double-prime .ensures)
+    double-prime-made (s .args .job .now) (s .args .randomness .now) (s .args .scratch .now) (s .args .params) (s .args .regions) (s .pre .0) _ _ (c .before .before .before .before .before .before .phi-double-prime .ensures) (c .before .before .a-double-prime .ensures)
 
 pub double-prime-spec : {M : Type 1} → statement M
 double-prime-spec = tie.close (tie.spec (λ c κs. search needs) a-double-prime-requires (λ c. search needs) returns)

@@ -23,7 +23,7 @@ returns : tie.Need-returns
 returns c =
     let s = c .before .before .before .before .before .before .before .before in
     c .before .before .generate-challenges .ensures
-    ∙ ap₂ (λ a b. splice (s .args .scratch .now) (s .args .q .challenges) (flat (challenges (s .args .randomness .now) a b (s .args .p .multiplicity))))
+    ∙ ap₂ (λ a b. splice (s .args .scratch .now) (s .args .regions .challenges) (flat (challenges (s .args .randomness .now) a b (s .args .params .multiplicity))))
     (c .before .before .before .before .before .of-randomness .ensures) (c .before .before .before .before .of-randomness2 .ensures)
 
 pub generate-challenges-spec : {M : Type 1} → statement M

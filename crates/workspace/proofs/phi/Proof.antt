@@ -31,15 +31,15 @@ of-randomness-requires-2 c κs = (ready-sized _ _ _ _ (c .before .before .before
 aggregate-requires : tie.Need-aggregate-requires
 aggregate-requires c κs =
     let s = c .before .before .before .before .before .before .before .before in
-    φ-requires (s .args .job .now) (s .args .randomness .now) (s .args .scratch .now) (s .args .p) (s .args .q) (s .pre .0) _ _ _ (s .pre .1) (omega arith)
+    φ-requires (s .args .job .now) (s .args .randomness .now) (s .args .scratch .now) (s .args .params) (s .args .regions) (s .pre .0) _ _ _ (s .pre .1) (omega arith)
     (c .before .before .before .of-job .ensures) (c .before .before .of-randomness .ensures) (c .before .of-randomness2 .ensures)
 
 returns : tie.Need-returns
 returns c =
     let s = c .before .before .before .before .before .before .before .before .before .before .before in
     c .before .before .aggregate .ensures
-    ∙ ap (splice (s .args .scratch .now) (s .args .q .phi))
-    (φ-made (s .args .job .now) (s .args .randomness .now) (s .args .scratch .now) (s .args .p) (s .args .q) (s .pre .0) _ _ _ (s .pre .2)
+    ∙ ap (splice (s .args .scratch .now) (s .args .regions .phi))
+    (φ-made (s .args .job .now) (s .args .randomness .now) (s .args .scratch .now) (s .args .params) (s .args .regions) (s .pre .0) _ _ _ (s .pre .2)
     (c .before .before .before .before .before .before .of-job .ensures) (c .before .before .before .before .before .of-randomness .ensures)
     (c .before .before .before .before .of-randomness2 .ensures))
 

@@ -14,10 +14,11 @@ use Rattle.admission.proofs.job.check.Statement.{statement}
 use Rattle.admission.proofs.job.check.Tie as tie
 
 -- section one is refused nothing, and its parameters are read
-one : (c : tie.After-p) → (fine ≡ section-one (c .before .before .before .before .args .job .now)) × (parametersOf (c .p .given .0 .0) ≡ parameters (c .before .before .before .before .args .job .now))
+one : (c : tie.After-params)
+    → (fine ≡ section-one (c .before .before .before .before .args .job .now)) × (parametersOf (c .params .given .0 .0) ≡ parameters (c .before .before .before .before .args .job .now))
 one c =
     let r = c .before .before .read in
-    (sym (ap ofSectionOne (c .p .given .1)) ∙ r .ensures .0, subst (Reads _) (c .p .given .1) (r .ensures .1))
+    (sym (ap ofSectionOne (c .params .given .1)) ∙ r .ensures .0, subst (Reads _) (c .params .given .1) (r .ensures .1))
 
 -- then the answer is that of the other sections
 two : (c : tie.After-sections) {x : SliceChecked} → c .sections .result ≡ x → ofSliceChecked x ≡ job-refusal (c .before .before .before .before .before .before .args .job .now)

@@ -11,9 +11,9 @@ use Rattle.admission.proofs.randomness.check.Statement.{statement}
 use Rattle.admission.proofs.randomness.check.Tie as tie
 
 -- the table lists the sections that the call is handed
-lists : (c : tie.After-randomness-sections) → listed (c .randomness-sections .result) ≡ take (callOf (c .before .before .before .args .call) .handed) (randomness-sections (parametersOf (c .before .before .before .args .p)))
+lists : (c : tie.After-randomness-sections) → listed (c .randomness-sections .result) ≡ take (callOf (c .before .before .before .args .call) .handed) (randomness-sections (parametersOf (c .before .before .before .args .params)))
 lists c =
-    c .randomness-sections .ensures .lists ∙ ap (λ m. take m (randomness-sections (parametersOf (c .before .before .before .args .p)))) (c .before .handed .ensures .0)
+    c .randomness-sections .ensures .lists ∙ ap (λ m. take m (randomness-sections (parametersOf (c .before .before .before .args .params)))) (c .before .handed .ensures .0)
 
 returns : tie.Need-returns
 unfolding randomness-refusal

@@ -6,7 +6,7 @@ use borrow.Author.Needs.{needs}
 use lib.ListN.{getD}
 use mir.Val.{Fits}
 use mir.Syntax.{w32}
-use Rattle.fast_product.specs.Kept.{sumsOf, backOf}
+use Rattle.fast_product.specs.NttForm.{sumsOf, inverseNttOf}
 use Rattle.fast_product.proofs.Residue.{Words}
 use Rattle.fast_product.proofs.Inner.{first-room, first-sums, one-product}
 use Rattle.fast_product.proofs.product.multiply.Statement.{statement}
@@ -30,8 +30,8 @@ add-product-requires c κs =
       ),
     )
 
-back-requires : tie.Need-back-requires
-back-requires c κs = c .before .before .before .before .before .before .before .twiddles .ensures
+inverse-requires : tie.Need-inverse-requires
+inverse-requires c κs = c .before .before .before .before .before .before .before .twiddles .ensures
 
 returns : tie.Need-returns
 returns c =
@@ -40,11 +40,11 @@ returns c =
     let wb : Words (s .b) = λ k l. let f : Fits w32 (getD (s .b) k 0) = search needs in omega arith in
     let e = c .before .before .add-product .ensures in
     let sums = c .before .before .add-product .result in
-    c .back .ensures
-    ∙ ap₂ (λ x y. backOf x y (sums .third))
+    c .inverse .ensures
+    ∙ ap₂ (λ x y. inverseNttOf x y (sums .third))
     (first-sums 0 (omega arith) (s .a) (s .b) _ _ _ wa wb (c .before .before .before .no-sums .ensures .0) (c .before .before .before .before .before .before .transform .ensures .one) (c .before .before .before .before .transform2 .ensures .one) (sums .first) (e .0))
     (first-sums 1 (omega arith) (s .a) (s .b) _ _ _ wa wb (c .before .before .before .no-sums .ensures .1) (c .before .before .before .before .before .before .transform .ensures .two) (c .before .before .before .before .transform2 .ensures .two) (sums .second) (e .1 .0))
-    ∙ ap (backOf (sumsOf 0 1 (λ m. s .a) (λ m. s .b)) (sumsOf 1 1 (λ m. s .a) (λ m. s .b)))
+    ∙ ap (inverseNttOf (sumsOf 0 1 (λ m. s .a) (λ m. s .b)) (sumsOf 1 1 (λ m. s .a) (λ m. s .b)))
     (first-sums 2 (omega arith) (s .a) (s .b) _ _ _ wa wb (c .before .before .before .no-sums .ensures .2) (c .before .before .before .before .before .before .transform .ensures .three) (c .before .before .before .before .transform2 .ensures .three) (sums .third) (e .1 .1))
     ∙ one-product (s .a) (s .b) wa wb
 
@@ -60,5 +60,5 @@ multiply-spec =
     (λ c κs. search needs)
     add-product-requires
     (λ c. search needs)
-    back-requires
+    inverse-requires
     returns)

@@ -10,7 +10,7 @@ use Rattle.protocol.proofs.Flat.{length-triangle}
 use Rattle.rq_matrix.proofs.Place.{rows-within, triangular-suc, triangle-within, apart-part}
 use Rattle.rq_matrix.proofs.Fill.{length-filled, triangle-none, triangle-next, apart-filled}
 use Rattle.garbage_polynomials.specs.Garbage.{h-of}
-use Rattle.garbage_polynomials.proofs.Cell.{h-row-kept}
+use Rattle.garbage_polynomials.proofs.Cell.{h-row-unchanged}
 use Rattle.garbage_polynomials.proofs.h.compute_h.Statement.{statement}
 use Rattle.garbage_polynomials.proofs.h.compute_h.Tie as tie
 
@@ -46,7 +46,7 @@ loop-again c =
     let within = triangle-within (l .i) (s .r) (omega arith) in
     let apart = apart-filled (s .phi-at) (64 * (s .r * s .n)) (s .out-at) (64 * triangular (s .r)) (triangle (l .i) cells) (at-start .pre .3) (omega (arith, length-triangle (l .i) cells)) in
     let stored =
-    h-row-kept (l .scratch) (s .scratch .now) (s .out-at) (flat (triangle (l .i) cells)) (s .phi-at) (s .r) (s .n) (l .inv .2) apart _ (s .s .now) (s .s-at) (l .i) (l .place) (omega arith) (c .before .before .h-row .ensures) in
+    h-row-unchanged (l .scratch) (s .scratch .now) (s .out-at) (flat (triangle (l .i) cells)) (s .phi-at) (s .r) (s .n) (l .inv .2) apart _ (s .s .now) (s .s-at) (l .i) (l .place) (omega arith) (c .before .before .h-row .ensures) in
     let filled = triangle-next (s .scratch .now) (s .out-at) _ _ (l .i) (l .place) cells (l .inv .2) (l .inv .1) stored in
     (omega arith, omega (arith, triangular-suc (l .i)), filled, length-filled _ (s .scratch .now) (s .out-at) (flat (triangle (l .i + 1) cells)) filled)
 

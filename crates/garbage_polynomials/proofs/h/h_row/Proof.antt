@@ -12,7 +12,7 @@ use Rattle.protocol.proofs.Stored.{stored-none}
 use Rattle.rq_matrix.proofs.Place.{rows-within}
 use Rattle.rq_matrix.proofs.Fill.{length-filled, fill-next, apart-filled}
 use Rattle.garbage_polynomials.specs.Garbage.{h-of}
-use Rattle.garbage_polynomials.proofs.Cell.{h-places, h-kept}
+use Rattle.garbage_polynomials.proofs.Cell.{h-places, h-unchanged}
 use Rattle.garbage_polynomials.proofs.h.h_row.Statement.{statement}
 use Rattle.garbage_polynomials.proofs.h.h_row.Tie as tie
 
@@ -48,15 +48,15 @@ loop-again c =
     let row = h-of (s .scratch .now) (s .phi-at) (s .s .now) (s .s-at) (s .n) (s .i) in
     let apart = apart-filled (s .phi-at) (64 * ((s .i + 1) * s .n)) (s .out-at) (64 * (s .i + 1)) (table (l .j) row) (at-start .pre .3) (omega (arith, length-table (l .j) row)) in
     let now = h-places (l .scratch) (s .s .now) (s .phi-at) (s .s-at) (s .n) _ (s .i) (l .j) (φ-i .result) (l .phi-j) (s-i .result) (l .s-j) (c .before .before .before .before .h-cell .ensures) (φ-i .ensures) (l .inv .2) (s-i .ensures) (l .inv .1) in
-    let kept =
-    h-kept (l .scratch) (s .scratch .now) (s .out-at) (flat (table (l .j) row)) (s .phi-at) (s .i + 1) (s .n) (l .inv .4) apart
+    let unchanged =
+    h-unchanged (l .scratch) (s .scratch .now) (s .out-at) (flat (table (l .j) row)) (s .phi-at) (s .i + 1) (s .n) (l .inv .4) apart
     (s .s .now) (s .s-at) (s .i) (l .j) (omega arith) (omega arith) in
     let stored = c .before .before .store .ensures in (
       omega arith,
       omega arith,
       omega arith,
       omega arith,
-      fill-next (s .scratch .now) (s .out-at) _ _ _ (l .j) (l .place) row (l .inv .4) (l .inv .3) (now ∙ ap words kept) stored,
+      fill-next (s .scratch .now) (s .out-at) _ _ _ (l .j) (l .place) row (l .inv .4) (l .inv .3) (now ∙ ap words unchanged) stored,
       length-filled _ _ _ _ stored ∙ l .inv .5,
     )
 

@@ -11,10 +11,10 @@ use Rattle.lent_buffers.proofs.output.check.Statement.{statement}
 use Rattle.lent_buffers.proofs.output.check.Tie as tie
 
 -- the need is that of the sections that the call makes
-needed : (c : tie.After-output-length) → c .output-length .result ≡ span (made-sections (callOf (c .before .before .args .call)) (parametersOf (c .before .before .args .p)))
+needed : (c : tie.After-output-length) → c .output-length .result ≡ span (made-sections (callOf (c .before .before .args .call)) (parametersOf (c .before .before .args .params)))
 needed c =
     let m = c .before .makes .ensures in
-    let ss = transcript-sections (parametersOf (c .before .before .args .p)) in
+    let ss = transcript-sections (parametersOf (c .before .before .args .params)) in
     c .output-length .ensures ∙ ap₂ (λ from n. span (take n (drop from ss))) (m .0) (m .1)
 
 returns : tie.Need-returns

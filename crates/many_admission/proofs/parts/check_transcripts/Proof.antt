@@ -13,11 +13,11 @@ use Rattle.many_admission.proofs.parts.check_transcripts.Statement.{sta
 use Rattle.many_admission.proofs.parts.check_transcripts.Tie as tie
 
 abbrev Inv-loop : tie.InvT-loop
-Inv-loop transcripts p count found₀ m₀ found m =
-    (m ≤ count) × (length found ≡ 8) × ((k : ℕ) → k < m → ofSliceChecked (found-of found k) ≡ transcript-refusal (parametersOf p) (transcript-part (parametersOf p) count transcripts k))
+Inv-loop transcripts params count found₀ m₀ found m =
+    (m ≤ count) × (length found ≡ 8) × ((k : ℕ) → k < m → ofSliceChecked (found-of found k) ≡ transcript-refusal (parametersOf params) (transcript-part (parametersOf params) count transcripts k))
 
 abbrev μ-loop : tie.MeasureT-loop
-μ-loop transcripts p count found₀ m₀ found m = count - m
+μ-loop transcripts params count found₀ m₀ found m = count - m
 
 loop-holds : tie.Need-loop-holds Inv-loop μ-loop
 loop-holds c = (omega arith, refl, λ k h. absurd (omega arith))
@@ -32,7 +32,7 @@ loop-again c =
     let room : l .m < length (l .found) = omega (arith, l .inv .1) in (
       omega arith,
       length-set (l .found) (l .m) (c .check-transcript .result) ∙ l .inv .1,
-      stored (l .found) (l .m) (c .check-transcript .result) (λ k. transcript-refusal (parametersOf (s .p)) (transcript-part (parametersOf (s .p)) (s .count) (s .transcripts .now) k)) room (l .inv .2) (c .check-transcript .ensures),
+      stored (l .found) (l .m) (c .check-transcript .result) (λ k. transcript-refusal (parametersOf (s .params)) (transcript-part (parametersOf (s .params)) (s .count) (s .transcripts .now) k)) room (l .inv .2) (c .check-transcript .ensures),
     )
 
 returns : tie.Need-returns Inv-loop μ-loop

@@ -23,8 +23,8 @@ returns-4 : tie.Need-returns-4
 returns-4 c =
     let k = c .before .before .before in
     let s = k .before .before .before .before .args in (
-      so-many (s .job .now) (s .count) (s .scratch) (k .before .before .if1 .left) (k .before .if2 .left) (sym (ap ofAdmitted (c .before .p .given .1)) ∙ k .admit-job .ensures .0),
-      subst (λ x. At x (Many-given (s .job .now) (s .count) (s .scratch))) (c .before .p .given .1) (k .admit-job .ensures .1),
+      so-many (s .job .now) (s .count) (s .scratch) (k .before .before .if1 .left) (k .before .if2 .left) (sym (ap ofAdmitted (c .before .params .given .1)) ∙ k .admit-job .ensures .0),
+      subst (λ x. At x (Many-given (s .job .now) (s .count) (s .scratch))) (c .before .params .given .1) (k .admit-job .ensures .1),
     )
 
 pub admit-spec : {M : Type 1} → statement M

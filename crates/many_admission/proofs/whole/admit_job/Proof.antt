@@ -17,7 +17,7 @@ use Rattle.many_admission.proofs.whole.admit_job.Tie as tie
 check-scratch-requires : tie.Need-check-scratch-requires
 check-scratch-requires c κs =
     let k = c .before .before .before in
-    let f = fitted _ (k .check .ensures .0) (k .check .ensures .1) (c .before .p .given .1) in
+    let f = fitted _ (k .check .ensures .0) (k .check .ensures .1) (c .before .params .given .1) in
     (job-sized _ _ (f .0) (f .1), k .before .before .pre)
 
 returns : tie.Need-returns
@@ -31,7 +31,7 @@ returns-2 c =
     let n = c .before .before .before in
     let k = n .before .before .before .before in
     let s = k .before .before .args in
-    let f = fitted (parameters (s .job .now)) (k .check .ensures .0) (k .check .ensures .1) (n .before .before .p .given .1) in
+    let f = fitted (parameters (s .job .now)) (k .check .ensures .0) (k .check .ensures .1) (n .before .before .params .given .1) in
     (goes-on (f .0) (told (n .check-scratch .ensures) (c .before .refusal2 .given .1) ∙ ap (λ P. need-refusal P (s .count) (s .scratch)) (f .1)), tt)
 
 returns-3 : tie.Need-returns-3
@@ -39,7 +39,7 @@ returns-3 c =
     let n = c .before .before in
     let k = n .before .before .before .before in
     let s = k .before .before in
-    let f = fitted (parameters (s .args .job .now)) (k .check .ensures .0) (k .check .ensures .1) (n .before .before .p .given .1) in
+    let f = fitted (parameters (s .args .job .now)) (k .check .ensures .0) (k .check .ensures .1) (n .before .before .params .given .1) in
     let need = many-need (parameters (s .args .job .now)) (s .args .count) in
     let e = told (n .check-scratch .ensures) (c .enum-told .given .1) ∙ ap (λ P. need-refusal P (s .args .count) (s .args .scratch)) (f .1) in (
       goes-on (f .0) e,

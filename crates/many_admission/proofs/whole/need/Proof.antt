@@ -12,7 +12,7 @@ returns : tie.Need-returns
 returns c = let s = c .before .args in ap (λ n. s .count * n) (c .«scratch-length» .ensures)
 
 mul-result : tie.Need-mul-result
-mul-result c = let s = c .before in omega (arith, many-few (parametersOf (s .args .p)) (s .args .count) (s .pre .0) (s .pre .1), returns c)
+mul-result c = let s = c .before in omega (arith, many-few (parametersOf (s .args .params)) (s .args .count) (s .pre .0) (s .pre .1), returns c)
 
 pub need-spec : {M : Type 1} → statement M
 need-spec = tie.close (tie.spec (λ c κs. search needs) mul-result returns)

@@ -10,7 +10,7 @@ use Rattle.lists.proofs.Padded.{padded-none, padded-next}
 use Rattle.definitions.specs.Answer.{Answer, _then_}
 use Rattle.protocol.specs.Parameters.{Parameters, parameters}
 use Rattle.protocol.specs.Layout.{scratch-need, randomness-refusal, transcript-refusal}
-use Rattle.protocol.specs.Kept.{Kept}
+use Rattle.protocol.specs.Unchanged.{Unchanged}
 use Rattle.protocol.specs.Many.{many-need, part-refusal, part-verdict, randomness-part, transcript-part, Rows-done, row-count}
 use Rattle.relation.specs.Parameters.{parametersOf}
 use Rattle.admission.proofs.Ready.{job-sized}
@@ -18,7 +18,7 @@ use Rattle.call_answers.specs.declared.verdicts.LabradorVerdict.{LabradorVerdic
 use Rattle.call_answers.specs.Calls.{labradorVerdict}
 use Rattle.workspace.specs.Holds.{Holds}
 use Rattle.many_phi.specs.AlphaPart.{alpha-words, phi-at}
-use Rattle.workspace.proofs.Kept.{kept-refl, kept-trans, kept-weaken}
+use Rattle.workspace.proofs.Unchanged.{unchanged-refl, unchanged-trans, unchanged-weaken}
 use Rattle.many_verdicts.specs.Windows.{unused-verdict}
 use Rattle.many_verdicts.proofs.Windows.{same-window}
 use Rattle.many_verdicts.proofs.all.verdicts.Statement.{statement}
@@ -29,16 +29,16 @@ abbrev of-part : (J : List ℕ) (count : ℕ) (R T : List ℕ) → ℕ → Labra
 of-part J count R T m = labradorVerdict (part-verdict J count R T m)
 
 abbrev Inv-loop : tie.InvT-loop
-Inv-loop job randomness transcripts p count scratch₀ weighed found out₀ m₀ scratch out m =
-    (m ≤ count) × (out ≡ padded 8 m unused-verdict (of-part job count randomness transcripts)) × Kept (many-need (parameters job) m) scratch₀ scratch
+Inv-loop job randomness transcripts params count scratch₀ weighed found out₀ m₀ scratch out m =
+    (m ≤ count) × (out ≡ padded 8 m unused-verdict (of-part job count randomness transcripts)) × Unchanged (many-need (parameters job) m) scratch₀ scratch
 
 abbrev μ-loop : tie.MeasureT-loop
-μ-loop job randomness transcripts p count scratch₀ weighed found out₀ m₀ scratch out m = count - m
+μ-loop job randomness transcripts params count scratch₀ weighed found out₀ m₀ scratch out m = count - m
 
 loop-holds : tie.Need-loop-holds Inv-loop μ-loop
 loop-holds c =
     let a = c .before .before .before .before .before .args in
-    (omega arith, c .eight .ensures ∙ padded-none 8 unused-verdict (of-part (a .job .now) (a .count) (a .randomness .now) (a .transcripts .now)), kept-refl _ _)
+    (omega arith, c .eight .ensures ∙ padded-none 8 unused-verdict (of-part (a .job .now) (a .count) (a .randomness .now) (a .transcripts .now)), unchanged-refl _ _)
 
 -- what is found of randomness and transcript together
 found-part : (P P′ : Parameters) (count : ℕ) (R T : List ℕ) (m : ℕ) (x sent : Answer) → P′ ≡ P → x ≡ randomness-refusal P′ 7 (randomness-part P′ count R m) then sent
@@ -50,7 +50,7 @@ check-part-requires : tie.Need-check-part-requires Inv-loop μ-loop
 check-part-requires c κs =
     let s = c .before .before .before .before .before .before .before .before in
     let g = s .pre .0 .0 in
-    (c .before .loop-test .taken, g .few, job-sized (s .args .job .now) (parametersOf (s .args .p)) (sym (g .fit)) (g .same))
+    (c .before .loop-test .taken, g .few, job-sized (s .args .job .now) (parametersOf (s .args .params)) (sym (g .fit)) (g .same))
 
 verdict-requires : tie.Need-verdict-requires Inv-loop μ-loop
 verdict-requires c κs =
@@ -64,7 +64,7 @@ verdict-requires c κs =
     let same = sym (same-window (a .scratch .now) (l .scratch) (l .m) (scratch-need P) k) in (
       (record { fit = g .fit; same = g .same; few = g .few; room = subst (λ n. many-need P (a .count) ≤ n) (sym (k .size)) (g .room) }, taken),
       (
-        found-part P (parametersOf (a .p)) (a .count) (a .randomness .now) (a .transcripts .now) (l .m) _ _ (g .same) (c .before .check-part .ensures) (s .pre .0 .1 (l .m) taken),
+        found-part P (parametersOf (a .params)) (a .count) (a .randomness .now) (a .transcripts .now) (l .m) _ _ (g .same) (c .before .check-part .ensures) (s .pre .0 .1 (l .m) taken),
         (
           λ pass. subst (λ w. Rows-done (a .job .now) (transcript-part P (a .count) (a .transcripts .now) (l .m)) w (row-count P)) same (s .pre .1 .0 (l .m) taken pass),
           λ pass t. subst (λ w. Holds w (phi-at P) (alpha-words (a .job .now) (randomness-part P (a .count) (a .randomness .now) (l .m)))) same (s .pre .1 .1 t (l .m) taken pass),
@@ -83,7 +83,7 @@ loop-again c =
       omega arith,
       padded-next 8 unused-verdict (of-part (a .job .now) (a .count) (a .randomness .now) (a .transcripts .now)) (l .out) (l .m) (c .before .before .verdict .result)
           (l .inv .1) (omega (arith, s .pre .0 .0 .few)) (e .0),
-      kept-trans (many-need P (l .m + 1)) (a .scratch .now) (l .scratch) _ (kept-weaken (many-need P (l .m)) (many-need P (l .m + 1)) (a .scratch .now) (l .scratch) more (l .inv .2)) (e .1),
+      unchanged-trans (many-need P (l .m + 1)) (a .scratch .now) (l .scratch) _ (unchanged-weaken (many-need P (l .m)) (many-need P (l .m + 1)) (a .scratch .now) (l .scratch) more (l .inv .2)) (e .1),
     )
 
 returns : tie.Need-returns Inv-loop μ-loop
@@ -93,7 +93,7 @@ returns c =
     let P = parameters (a .job .now) in
     let n : l .m ≡ a .count = omega arith in (
       l .inv .1 ∙ ap (λ k. padded 8 k unused-verdict (of-part (a .job .now) (a .count) (a .randomness .now) (a .transcripts .now))) n,
-      subst (λ k. Kept (many-need P k) (a .scratch .now) (l .scratch)) n (l .inv .2),
+      subst (λ k. Unchanged (many-need P k) (a .scratch .now) (l .scratch)) n (l .inv .2),
     )
 
 pub verdicts-spec : {M : Type 1} → statement M

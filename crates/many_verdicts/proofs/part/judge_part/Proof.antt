@@ -19,8 +19,8 @@ use Rattle.many_verdicts.proofs.part.judge_part.Statement.{statement}
 use Rattle.many_verdicts.proofs.part.judge_part.Tie as tie
 
 -- the parameters can be reckoned with
-sized : (s : tie.Start) → Sized (parametersOf (s .args .p))
-sized s = job-sized (s .args .job .now) (parametersOf (s .args .p)) (sym (s .pre .0 .0 .fit)) (s .pre .0 .0 .same)
+sized : (s : tie.Start) → Sized (parametersOf (s .args .params))
+sized s = job-sized (s .args .job .now) (parametersOf (s .args .params)) (sym (s .pre .0 .0 .fit)) (s .pre .0 .0 .same)
 
 -- the bounds of the parts
 module _ (c : tie.After-randomness-bounds) where
@@ -28,11 +28,11 @@ module _ (c : tie.After-randomness-bounds) where
   s = c .before .before .before .before .before
 
   randomness-order : (c .randomness-bounds .result .from ≤ c .randomness-bounds .result .to) × (c .randomness-bounds .result .to ≤ length (s .args .randomness .now))
-  randomness-order = in-order (s .args .randomness .now) (span (randomness-sections (parametersOf (s .args .p)))) (s .args .count) (s .args .m) (c .randomness-bounds .result) (c .randomness-bounds .ensures)
+  randomness-order = in-order (s .args .randomness .now) (span (randomness-sections (parametersOf (s .args .params)))) (s .args .count) (s .args .m) (c .randomness-bounds .result) (c .randomness-bounds .ensures)
 
   randomness-is : part (s .args .randomness .now) (c .randomness-bounds .result .from) (c .randomness-bounds .result .to - c .randomness-bounds .result .from) ≡ randomness-part (parameters (s .args .job .now)) (s .args .count) (s .args .randomness .now) (s .args .m)
   randomness-is =
-      between (s .args .randomness .now) (span (randomness-sections (parametersOf (s .args .p)))) (s .args .count) (s .args .m) (c .randomness-bounds .result) (c .randomness-bounds .ensures)
+      between (s .args .randomness .now) (span (randomness-sections (parametersOf (s .args .params)))) (s .args .count) (s .args .m) (c .randomness-bounds .result) (c .randomness-bounds .ensures)
       ∙ ap (λ P. randomness-part P (s .args .count) (s .args .randomness .now) (s .args .m)) (s .pre .0 .0 .same)
 
 module _ (c : tie.After-transcript-bounds) where
@@ -40,11 +40,11 @@ module _ (c : tie.After-transcript-bounds) where
   s′ = c .before .before .before .before .before .before
 
   transcript-order : (c .transcript-bounds .result .from ≤ c .transcript-bounds .result .to) × (c .transcript-bounds .result .to ≤ length (s′ .args .transcripts .now))
-  transcript-order = in-order (s′ .args .transcripts .now) (span (transcript-sections (parametersOf (s′ .args .p)))) (s′ .args .count) (s′ .args .m) (c .transcript-bounds .result) (c .transcript-bounds .ensures)
+  transcript-order = in-order (s′ .args .transcripts .now) (span (transcript-sections (parametersOf (s′ .args .params)))) (s′ .args .count) (s′ .args .m) (c .transcript-bounds .result) (c .transcript-bounds .ensures)
 
   transcript-is : part (s′ .args .transcripts .now) (c .transcript-bounds .result .from) (c .transcript-bounds .result .to - c .transcript-bounds .result .from) ≡ transcript-part (parameters (s′ .args .job .now)) (s′ .args .count) (s′ .args .transcripts .now) (s′ .args .m)
   transcript-is =
-      between (s′ .args .transcripts .now) (span (transcript-sections (parametersOf (s′ .args .p)))) (s′ .args .count) (s′ .args .m) (c .transcript-bounds .result) (c .transcript-bounds .ensures)
+      between (s′ .args .transcripts .now) (span (transcript-sections (parametersOf (s′ .args .params)))) (s′ .args .count) (s′ .args .m) (c .transcript-bounds .result) (c .transcript-bounds .ensures)
       ∙ ap (λ P. transcript-part P (s′ .args .count) (s′ .args .transcripts .now) (s′ .args .m)) (s′ .pre .0 .0 .same)
 
 judge-window-requires : tie.Need-judge-window-requires
@@ -56,7 +56,7 @@ judge-window-requires c κs =
     let need = scratch-need (parameters (a .job .now)) in
     let g = s .pre .0 .0 in
     let more : (a .m + 1) * need ≤ a .count * need = mul-le-mul-right need (omega arith) in (
-      part-verifiable (a .job .now) (a .count) (a .randomness .now) (a .transcripts .now) (a .m) (g .fit) _ _ (randomness-is r) (transcript-is t) (s .pre .1 .0) (a .p) (g .same),
+      part-verifiable (a .job .now) (a .count) (a .randomness .now) (a .transcripts .now) (a .m) (g .fit) _ _ (randomness-is r) (transcript-is t) (s .pre .1 .0) (a .params) (g .same),
       (
         (omega (arith, g .few), omega (arith, more, g .room)),
         (

@@ -10,7 +10,7 @@ use Rattle.protocol.specs.Many.{Rows-done, row-count}
 use Rattle.admission.specs.Admission.{Verifiable}
 use Rattle.many_phi.specs.AlphaPart.{Alpha-if, phi-at}
 use Rattle.verifier.proofs.Whole.{call-sized}
-use Rattle.many_verdicts.proofs.Windows.{inside, lent-window, lent-length, kept-window}
+use Rattle.many_verdicts.proofs.Windows.{inside, lent-window, lent-length, unchanged-window}
 use Rattle.many_verdicts.proofs.part.judge_window.Statement.{statement}
 use Rattle.many_verdicts.proofs.part.judge_window.Tie as tie
 
@@ -34,7 +34,7 @@ judge-requires c κs =
     let need = scratch-need (parameters (s .args .job .now)) in
     let l = lent-length (s .args .scratch .now) (s .args .m) need (k .scratch-length .result) (need-is k) (s .pre .1 .0 .1) in
     let w = lent-window (s .args .scratch .now) (s .args .m) need (k .scratch-length .result) (need-is k) (s .pre .1 .0 .1) in (
-      subst (λ n. Verifiable (s .args .job .now) (s .args .randomness .now) (s .args .transcript .now) n (s .args .p)) (sym l) (s .pre .0),
+      subst (λ n. Verifiable (s .args .job .now) (s .args .randomness .now) (s .args .transcript .now) n (s .args .params)) (sym l) (s .pre .0),
       (
         l,
         (
@@ -49,7 +49,7 @@ returns c =
     let k = c .before .before .before .before in
     let s = k .before .before .before .before .before in
     let e = c .before .before .judge .ensures in
-    (e .0, kept-window (s .args .scratch .now) (s .args .m) (scratch-need (parameters (s .args .job .now))) (k .scratch-length .result) (need-is k) (s .pre .1 .0 .1) (c .before .before .judge .last .1 .1 .1 .1 .0) (e .1))
+    (e .0, unchanged-window (s .args .scratch .now) (s .args .m) (scratch-need (parameters (s .args .job .now))) (k .scratch-length .result) (need-is k) (s .pre .1 .0 .1) (c .before .before .judge .last .1 .1 .1 .1 .0) (e .1))
 
 pub judge-window-spec : {M : Type 1} → statement M
 judge-window-spec =

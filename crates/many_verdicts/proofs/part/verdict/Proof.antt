@@ -4,7 +4,7 @@ use borrow.Author.Needs.{needs}
 use Rattle.definitions.specs.Answer.{is-fine}
 use Rattle.call_answers.specs.Calls.{labradorVerdict}
 use Rattle.admission.specs.Admission.{ofSliceChecked}
-use Rattle.workspace.proofs.Kept.{kept-refl}
+use Rattle.workspace.proofs.Unchanged.{unchanged-refl}
 use Rattle.many_admission.proofs.Verdicts.{part-refused}
 use Rattle.many_verdicts.proofs.part.verdict.Statement.{statement}
 use Rattle.many_verdicts.proofs.part.verdict.Tie as tie
@@ -26,7 +26,7 @@ returns c =
     let f = k .found .given in (
       c .verdict-of .ensures
           ∙ ap labradorVerdict (part-refused (a .job .now) (a .count) (a .randomness .now) (a .transcripts .now) (a .m) (s .pre .0 .0 .fit) (f .0 .0) (sym (ap ofSliceChecked (f .1)) ∙ s .pre .1 .0)),
-      kept-refl _ _,
+      unchanged-refl _ _,
     )
 
 returns-2 : tie.Need-returns-2

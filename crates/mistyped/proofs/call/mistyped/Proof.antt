@@ -18,17 +18,17 @@ use Rattle.mistyped.proofs.call.mistyped.Tie as tie
 
 -- a call that the verifier would not refuse before its work
 module _ (c : tie.After-struct-known) where
-  fit : let s = c .before .before .before .before .before .before .before .before .before .before .args in Verifiable (s .job .now) (s .randomness .now) (s .transcript .now) (length (s .scratch .now)) (c .before .before .p .given .0 .0)
+  fit : let s = c .before .before .before .before .before .before .before .before .before .before .args in Verifiable (s .job .now) (s .randomness .now) (s .transcript .now) (length (s .scratch .now)) (c .before .before .params .given .0 .0)
   fit =
       let s = c .before .before .before .before .before .before .before .before .before .before .args in
       let e = c .before .before .before .before .admit .ensures in
-      admitted (s .job .now) (s .randomness .now) (s .transcript .now) (s .scratch .now) _ (e .0) _ (c .before .before .p .given .1) (e .1)
+      admitted (s .job .now) (s .randomness .now) (s .transcript .now) (s .scratch .now) _ (e .0) _ (c .before .before .params .given .1) (e .1)
 
   unrefused : let s = c .before .before .before .before .before .before .before .before .before .before .args in fine ≡ verify-refusal (s .job .now) (s .randomness .now) (s .transcript .now) (length (s .scratch .now))
-  unrefused = sym (ap ofAdmitted (c .before .before .p .given .1)) ∙ c .before .before .before .before .admit .ensures .0
+  unrefused = sym (ap ofAdmitted (c .before .before .params .given .1)) ∙ c .before .before .before .before .admit .ensures .0
 
   -- the length that the list needs
-  need-is : 2 * c .before .before .p .given .0 .0 .«constraint_l» ≡ list-need (parameters (c .before .before .before .before .before .before .before .before .before .before .args .job .now))
+  need-is : 2 * c .before .before .params .given .0 .0 .«constraint_l» ≡ list-need (parameters (c .before .before .before .before .before .before .before .before .before .before .args .job .now))
   need-is = ap (λ P. 2 * P .l) (fit .handed .same)
 
 returns : tie.Need-returns

@@ -11,7 +11,7 @@ work-and-clear-requires : tie.Need-work-and-clear-requires
 work-and-clear-requires c κs =
     let d = c .before .before .before .before .before in
     let a = d .before .before .before .before .before .before .args in
-    subst (λ x. At x (Provable (callOf (a .call)) (a .job .now) (a .randomness .now) (a .witness .now) (length (a .scratch .now)) (length (a .output .now)))) (c .before .before .before .p .given .1) (d .admit .ensures .1)
+    subst (λ x. At x (Provable (callOf (a .call)) (a .job .now) (a .randomness .now) (a .witness .now) (length (a .scratch .now)) (length (a .output .now)))) (c .before .before .before .params .given .1) (d .admit .ensures .1)
 
 returns : tie.Need-returns
 returns c =
@@ -30,7 +30,7 @@ returns-2 c =
     let k = c .before .before .before .before in
     let d = k .before .before .before .before .before .before in
     let a = d .before .before .before .before .before .before .args in
-    let e = sym (ap ofAdmitted (k .before .before .before .before .p .given .1)) ∙ d .admit .ensures .0 in
+    let e = sym (ap ofAdmitted (k .before .before .before .before .params .given .1)) ∙ d .admit .ensures .0 in
     record {
       answer = k .work-and-clear .ensures .0 ∙ worked-answer (callOf (a .call)) (a .job .now) (a .randomness .now) (a .witness .now) (a .scratch .now) (a .output .now) e;
       output-left = k .work-and-clear .ensures .1 .0 ∙ worked-output (callOf (a .call)) (a .job .now) (a .randomness .now) (a .witness .now) (a .scratch .now) (a .output .now) e;

@@ -18,7 +18,7 @@ of-parameters-requires : tie.Need-of-parameters-requires
 of-parameters-requires c κs =
     let k = c .before in
     let e = k .before .before .check .ensures in
-    fit-sized _ _ _ (e .0) (e .1) (k .p .given .1)
+    fit-sized _ _ _ (e .0) (e .1) (k .params .given .1)
 
 returns : tie.Need-returns
 unfolding ranges-refusal
@@ -37,8 +37,8 @@ returns-2 c =
     let s = k .before .before .before .before .args in
     let P = parameters (s .job .now) in
     let e = k .before .before .check .ensures in
-    let same = fit-same _ _ _ (e .0) (e .1) (k .p .given .1) in
-    let ok : fine ≡ job-refusal (s .job .now) = sym (ap ofAdmitted (k .p .given .1)) ∙ e .0 in
+    let same = fit-same _ _ _ (e .0) (e .1) (k .params .given .1) in
+    let ok : fine ≡ job-refusal (s .job .now) = sym (ap ofAdmitted (k .params .given .1)) ∙ e .0 in
     subst (λ a. Ranges P (s .lows .now) (s .highs .now) (a then pairs-refusal P (s .lows .now) (s .highs .now)) (c .of-parameters .result)) ok
     (subst (λ P. Ranges P (s .lows .now) (s .highs .now) (pairs-refusal P (s .lows .now) (s .highs .now)) (c .of-parameters .result)) same (c .of-parameters .ensures))
 

@@ -8,8 +8,8 @@ use Rattle.sizes.proofs.buffers.scratch_length.Statement.{statement}
 use Rattle.sizes.proofs.buffers.scratch_length.Tie as tie
 
 -- the bounds of the products
-bounds : (c : tie.After-triangle) → Products (parametersOf (c .before .args .p)) (c .triangle .result)
-bounds c = products (parametersOf (c .before .args .p)) (c .triangle .result) (c .before .pre) (c .triangle .ensures .1)
+bounds : (c : tie.After-triangle) → Products (parametersOf (c .before .args .params)) (c .triangle .result)
+bounds c = products (parametersOf (c .before .args .params)) (c .triangle .result) (c .before .pre) (c .triangle .ensures .1)
 
 returns : tie.Need-returns
 returns c = rw (c .triangle .ensures .0)

@@ -17,7 +17,7 @@ add-result : tie.Need-add-result
 add-result c =
     let t = c .before .job-sections .ensures in
     let e = ap (λ l. start l (c .before .before .args .m)) (t .lists) in
-    omega (arith, c .start .ensures, e, start-within (job-sections (parametersOf (c .before .before .args .p))) (c .before .before .args .m) (omega (arith, t .size)))
+    omega (arith, c .start .ensures, e, start-within (job-sections (parametersOf (c .before .before .args .params))) (c .before .before .args .m) (omega (arith, t .size)))
 
 returns : tie.Need-returns
 returns c = ap (λ n. 31 + n) (c .start .ensures ∙ ap (λ l. start l (c .before .before .args .m)) (c .before .job-sections .ensures .lists))

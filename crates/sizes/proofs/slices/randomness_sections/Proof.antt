@@ -14,13 +14,13 @@ use Rattle.sizes.proofs.slices.randomness_sections.Statement.{statement
 use Rattle.sizes.proofs.slices.randomness_sections.Tie as tie
 
 -- the bounds of the products
-bounds : (c : tie.Start) → Products (parametersOf (c .args .p)) 0
-bounds c = products (parametersOf (c .args .p)) 0 (c .pre .0) (omega arith)
+bounds : (c : tie.Start) → Products (parametersOf (c .args .params)) 0
+bounds c = products (parametersOf (c .args .params)) 0 (c .pre .0) (omega arith)
 
 returns : tie.Need-returns
 unfolding listed table
 returns c =
-    let P = parametersOf (c .args .p) in
+    let P = parametersOf (c .args .params) in
     is-table (sym (take-table (c .args .handed) 7 _ (c .pre .1))) (omega arith)
     (omega (arith, span-part (randomness-sections P) 0 (c .args .handed), randomness-spans P 0 (c .pre .0) (bounds c)))
 

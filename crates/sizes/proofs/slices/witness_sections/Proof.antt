@@ -11,8 +11,8 @@ use Rattle.sizes.proofs.slices.witness_sections.Statement.{statement}
 use Rattle.sizes.proofs.slices.witness_sections.Tie as tie
 
 -- the bounds of the products
-bounds : (c : tie.After-struct-known) → Products (parametersOf (c .before .args .p)) 0
-bounds c = products (parametersOf (c .before .args .p)) 0 (c .before .pre) (omega arith)
+bounds : (c : tie.After-struct-known) → Products (parametersOf (c .before .args .params)) 0
+bounds c = products (parametersOf (c .before .args .params)) 0 (c .before .pre) (omega arith)
 
 returns : tie.Need-returns
 unfolding listed table span

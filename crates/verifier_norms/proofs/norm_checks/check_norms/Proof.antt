@@ -58,7 +58,7 @@ returns-3 c =
     let s = k .before .before .before .before .before .before .before in
     let T = s .args .transcript .now in (
       c .check-norm-sum .ensures
-          ∙ check-23-is (parametersOf (s .args .p)) T (d .result) (d .ensures)
+          ∙ check-23-is (parametersOf (s .args .params)) T (d .result) (d .ensures)
           ∙ ap (λ (P : Parameters). norm-sum P T) (s .pre .posed .same)
           ∙ goes-on (k .check-constant-terms .result) (answer-22 k) (c .before .before .enum-told2 .given .1) (norm-sum (parameters (s .args .job .now)) T),
       λ passed. d .ensures,

@@ -13,7 +13,7 @@ work-requires : tie.Need-work-requires
 work-requires c κs =
     let k = c .before .before .before .before in
     let a = k .before .before .before .before .before .args in
-    subst (λ x. AtMany x (Many-given (a .job .now) (a .count) (length (a .scratch .now)))) (c .before .before .p .given .1) (k .admit .ensures .1)
+    subst (λ x. AtMany x (Many-given (a .job .now) (a .count) (length (a .scratch .now)))) (c .before .before .params .given .1) (k .admit .ensures .1)
 
 returns : tie.Need-returns
 returns c =
@@ -42,7 +42,7 @@ returns-3 : tie.Need-returns-3
 returns-3 c =
     let k = c .before .before .before .before .before .before .before in
     let a = k .before .before .before .before .before .args in
-    let e = sym (ap ofManyAdmitted (c .before .before .before .before .before .p .given .1)) ∙ k .admit .ensures .0 in
+    let e = sym (ap ofManyAdmitted (c .before .before .before .before .before .params .given .1)) ∙ k .admit .ensures .0 in
     let w = c .before .before .work .ensures in
     let v = verdicts-of (a .job .now) (a .count) (a .randomness .now) (a .transcripts .now) in
     record {
