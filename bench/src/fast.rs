@@ -6,7 +6,6 @@ use harness::rust;
 use library::ffi::{self, Element};
 use std::hint::black_box;
 
-#[cfg(kept_calls)]
 extern "C" {
     fn ntt_inner_product(a: Element, b: Element, n: u32) -> Element;
     fn fast_inner_product(a: Element, b: Element, n: u32) -> Element;
@@ -46,14 +45,12 @@ pub fn product(random: &mut Random) -> Kernel {
     })
 }
 
-#[cfg(kept_calls)]
 pub fn nothing_in_ntt_form(random: &mut Random) -> Kernel {
     against_products(random, TERMS, |a, b| {
         black_box(unsafe { fast_inner_product(*a, *b, TERMS as u32) });
     })
 }
 
-#[cfg(kept_calls)]
 pub fn both_in_ntt_form(random: &mut Random) -> Kernel {
     against_products(random, TERMS, |a, b| {
         black_box(unsafe { ntt_inner_product(*a, *b, TERMS as u32) });

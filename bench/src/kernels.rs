@@ -312,9 +312,7 @@ pub type Entry = (&'static str, fn(&mut Random) -> Kernel);
 pub const KERNELS: &[Entry] = &[
     ("element product", product),
     ("fast product", fast::product),
-    #[cfg(kept_calls)]
     ("fast inner product of 64, nothing in NTT form, a term", fast::nothing_in_ntt_form),
-    #[cfg(kept_calls)]
     ("fast inner product of 64, both sides in NTT form, a term", fast::both_in_ntt_form),
     ("product with a number, added to an accumulator", multiply_add),
     ("digits of an element, base 16, 8 parts", |random| digits(random, 16, 8)),

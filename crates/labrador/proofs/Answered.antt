@@ -2,13 +2,13 @@
 use mathlib.Core.Path.{_≡_, ap, _∙_}
 use mathlib.Core.List.{List}
 use Prim.Native.Nat.{ℕ}
-use Rattle.definitions.specs.declared.answers.Proved.{Proved}
-use Rattle.definitions.specs.Answer.{ofProved}
-use Rattle.admission.specs.declared.calls.Call.{Call}
-use Rattle.admission.specs.Admission.{callOf}
-use Rattle.call_answers.specs.declared.verdicts.LabradorAnswer.{LabradorAnswer}
-use Rattle.call_answers.specs.Calls.{labradorAnswer}
-use Rattle.call_answers.specs.Whole.{ProveCall}
+use Rattle.spec_leaves.specs.declared.answers.Proved.{Proved}
+use Rattle.spec_leaves.specs.Answer.{ofProved}
+use Rattle.admission_slices.specs.declared.calls.Call.{Call}
+use Rattle.admission_slices.specs.Admission.{callOf}
+use Rattle.api_answers.specs.declared.verdicts.LabradorAnswer.{LabradorAnswer}
+use Rattle.api_answers.specs.Calls.{labradorAnswer}
+use Rattle.api_answers.specs.Whole.{ProveCall}
 use Rattle.prover.specs.Proves.{Proves}
 
 -- a call of the prover

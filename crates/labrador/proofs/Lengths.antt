@@ -2,19 +2,19 @@
 use mathlib.Core.Path.{_≡_, sym, ap, _∙_}
 use mathlib.Core.List.{List}
 use Prim.Native.Nat.{ℕ}
-use Rattle.definitions.specs.declared.answers.Refusal.{Refusal}
-use Rattle.definitions.specs.Answer.{ofRefusal}
-use Rattle.protocol.specs.Parameters.{Parameters, parameters}
-use Rattle.protocol.specs.Layout.{job-refusal}
-use Rattle.relation.specs.declared.env_params.EnvironmentParameters.{EnvironmentParameters}
-use Rattle.relation.specs.Parameters.{parametersOf}
-use Rattle.admission.specs.declared.answers.Admitted.{Admitted}
-use Rattle.admission.specs.declared.answers.Admitted.the-variants as A
-use Rattle.admission.specs.Admission.{ofAdmitted, At}
-use Rattle.admission.proofs.Fit.{refusal-none, fit-same}
-use Rattle.call_answers.specs.declared.verdicts.LabradorAnswer.{LabradorAnswer}
-use Rattle.call_answers.specs.declared.verdicts.LabradorNeed.{LabradorNeed}
-use Rattle.call_answers.specs.Calls.{labradorAnswer, labradorNeed}
+use Rattle.spec_leaves.specs.declared.answers.Refusal.{Refusal}
+use Rattle.spec_leaves.specs.Answer.{ofRefusal}
+use Rattle.spec_protocol.specs.Parameters.{Parameters, parameters}
+use Rattle.spec_protocol.specs.Layout.{job-refusal}
+use Rattle.relation_env_params.specs.declared.env_params.EnvironmentParameters.{EnvironmentParameters}
+use Rattle.relation_env_params.specs.Parameters.{parametersOf}
+use Rattle.admission_slices.specs.declared.answers.Admitted.{Admitted}
+use Rattle.admission_slices.specs.declared.answers.Admitted.the-variants as A
+use Rattle.admission_slices.specs.Admission.{ofAdmitted, At}
+use Rattle.admission_slices.proofs.Fit.{refusal-none, fit-same}
+use Rattle.api_answers.specs.declared.verdicts.LabradorAnswer.{LabradorAnswer}
+use Rattle.api_answers.specs.declared.verdicts.LabradorNeed.{LabradorNeed}
+use Rattle.api_answers.specs.Calls.{labradorAnswer, labradorNeed}
 
 module _ (J : List ℕ) (x : Admitted) where
   -- the parameters of a job that is refused nothing

@@ -1,6 +1,6 @@
 -- The lengths that a load needs, or the refusal of its parameters with zeros.
-use Rattle.definitions.specs.Answer.{number, place, result}
-use Rattle.protocol.specs.Load.{Given, needs-refusal, job-need, witness-need, randomness-need}
+use Rattle.spec_leaves.specs.Answer.{number, place, result}
+use Rattle.spec_protocol.specs.Load.{Given, needs-refusal, job-need, witness-need, randomness-need}
 use Rattle.labrador.specs.declared.loads.LabradorLoadNeed.{LabradorLoadNeed}
 
 abbrev pub labradorLoadNeed : Given → LabradorLoadNeed

@@ -1,12 +1,12 @@
 // The exported calls on whole slices: the prover, its five rounds and the verifier.
-use admission::calls::Call;
-use call_answers::verdicts;
-use call_answers::verdicts::LabradorAnswer;
-use call_answers::verdicts::LabradorVerdict;
+use admission_slices::calls::Call;
+use api_answers::verdicts;
+use api_answers::verdicts::LabradorAnswer;
+use api_answers::verdicts::LabradorVerdict;
 use prover::prove;
 use verifier::verify;
-ghost use Rattle.protocol.specs.Prover.{whole, round₁, round₂, round₃, round₄, round₅};
-ghost use Rattle.call_answers.specs.Whole.{ProveCall, VerifyCall};
+ghost use Rattle.spec_protocol.specs.Prover.{whole, round₁, round₂, round₃, round₄, round₅};
+ghost use Rattle.api_answers.specs.Whole.{ProveCall, VerifyCall};
 
 // The whole transcript.
 #[no_mangle]

@@ -1,16 +1,16 @@
 // The exported calls on the digits of an element.
-use leaf_answers::answers;
-use leaf_answers::answers::ElementAnswer;
-use leaf_answers::answers::Status;
-use leaf_answers::digits::rq_digit_operands;
-use rq::rq::Rq;
-use rq_digits::digits;
+use api_leaf_answers::answers;
+use api_leaf_answers::answers::ElementAnswer;
+use api_leaf_answers::answers::Status;
+use api_leaf_answers::digits::rq_digit_operands;
+use ring_rq::rq::Rq;
+use ring_rq_digits::digits;
 ghost use mathlib.Core.Path.{_≡_};
 ghost use lib.ListN.{length};
-ghost use Rattle.definitions.specs.Leaf.{digitOperands};
-ghost use Rattle.definitions.specs.Rq.{leftRow};
-ghost use Rattle.leaf_answers.specs.Answers.{statusOf, elementAnswer};
-ghost use Rattle.leaf_answers.specs.Rows.{wordsFound, wordsWritten};
+ghost use Rattle.spec_leaves.specs.Leaf.{digitOperands};
+ghost use Rattle.spec_leaves.specs.Rq.{leftRow};
+ghost use Rattle.api_leaf_answers.specs.Answers.{statusOf, elementAnswer};
+ghost use Rattle.api_leaf_answers.specs.Rows.{wordsFound, wordsWritten};
 
 // The digits of an element, written into the first 2048 words of a lent slice.
 #[no_mangle]
@@ -18,7 +18,7 @@ pub extern "C" fn labrador_rq_digits(base: u32, parts: u32, a: Rq, out: &mut [u3
     ensures { λ r. ⌜ r ≡ statusOf (wordsFound base parts (a .coeffs) (length (now (out .entry)))) ⌝ }
     ensures { λ _. ⌜ now (out .exit) ≡ wordsWritten base parts (a .coeffs) (now (out .entry)) ⌝ }
 {
-    leaf_answers::digits::rq_digits(base, parts, a, out)
+    api_leaf_answers::digits::rq_digits(base, parts, a, out)
 }
 
 // The size left over of each coefficient after its digits (document 02, Item 5).

@@ -1,18 +1,18 @@
 // The exported calls on ring elements.
-use fast_product::product;
-use leaf_answers::answers;
-use leaf_answers::answers::ElementAnswer;
-use leaf_answers::answers::NormAnswer;
-use leaf_answers::challenge::challenge_of;
-use operands::leaf;
-use rq::rq::Rq;
-use zq::zq::Zq;
+use api_leaf_answers::answers;
+use api_leaf_answers::answers::ElementAnswer;
+use api_leaf_answers::answers::NormAnswer;
+use api_leaf_answers::challenge::challenge_of;
+use api_operands::leaf;
+use ntt_product::product;
+use ring_rq::rq::Rq;
+use ring_zq::zq::Zq;
 ghost use mathlib.Core.Path.{_≡_};
 ghost use mathlib.Core.List.{[], _∷_, _++_};
-ghost use Rattle.definitions.specs.Rq.{radd, rsub, rmul, rscale, rconj};
-ghost use Rattle.definitions.specs.Norm.{norm};
-ghost use Rattle.definitions.specs.Leaf.{canonicalWords};
-ghost use Rattle.leaf_answers.specs.Answers.{elementAnswer, normAnswer, challengeAnswer};
+ghost use Rattle.spec_leaves.specs.Rq.{radd, rsub, rmul, rscale, rconj};
+ghost use Rattle.spec_leaves.specs.Norm.{norm};
+ghost use Rattle.spec_leaves.specs.Leaf.{canonicalWords};
+ghost use Rattle.api_leaf_answers.specs.Answers.{elementAnswer, normAnswer, challengeAnswer};
 
 // The sum of two elements.
 #[no_mangle]

@@ -1,8 +1,8 @@
 // The exported calls that make a test load (document 02, Item 1).
-use call_answers::verdicts;
-use call_answers::verdicts::LabradorAnswer;
+use api_answers::verdicts;
+use api_answers::verdicts::LabradorAnswer;
+use layout_section_one::SectionOne;
 use load_needs::LabradorParameters;
-use section_one::SectionOne;
 ghost use mathlib.Core.Path.{_≡_};
 ghost use Rattle.load_needs.specs.Given.{given};
 ghost use Rattle.load.specs.Call.{LoadCall};

@@ -1,13 +1,13 @@
 // The lengths that a caller must lend.
-use admission::answers::Admitted;
-use admission::job;
-use call_answers::verdicts;
-use call_answers::verdicts::LabradorNeed;
-use sizes::buffers;
+use admission_slices::answers::Admitted;
+use admission_slices::job;
+use api_answers::verdicts;
+use api_answers::verdicts::LabradorNeed;
+use layout_sizes::buffers;
 ghost use mathlib.Core.Path.{_≡_};
-ghost use Rattle.protocol.specs.Parameters.{parameters};
-ghost use Rattle.protocol.specs.Layout.{span, transcript-sections, job-refusal, scratch-need};
-ghost use Rattle.call_answers.specs.Calls.{labradorNeed};
+ghost use Rattle.spec_protocol.specs.Parameters.{parameters};
+ghost use Rattle.spec_protocol.specs.Layout.{span, transcript-sections, job-refusal, scratch-need};
+ghost use Rattle.api_answers.specs.Calls.{labradorNeed};
 
 // The words of scratch that a call with this job needs.
 #[no_mangle]

@@ -1,19 +1,19 @@
 // The exported calls on numbers modulo Q.
-use leaf_answers::answers;
-use leaf_answers::answers::CentreAnswer;
-use leaf_answers::answers::DigitsAnswer;
-use leaf_answers::answers::WordAnswer;
-use operands::leaf;
-use transcript::projection;
-use zq::digits;
-use zq::zq::Zq;
+use api_leaf_answers::answers;
+use api_leaf_answers::answers::CentreAnswer;
+use api_leaf_answers::answers::DigitsAnswer;
+use api_leaf_answers::answers::WordAnswer;
+use api_operands::leaf;
+use ring_zq::digits;
+use ring_zq::zq::Zq;
+use transcript_words::projection;
 ghost use mathlib.Core.Path.{_≡_};
 ghost use mathlib.Core.List.{[], _∷_};
-ghost use Rattle.definitions.specs.Zq.{zadd, zsub, zneg, zmul, centre};
-ghost use Rattle.definitions.specs.Digits.{decomposed};
-ghost use Rattle.definitions.specs.Projection.{entry};
-ghost use Rattle.definitions.specs.Leaf.{canonicalWords, digitOperands};
-ghost use Rattle.leaf_answers.specs.Answers.{wordAnswer, centreAnswer, digitsAnswer};
+ghost use Rattle.spec_leaves.specs.Zq.{zadd, zsub, zneg, zmul, centre};
+ghost use Rattle.spec_leaves.specs.Digits.{decomposed};
+ghost use Rattle.spec_leaves.specs.Projection.{entry};
+ghost use Rattle.spec_leaves.specs.Leaf.{canonicalWords, digitOperands};
+ghost use Rattle.api_leaf_answers.specs.Answers.{wordAnswer, centreAnswer, digitsAnswer};
 
 // The sum of two numbers.
 #[no_mangle]

@@ -1,11 +1,11 @@
 // The exported calls on digits that are put together again (document 02, Item 2).
-use leaf_answers::answers;
-use leaf_answers::answers::WordAnswer;
-use recompose::found;
-use recompose::parts;
-use recompose::sum;
+use api_leaf_answers::answers;
+use api_leaf_answers::answers::WordAnswer;
+use api_recompose::found;
+use api_recompose::parts;
+use api_recompose::sum;
 ghost use mathlib.Core.Path.{_≡_};
-ghost use Rattle.leaf_answers.specs.Recomposed.{recomposeAnswer, PartsAnswer};
+ghost use Rattle.api_leaf_answers.specs.Recomposed.{recomposeAnswer, PartsAnswer};
 
 // The value of digits in a base, lowest first.
 #[no_mangle]

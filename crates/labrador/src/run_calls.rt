@@ -1,8 +1,8 @@
 // The exported calls on runs of witness vectors (document 02, Item 10).
-use call_answers::verdicts::LabradorAnswer;
-ghost use Rattle.run_projection.specs.Call.{PCall};
-ghost use Rattle.run_rows.specs.Call.{RowsCall};
-ghost use Rattle.run_sums.specs.Call.{AddCall};
+use api_answers::verdicts::LabradorAnswer;
+ghost use Rattle.shed_projection.specs.Call.{PCall};
+ghost use Rattle.shed_rows.specs.Call.{RowsCall};
+ghost use Rattle.shed_sums.specs.Call.{AddCall};
 
 // The p of the witness vectors from `first` up to `end`, from their projection words.
 #[no_mangle]
@@ -17,7 +17,7 @@ pub extern "C" fn labrador_shed_projection(
 ) -> LabradorAnswer
     ensures { λ r. ⌜ PCall (now (job .entry)) first end (now (projection .entry)) (now (vectors .entry)) (now (scratch .entry)) (now (output .entry)) (now (scratch .exit)) (now (output .exit)) r ⌝ }
 {
-    run_projection::project(
+    shed_projection::project(
         job,
         first as usize,
         end as usize,
@@ -40,7 +40,7 @@ pub extern "C" fn labrador_shed_rows(
 ) -> LabradorAnswer
     ensures { λ r. ⌜ RowsCall (now (job .entry)) first end (now (vectors .entry)) (now (scratch .entry)) (now (output .entry)) (now (scratch .exit)) (now (output .exit)) r ⌝ }
 {
-    run_rows::rows(job, first as usize, end as usize, vectors, scratch, output)
+    shed_rows::rows(job, first as usize, end as usize, vectors, scratch, output)
 }
 
 // Two p added.
@@ -52,5 +52,5 @@ pub extern "C" fn labrador_add_projections(
 ) -> LabradorAnswer
     ensures { λ r. ⌜ AddCall (now (p .entry)) (now (other .entry)) (now (output .entry)) (now (output .exit)) r ⌝ }
 {
-    run_sums::add(p, other, output)
+    shed_sums::add(p, other, output)
 }

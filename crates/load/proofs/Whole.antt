@@ -3,13 +3,14 @@ use mathlib.Core.Path.{_≡_, sym, ap, ap₂, subst, _∙_}
 use mathlib.Core.List.{List, _∷_}
 use Prim.Native.Nat.{ℕ, _≤_, _<_, _^_}
 use lib.ListN.{length}
-use Rattle.lists.specs.Part.{splice}
-use Rattle.lists.proofs.Splice.{length-splice}
-use Rattle.protocol.specs.Parameters.{Parameters}
-use Rattle.protocol.specs.Layout.{span, sections, witness-sections, randomness-sections}
-use Rattle.protocol.specs.Load.{Given, section-one, load-parameters, load-job-sections, drawn, after, witness-rules, randomness-rules, after-job, load-job, load-witness, load-randomness, blank-job, job-need, witness-need, randomness-need}
-use Rattle.protocol.proofs.Sections.{length-sections}
-use Rattle.protocol.proofs.LoadJob.{whole-filled, job-made, job-made-filled, witness-filled, randomness-filled}
+use Rattle.math.specs.lists.Part.{splice}
+use Rattle.math.proofs.lists.Splice.{length-splice}
+use Rattle.spec_protocol.specs.Parameters.{Parameters}
+use Rattle.spec_protocol.specs.Layout.{span, sections, witness-sections, randomness-sections}
+use Rattle.spec_protocol.specs.Load.{Given, section-one, load-parameters, load-job-sections, drawn, after, witness-rules, randomness-rules, after-job, load-job}
+use Rattle.spec_protocol.specs.Load.{load-witness, load-randomness, blank-job, job-need, witness-need, randomness-need}
+use Rattle.spec_protocol.proofs.Sections.{length-sections}
+use Rattle.spec_protocol.proofs.LoadJob.{whole-filled, job-made, job-made-filled, witness-filled, randomness-filled}
 use Rattle.load.specs.Sums.{Blank, sums-of}
 use Rattle.load.proofs.Finish.{finished}
 
@@ -22,7 +23,8 @@ pub blank-unchanged : (P Q : Parameters) (J K : List ℕ) → P ≡ Q → J ≡ 
 blank-unchanged P Q J K same e h = subst (λ P. Blank P J) (sym same) (subst (Blank Q) (sym e) h)
 
 module _ (G : Given) (seed : ℕ) (P : Parameters) where
-  pub witness-is : (x : ℕ) (l now : List ℕ) → P ≡ load-parameters G → x ≡ after-job G seed → now ≡ splice l 0 (sections (drawn x witness-rules (witness-sections P))) → now ≡ splice l 0 (load-witness G seed)
+  pub witness-is : (x : ℕ) (l now : List ℕ) → P ≡ load-parameters G → x ≡ after-job G seed → now ≡ splice l 0 (sections (drawn x witness-rules (witness-sections P)))
+      → now ≡ splice l 0 (load-witness G seed)
   unfolding load-witness
   witness-is x l now same e h = h ∙ ap₂ (λ y Q. splice l 0 (sections (drawn y witness-rules (witness-sections Q)))) e same
 

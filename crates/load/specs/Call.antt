@@ -3,9 +3,9 @@ use mathlib.Core.Path.{_≡_}
 use mathlib.Core.List.{List}
 use Prim.Native.Nat.{ℕ}
 use lib.ListN.{length}
-use Rattle.protocol.specs.Load.{Given, load-refusal}
-use Rattle.call_answers.specs.declared.verdicts.LabradorAnswer.{LabradorAnswer}
-use Rattle.call_answers.specs.Calls.{labradorAnswer}
+use Rattle.spec_protocol.specs.Load.{Given, load-refusal}
+use Rattle.api_answers.specs.declared.verdicts.LabradorAnswer.{LabradorAnswer}
+use Rattle.api_answers.specs.Calls.{labradorAnswer}
 use Rattle.load.specs.Exit.{job-exit, witness-exit, randomness-exit}
 
 -- `labrador_load`

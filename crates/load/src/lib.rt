@@ -1,23 +1,23 @@
 // A test load: job, witness and randomness from twelve parameters and a seed (document 02, Items 1 and 6).
-use admission::answers::Admitted;
-use definitions::answers::Proved;
+use admission_slices::answers::Admitted;
+use layout_sizes::names;
+use layout_sizes::offsets;
+use layout_sizes::slices;
+use load_constraints::sums::Target;
 use load_draw::Rule;
 use load_needs::LabradorParameters;
-use load_sums::Target;
-use relation::env_params::EnvironmentParameters;
-use sizes::names;
-use sizes::offsets;
-use sizes::slices;
+use relation_env_params::env_params::EnvironmentParameters;
+use spec_leaves::answers::Proved;
 ghost use mathlib.Core.Path.{_≡_};
 ghost use Prim.Native.Nat.{_+_, _≤_};
 ghost use lib.ListN.{length};
-ghost use Rattle.lists.specs.Part.{splice};
-ghost use Rattle.definitions.specs.Answer.{ofProved};
-ghost use Rattle.protocol.specs.Layout.{span, sections, witness-sections, randomness-sections};
-ghost use Rattle.protocol.specs.Load.{load-refusal, load-job, load-witness, load-randomness, blank-job, after-job, drawn, after};
-ghost use Rattle.protocol.specs.Load.{witness-rules, randomness-rules, job-need, witness-need, randomness-need};
-ghost use Rattle.relation.specs.Parameters.{parametersOf};
-ghost use Rattle.sizes.specs.Sizes.{Sized};
+ghost use Rattle.math.specs.lists.Part.{splice};
+ghost use Rattle.spec_leaves.specs.Answer.{ofProved};
+ghost use Rattle.spec_protocol.specs.Layout.{span, sections, witness-sections, randomness-sections};
+ghost use Rattle.spec_protocol.specs.Load.{load-refusal, load-job, load-witness, load-randomness, blank-job, after-job, drawn, after};
+ghost use Rattle.spec_protocol.specs.Load.{witness-rules, randomness-rules, job-need, witness-need, randomness-need};
+ghost use Rattle.relation_env_params.specs.Parameters.{parametersOf};
+ghost use Rattle.layout_sizes.specs.Sizes.{Sized};
 ghost use Rattle.load_needs.specs.Given.{given, Ready};
 ghost use Rattle.load.specs.Sums.{Blank, sums-of};
 ghost use Rattle.load.specs.Exit.{job-exit, witness-exit, randomness-exit, witness-drawn};
@@ -28,7 +28,7 @@ fn draw_job(g: LabradorParameters, params: EnvironmentParameters, seed: u32, job
     ensures { λ r. ⌜ (now (job .exit) ≡ splice (now (job .entry)) 0 (blank-job (given g) seed)) × (r ≡ after-job (given g) seed) ⌝ }
 {
     let one = load_needs::section_one_words(g);
-    words::copy(job, 0, &one, 0, 31);
+    ring_words::copy(job, 0, &one, 0, 31);
     let rules = [
         Rule::Word,
         Rule::Word,

@@ -1,15 +1,18 @@
 // The left sides of all constraints of a job, added up where b0 and b stand: each ⟨s_i, s_j⟩ is worked out once and weighed into every constraint.
-use load_products;
-use load_sums::Target;
-use rq::rq::Rq;
-use rq_matrix::vector_at;
+pub mod products;
+pub mod sums;
+
+use crate::sums::Target;
+use ring_rq::rq::Rq;
+use ring_rq_matrix::triangles;
+use ring_rq_matrix::vector_at;
 ghost use mathlib.Core.Path.{_≡_};
 ghost use Prim.Native.Nat.{_+_, _*_, _≤_, _<_};
 ghost use lib.ListN.{length};
-ghost use Rattle.definitions.specs.Ring.{words};
-ghost use Rattle.inner_product.specs.Run.{run};
-ghost use Rattle.protocol.specs.Parameters.{triangular};
-ghost use Rattle.load_sums.specs.Sums.{Placed, Reduced, terms, plus};
+ghost use Rattle.spec_leaves.specs.Ring.{words};
+ghost use Rattle.ring_inner_product.specs.Run.{run};
+ghost use Rattle.spec_protocol.specs.Parameters.{triangular};
+ghost use Rattle.load_constraints.specs.Sums.{Placed, Reduced, terms, plus};
 ghost use Rattle.load_constraints.specs.Terms.{plus-both, weight-of, rows-of, left-of};
 
 // What cell (i, j) of a triangle is multiplied with, j at most i: ⟨s_i, s_j⟩, twice off the diagonal.
@@ -19,7 +22,7 @@ fn weight(s: &[u32], s_at: usize, n: usize, i: usize, j: usize) -> Rq
 {
     let s_i = vector_at(s_at, n, i);
     let s_j = vector_at(s_at, n, j);
-    let product = inner_product::inner_product(s, s_i, 64, s, s_j, 64, n);
+    let product = ring_inner_product::inner_product(s, s_i, 64, s, s_j, 64, n);
     if j < i { product.add(product) } else { product }
 }
 
@@ -42,7 +45,7 @@ fn add_row(
     let mut j = 0;
     while j <= i {
         let w = weight(s, s_at, n, i, j);
-        load_sums::add_term(job, t, base0, base, m, row + j, w);
+        sums::add_term(job, t, base0, base, m, row + j, w);
         j += 1;
     }
 }
@@ -86,7 +89,15 @@ fn add_terms(
 {
     let mut e = 0;
     while e < m {
-        load_sums::add_term(job, t, base0, base, m, e, words::load(s, s_at + 64 * e));
+        sums::add_term(
+            job,
+            t,
+            base0,
+            base,
+            m,
+            e,
+            ring_words::load(s, s_at + 64 * e),
+        );
         e += 1;
     }
 }
@@ -107,7 +118,7 @@ fn add_line(job: &mut [u32], t: Target, base0: usize, base: usize, m: usize, s: 
         k: 0,
     };
     add_terms(job, numbers, base0, base, m, s, s_at);
-    load_products::add_products(job, base, m, b_at, k, s, s_at);
+    products::add_products(job, base, m, b_at, k, s, s_at);
 }
 
 // Both: triangles from `a0` and `a` on, vectors from `phi0` and `phi` on.

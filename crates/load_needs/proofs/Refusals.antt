@@ -4,23 +4,23 @@ use mathlib.Core.List.{List, _++_}
 use Prim.Native.Nat.{ℕ, _≤_, _<_}
 use native.Mathlib.Decide.{decLe}
 use native.Mathlib.Omega.{arith}
-use Rattle.definitions.specs.Answer.{fine, refused, _then_}
-use Rattle.protocol.specs.Checks.{require}
-use Rattle.protocol.specs.Parameters.{parameters, limits}
-use Rattle.protocol.specs.Layout.{counted, first-section, job-sections, witness-sections, randomness-sections, output-refusal}
-use Rattle.protocol.specs.Load.{Given, load-parameters, needs-refusal, load-refusal, job-need, witness-need, randomness-need}
-use Rattle.protocol.proofs.Fine.{require-holds, require-fails, required, refused-not-fine, then-fine-left, then-fine-right}
-use Rattle.protocol.proofs.Then.{then-assoc}
-use Rattle.relation.specs.declared.env_params.EnvironmentParameters.{EnvironmentParameters}
-use Rattle.section_one.specs.declared.SectionOne.{SectionOne}
-use Rattle.section_one.specs.declared.SectionOne.the-variants as S
-use Rattle.relation.specs.Parameters.{parametersOf}
-use Rattle.section_one.specs.SectionOne.{section-one, ofSectionOne, Reads}
-use Rattle.section_one.proofs.Limits.{sound}
-use Rattle.sizes.proofs.Sized.{sized}
-use Rattle.admission.specs.declared.answers.Admitted.{Admitted}
-use Rattle.admission.specs.declared.answers.Admitted.the-variants as A
-use Rattle.admission.specs.Admission.{At}
+use Rattle.spec_leaves.specs.Answer.{fine, refused, _then_}
+use Rattle.spec_protocol.specs.Checks.{require}
+use Rattle.spec_protocol.specs.Parameters.{parameters, limits}
+use Rattle.spec_protocol.specs.Layout.{counted, first-section, job-sections, witness-sections, randomness-sections, output-refusal}
+use Rattle.spec_protocol.specs.Load.{Given, load-parameters, needs-refusal, load-refusal, job-need, witness-need, randomness-need}
+use Rattle.spec_protocol.proofs.Fine.{require-holds, require-fails, required, refused-not-fine, then-fine-left, then-fine-right}
+use Rattle.spec_protocol.proofs.Then.{then-assoc}
+use Rattle.relation_env_params.specs.declared.env_params.EnvironmentParameters.{EnvironmentParameters}
+use Rattle.layout_section_one.specs.declared.SectionOne.{SectionOne}
+use Rattle.layout_section_one.specs.declared.SectionOne.the-variants as S
+use Rattle.relation_env_params.specs.Parameters.{parametersOf}
+use Rattle.layout_section_one.specs.SectionOne.{section-one, ofSectionOne, Reads}
+use Rattle.layout_section_one.proofs.Limits.{sound}
+use Rattle.layout_sizes.proofs.Sized.{sized}
+use Rattle.admission_slices.specs.declared.answers.Admitted.{Admitted}
+use Rattle.admission_slices.specs.declared.answers.Admitted.the-variants as A
+use Rattle.admission_slices.specs.Admission.{At}
 use Rattle.load_needs.specs.Given.{one-of, fits-refusal, Ready, Unchanged}
 
 module _ (lent need : ℕ) {needed : ℕ} (e : need ≡ needed) where

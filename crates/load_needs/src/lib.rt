@@ -1,18 +1,18 @@
 // The parameters of a test load, what is refused of them, and the lengths that the three buffers need (document 02, Item 1).
-use admission::answers::Admitted;
-use definitions::answers::Refusal;
-use layout::sections;
-use relation::env_params::EnvironmentParameters;
-use section_one::SectionOne;
-use sizes::slices;
+use admission_slices::answers::Admitted;
+use layout_section_one::SectionOne;
+use layout_sections::sections;
+use layout_sizes::slices;
+use relation_env_params::env_params::EnvironmentParameters;
+use spec_leaves::answers::Refusal;
 ghost use mathlib.Core.Path.{_≡_};
 ghost use mathlib.Core.List.{_∷_};
 ghost use Prim.Native.Nat.{_<_, _^_};
-ghost use Rattle.protocol.specs.Load.{load-refusal, needs-refusal};
-ghost use Rattle.relation.specs.Parameters.{parametersOf};
-ghost use Rattle.section_one.specs.SectionOne.{ofSectionOne, Reads};
-ghost use Rattle.sizes.specs.Sizes.{Sized};
-ghost use Rattle.admission.specs.Admission.{ofAdmitted, At};
+ghost use Rattle.spec_protocol.specs.Load.{load-refusal, needs-refusal};
+ghost use Rattle.relation_env_params.specs.Parameters.{parametersOf};
+ghost use Rattle.layout_section_one.specs.SectionOne.{ofSectionOne, Reads};
+ghost use Rattle.layout_sizes.specs.Sizes.{Sized};
+ghost use Rattle.admission_slices.specs.Admission.{ofAdmitted, At};
 ghost use Rattle.load_needs.specs.Given.{given, one-of, Lengths, fits-refusal, Ready, Unchanged};
 
 // "From eleven parameters", with L the twelfth: in section one's order.
@@ -84,7 +84,7 @@ pub fn read(g: LabradorParameters) -> SectionOne
     ensures { λ r. ⌜ (ofSectionOne r ≡ needs-refusal (given g)) × Reads (one-of (given g)) r ⌝ }
 {
     let words = section_one_words(g);
-    section_one::read(&words)
+    layout_section_one::read(&words)
 }
 
 pub fn lengths(params: EnvironmentParameters) -> Needs

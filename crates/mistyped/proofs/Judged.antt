@@ -6,15 +6,15 @@ use native.Mathlib.Nat.{zero-add}
 use native.Mathlib.Omega.{arith}
 use lib.ListN.{length, drop, replicate, length-replicate, replicate-append-replicate}
 use lib.Seq.{drop-at, drop-append-le}
-use Rattle.lists.specs.Part.{splice}
-use Rattle.lists.proofs.Splice.{splice-eq, splice-nil, length-splice}
-use Rattle.definitions.specs.Answer.{Answer, fine, accepted, refused, failed, number, result}
-use Rattle.protocol.specs.Parameters.{parameters}
-use Rattle.protocol.specs.Views.{public, message}
-use Rattle.protocol.specs.Mistyped.{Entry, Listed, judged, some-entry, verdict-of, entry-words, written, list-need}
-use Rattle.relation.specs.declared.env_params.EnvironmentParameters.{EnvironmentParameters}
+use Rattle.math.specs.lists.Part.{splice}
+use Rattle.math.proofs.lists.Splice.{splice-eq, splice-nil, length-splice}
+use Rattle.spec_leaves.specs.Answer.{Answer, fine, accepted, refused, failed, number, result}
+use Rattle.spec_protocol.specs.Parameters.{parameters}
+use Rattle.spec_protocol.specs.Views.{public, message}
+use Rattle.spec_protocol.specs.Mistyped.{Entry, Listed, judged, some-entry, verdict-of, entry-words, written, list-need}
+use Rattle.relation_env_params.specs.declared.env_params.EnvironmentParameters.{EnvironmentParameters}
 use Rattle.verifier_common.specs.Work.{Sent}
-use Rattle.mistyped_list.proofs.Words.{length-words}
+use Rattle.mistyped_solve.proofs.Words.{length-words}
 use Rattle.mistyped_entries.specs.Entered.{Entered}
 use Rattle.mistyped.specs.declared.answers.MistypedAnswer.{MistypedAnswer}
 use Rattle.mistyped.specs.Told.{mistypedAnswer, countedAnswer, kept, Judged, Worked}

@@ -3,12 +3,12 @@ use mathlib.Core.Path.{_≡_}
 use mathlib.Core.List.{List, []}
 use Prim.Native.Nat.{ℕ, zero, suc, _≤_}
 use lib.ListN.{length}
-use Rattle.lists.specs.Part.{splice}
-use Rattle.definitions.specs.Answer.{Answer, fine, refused, number, place, result}
-use Rattle.protocol.specs.Parameters.{parameters}
-use Rattle.protocol.specs.Views.{public, message}
-use Rattle.protocol.specs.Mistyped as M
-use Rattle.protocol.specs.Mistyped.{Entry, Listed, mistyped-refusal, mistyped-list, mistyped-scratch, verdict-of, judged, written, entry-words, list-need}
+use Rattle.math.specs.lists.Part.{splice}
+use Rattle.spec_leaves.specs.Answer.{Answer, fine, refused, number, place, result}
+use Rattle.spec_protocol.specs.Parameters.{parameters}
+use Rattle.spec_protocol.specs.Views.{public, message}
+use Rattle.spec_protocol.specs.Mistyped as M
+use Rattle.spec_protocol.specs.Mistyped.{Entry, Listed, mistyped-refusal, mistyped-list, mistyped-scratch, verdict-of, judged, written, entry-words, list-need}
 use Rattle.mistyped.specs.declared.answers.MistypedAnswer.{MistypedAnswer}
 
 -- a refusal's number and place, or how many entries there are: "the answer gives how many entries there are"

@@ -1,20 +1,20 @@
 // The call for every input.
 use crate::answers;
 use crate::answers::MistypedAnswer;
-use admission::answers::Admitted;
-use definitions::answers::FailedCheck;
-use definitions::answers::Verdict;
-use relation::env_params::EnvironmentParameters;
+use admission_slices::answers::Admitted;
+use relation_env_params::env_params::EnvironmentParameters;
+use spec_leaves::answers::FailedCheck;
+use spec_leaves::answers::Verdict;
 use verifier::verify;
 ghost use mathlib.Core.Path.{_≡_};
 ghost use Prim.Native.Nat.{_*_, _≤_};
 ghost use lib.ListN.{length};
-ghost use Rattle.definitions.specs.Answer.{ofVerdict, ofFailed};
-ghost use Rattle.protocol.specs.Parameters.{parameters};
-ghost use Rattle.protocol.specs.Layout.{scratch-need};
-ghost use Rattle.protocol.specs.Prover.{zeroed};
-ghost use Rattle.protocol.specs.Mistyped.{verdict-of, list-need};
-ghost use Rattle.admission.specs.Admission.{Verifiable};
+ghost use Rattle.spec_leaves.specs.Answer.{ofVerdict, ofFailed};
+ghost use Rattle.spec_protocol.specs.Parameters.{parameters};
+ghost use Rattle.spec_protocol.specs.Layout.{scratch-need};
+ghost use Rattle.spec_protocol.specs.Prover.{zeroed};
+ghost use Rattle.spec_protocol.specs.Mistyped.{verdict-of, list-need};
+ghost use Rattle.admission_slices.specs.Admission.{Verifiable};
 ghost use Rattle.verifier_common.specs.Work.{Sent};
 ghost use Rattle.mistyped.specs.Told.{Judged, Worked, MistypedCall};
 
@@ -71,7 +71,7 @@ fn work(
     ensures { λ r. ⌜ Worked (now (job .entry)) (now (randomness .entry)) (now (transcript .entry)) (now (list .entry)) (now (list .exit)) r ⌝ }
     ensures { λ r. ⌜ now (scratch .exit) ≡ zeroed (scratch-need (parameters (now (job .entry)))) (now (scratch .entry)) ⌝ }
 {
-    words::clear(list, 2 * params.constraint_l);
+    ring_words::clear(list, 2 * params.constraint_l);
     let verdict = verify::work_and_clear(job, randomness, transcript, params, scratch);
     judge(job, randomness, transcript, params, verdict, list)
 }

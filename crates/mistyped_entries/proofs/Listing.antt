@@ -7,26 +7,26 @@ use native.Mathlib.Nat.{eq-or-lt-of-le, le-of-suc-le-suc}
 use native.Mathlib.Numerals.{add-one}
 use native.Mathlib.Omega.{arith}
 use lib.ListN.{length, getD}
-use Rattle.lists.specs.Part.{splice}
-use Rattle.lists.proofs.Splice.{length-splice, splice-nil}
-use Rattle.lists.proofs.Padded.{padded-below}
-use Rattle.definitions.specs.Zq.{Q}
-use Rattle.protocol.specs.Parameters.{parameters}
-use Rattle.protocol.specs.Layout.{start, randomness-sections}
-use Rattle.protocol.specs.Views.{Public, Message, public, message}
-use Rattle.protocol.specs.Mistyped.{Entry, Ordered, Listed, Mends, Smallest, entry-words}
-use Rattle.protocol.proofs.Mistyped as Mistyped
-use Rattle.protocol.proofs.Mistyped.{passes-supplies, supplies-passes}
-use Rattle.protocol.proofs.MistypedList.{before-other}
-use Rattle.relation.specs.declared.env_params.EnvironmentParameters.{EnvironmentParameters}
-use Rattle.relation.specs.Parameters.{parametersOf}
-use Rattle.congruence.specs.declared.Solution.{Solution}
-use Rattle.congruence.specs.declared.Solution.the-variants as S
-use Rattle.congruence.specs.Congruence.{Found}
-use Rattle.mistyped_rows.specs.Rows.{Supplies}
-use Rattle.mistyped_list.specs.Insert.{entry, insert}
-use Rattle.mistyped_list.proofs.Inserted.{length-insert, insert-from, insert-to, insert-ordered}
-use Rattle.mistyped_list.proofs.Words.{insert-stored}
+use Rattle.math.specs.lists.Part.{splice}
+use Rattle.math.proofs.lists.Splice.{length-splice, splice-nil}
+use Rattle.math.proofs.lists.Padded.{padded-below}
+use Rattle.spec_leaves.specs.Zq.{Q}
+use Rattle.spec_protocol.specs.Parameters.{parameters}
+use Rattle.spec_protocol.specs.Layout.{start, randomness-sections}
+use Rattle.spec_protocol.specs.Views.{Public, Message, public, message}
+use Rattle.spec_protocol.specs.Mistyped.{Entry, Ordered, Listed, Mends, Smallest, entry-words}
+use Rattle.spec_protocol.proofs.Mistyped as Mistyped
+use Rattle.spec_protocol.proofs.Mistyped.{passes-supplies, supplies-passes}
+use Rattle.spec_protocol.proofs.MistypedList.{before-other}
+use Rattle.relation_env_params.specs.declared.env_params.EnvironmentParameters.{EnvironmentParameters}
+use Rattle.relation_env_params.specs.Parameters.{parametersOf}
+use Rattle.mistyped_solve.specs.declared.congruence.Solution.{Solution}
+use Rattle.mistyped_solve.specs.declared.congruence.Solution.the-variants as S
+use Rattle.mistyped_solve.specs.Congruence.{Found}
+use Rattle.mistyped_solve.specs.Rows.{Supplies}
+use Rattle.mistyped_solve.specs.Insert.{entry, insert}
+use Rattle.mistyped_solve.proofs.Inserted.{length-insert, insert-from, insert-to, insert-ordered}
+use Rattle.mistyped_solve.proofs.Words.{insert-stored}
 use Rattle.verifier_common.specs.Work.{Sent}
 use Rattle.mistyped_entries.specs.Lacking.{all-lacking}
 use Rattle.mistyped_entries.specs.Entered.{entered-count, entered-list, Entered}

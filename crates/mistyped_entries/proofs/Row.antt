@@ -5,14 +5,14 @@ use Prim.Native.Nat.{ℕ, _+_, _*_, _≤_, _<_}
 use native.Mathlib.Nat.{mod-lt}
 use native.Mathlib.Omega.{arith}
 use lib.ListN.{length, getD}
-use Rattle.lists.proofs.Padded.{padded-below}
-use Rattle.definitions.specs.Zq.{Canonical, zsub}
-use Rattle.protocol.specs.Parameters.{parameters}
-use Rattle.protocol.specs.Layout.{start, job-sections, randomness-sections, transcript-sections}
-use Rattle.protocol.specs.Views.{public, message}
-use Rattle.protocol.proofs.Mistyped.{rows}
-use Rattle.relation.specs.declared.env_params.EnvironmentParameters.{EnvironmentParameters}
-use Rattle.relation.specs.Parameters.{parametersOf}
+use Rattle.math.proofs.lists.Padded.{padded-below}
+use Rattle.spec_leaves.specs.Zq.{Canonical, zsub}
+use Rattle.spec_protocol.specs.Parameters.{parameters}
+use Rattle.spec_protocol.specs.Layout.{start, job-sections, randomness-sections, transcript-sections}
+use Rattle.spec_protocol.specs.Views.{public, message}
+use Rattle.spec_protocol.proofs.Mistyped.{rows}
+use Rattle.relation_env_params.specs.declared.env_params.EnvironmentParameters.{EnvironmentParameters}
+use Rattle.relation_env_params.specs.Parameters.{parametersOf}
 use Rattle.verifier_common.specs.Work.{Sent}
 use Rattle.verifier_common.proofs.Sent.{reckoned}
 use Rattle.verifier_constant_terms.specs.Terms.{constant-term}

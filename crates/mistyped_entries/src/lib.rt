@@ -1,10 +1,12 @@
 // The entries of the list of indexes at which check 22 can be mended (document 02, Item 8).
-use congruence::Solution;
-use relation::env_params::EnvironmentParameters;
-use sizes::names;
-use sizes::offsets;
+use layout_sizes::names;
+use layout_sizes::offsets;
+use mistyped_solve::congruence::Solution;
+use mistyped_solve::list;
+use mistyped_solve::rows;
+use relation_env_params::env_params::EnvironmentParameters;
+use ring_zq::zq::Zq;
 use verifier_constant_terms::constant_terms;
-use zq::zq::Zq;
 ghost use mathlib.Core.Path.{_≡_};
 ghost use Prim.Native.Nat.{_+_, _*_, _≤_, _<_};
 ghost use lib.ListN.{length};
@@ -70,7 +72,7 @@ fn enter(list: &mut [u32], count: usize, index: u32, found: Solution) -> usize
 {
     match found {
         Solution::Number(number) => {
-            mistyped_list::insert(list, count, index, number);
+            list::insert(list, count, index, number);
             count + 1
         }
         Solution::None => count,
@@ -94,13 +96,7 @@ pub fn enter_all(
     let mut count = 0;
     let mut i = 0;
     while i < l {
-        let found = mistyped_rows::smallest_for(
-            randomness,
-            psi + i,
-            l,
-            rows,
-            params.const_agg_length,
-        );
+        let found = rows::smallest_for(randomness, psi + i, l, rows, params.const_agg_length);
         count = enter(list, count, i as u32, found);
         i += 1;
     }

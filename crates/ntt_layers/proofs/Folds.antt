@@ -3,7 +3,7 @@ use mathlib.Core.Path.{_≡_, sym, ap, _∙_}
 use Prim.Native.Nat.{ℕ, _+_, _-_, _*_, _/_, _%_, _≤_, _<_, _^_}
 use native.Mathlib.Nat.{mul-le-mul, mul-assoc, mul-comm, mul-zero, add-mul, add-mod-mod, div-add-mod', mod-eq-of-lt, add-mul-mod-self-right}
 use native.Mathlib.Omega.{arith}
-use Rattle.definitions.proofs.Modulo.{mul-mod-first, mul-mod-second}
+use Rattle.spec_leaves.proofs.Modulo.{mul-mod-first, mul-mod-second}
 use Rattle.ntt_layers.specs.Fold.{prime, fold, reduced, montgomery, Opposite, inverse32}
 use Rattle.ntt_layers.specs.Words.{reducedSum}
 use Rattle.ntt_layers.proofs.Residues.{Below, res, res-less}
@@ -115,8 +115,10 @@ module _ (d neginv : ℕ) (opposite : Opposite d neginv) where
   pub res-montgomery : (pos : 0 < prime d) (z : ℕ) → res (prime d) pos (montgomery d neginv z) ≡ res (prime d) pos (z * inverse32 d neginv)
   res-montgomery pos z =
       res-less (prime d) pos (montgomery d neginv z) (montgomery d neginv z * (neginv * prime d + 1)) (montgomery d neginv z * neginv) (more (montgomery d neginv z) neginv (prime d))
-      ∙ ap (res (prime d) pos) (ap (λ x. montgomery d neginv z * x) (sym inverse32-is) ∙ turn (montgomery d neginv z) (inverse32 d neginv) 4294967296 ∙ ap (λ x. x * inverse32 d neginv) (montgomery-is z))
-      ∙ sym (res-less (prime d) pos (z * inverse32 d neginv) ((z + z * neginv % 4294967296 * prime d) * inverse32 d neginv) (z * neginv % 4294967296 * inverse32 d neginv) (apart z (z * neginv % 4294967296) (prime d) (inverse32 d neginv)))
+      ∙ ap (res (prime d) pos) (ap (λ x. montgomery d neginv z * x) (sym inverse32-is) ∙ turn (montgomery d neginv z) (inverse32 d neginv) 4294967296
+      ∙ ap (λ x. x * inverse32 d neginv) (montgomery-is z))
+      ∙ sym (res-less (prime d) pos (z * inverse32 d neginv) ((z + z * neginv % 4294967296 * prime d) * inverse32 d neginv) (z * neginv % 4294967296 * inverse32 d neginv)
+      (apart z (z * neginv % 4294967296) (prime d) (inverse32 d neginv)))
     where
       more : (m neginv p : ℕ) → m + m * neginv * p ≡ m * (neginv * p + 1)
       more m neginv p = omega (arith, mul-assoc m neginv p)

@@ -10,9 +10,9 @@ use borrow.Author.Tests.{lt-ltb, le-ltb}
 use lib.Dec.{ltb}
 use lib.ListN.{length, getD, set, length-set, replicate}
 use lib.Seq.{getD-set-same, getD-set-other}
-use Rattle.lists.specs.Table.{table, padded}
-use Rattle.lists.proofs.Table.{length-table, getD-table, table-ext, is-table}
-use Rattle.lists.proofs.Padded.{padded-none}
+use Rattle.math.specs.lists.Table.{table, padded}
+use Rattle.math.proofs.lists.Table.{length-table, getD-table, table-ext, is-table}
+use Rattle.math.proofs.lists.Padded.{padded-none}
 
 -- entry k where the first t of each half are done
 abbrev pub halfAt : (ℕ → ℕ) → ℕ → ℕ → ℕ

@@ -8,10 +8,10 @@ use native.Mathlib.Decide.{decLt, ℕ-discrete}
 use native.Mathlib.Omega.{arith}
 use borrow.Author.Tests.{lt-ltb, le-ltb, eq-eqb, ne-eqb}
 use lib.ListN.{getD}
-use Rattle.lists.proofs.Table.{getD-table}
-use Rattle.algebra.specs.Ops.{Ops}
-use Rattle.transform.specs.Layers.{pow, exponent, layer}
-use Rattle.transform.proofs.Layers.{layer-even, layer-odd, inverse-low, inverse-high}
+use Rattle.math.proofs.lists.Table.{getD-table}
+use Rattle.math.specs.algebra.Ops.{Ops}
+use Rattle.math.specs.transform.Layers.{pow, exponent, layer}
+use Rattle.math.proofs.transform.Layers.{layer-even, layer-odd, inverse-low, inverse-high}
 use Rattle.ntt_layers.specs.Fold.{prime, fold, montgomery, Opposite, inverse32}
 use Rattle.ntt_layers.specs.Layer.{LayerFits, InverseLayerFits, turned, layerAt, layerOf, lowerAt, upperAt, inverseLayerAt, inverseLayerOf}
 use Rattle.ntt_layers.proofs.Residues.{Below, res, ModOps, mod-ring, res-add, res-mul, res-sub}
@@ -182,7 +182,8 @@ module _ (d neginv : ℕ) (w : List ℕ) (at : ℕ) (y : List ℕ) (fits : Inver
             let ht : k - 32 < 32 = omega arith in
             let back : k - 32 + 32 ≡ k = omega arith in
             ap (res (prime d) pos) (at-upper k h (omega arith))
-            ∙ res-turn d neginv (fits .powers .opposite) pos g (exponent j (31 - (k - 32)) / 2) (getD w (at + (k - 32)) 0) (getD y (2 * (k - 32) + 1) 0 + (3 * prime d - getD y (2 * (k - 32)) 0)) (powers (k - 32) ht)
+            ∙ res-turn d neginv (fits .powers .opposite) pos g (exponent j (31 - (k - 32)) / 2) (getD w (at + (k - 32)) 0)
+            (getD y (2 * (k - 32) + 1) 0 + (3 * prime d - getD y (2 * (k - 32)) 0)) (powers (k - 32) ht)
             ∙ ap (λ x. pow (ModOps (prime d) pos) g (exponent j (31 - (k - 32)) / 2) ⊗ x)
             (res-sub (prime d) pos (getD y (2 * (k - 32) + 1) 0) (getD y (2 * (k - 32)) 0) (getD y (2 * (k - 32) + 1) 0 + (3 * prime d - getD y (2 * (k - 32)) 0)) 3
             (whole (getD y (2 * (k - 32)) 0) (getD y (2 * (k - 32) + 1) 0) (fits .room (2 * (k - 32)) (omega arith)) small))
@@ -202,7 +203,8 @@ pub layerAt-odd : (d neginv : ℕ) (w : List ℕ) (at : ℕ) (x : List ℕ) (t :
 unfolding layerAt
 layerAt-odd d neginv w at x t =
     let half : (2 * t + 1) / 2 ≡ t = omega arith in
-    ap (λ b. cond b (getD x ((2 * t + 1) / 2) 0 + turned d neginv w at x ((2 * t + 1) / 2)) (getD x ((2 * t + 1) / 2) 0 + (3 * prime d - turned d neginv w at x ((2 * t + 1) / 2)))) (ne-eqb ((2 * t + 1) % 2) 0 (omega arith))
+    ap (λ b. cond b (getD x ((2 * t + 1) / 2) 0 + turned d neginv w at x ((2 * t + 1) / 2)) (getD x ((2 * t + 1) / 2) 0 + (3 * prime d - turned d neginv w at x ((2 * t + 1) / 2))))
+    (ne-eqb ((2 * t + 1) % 2) 0 (omega arith))
     ∙ ap (λ i. getD x i 0 + (3 * prime d - turned d neginv w at x i)) half
 
 -- and of an inverse layer

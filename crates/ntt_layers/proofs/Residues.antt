@@ -4,10 +4,10 @@ use mathlib.Core.HLevel.{Σ-set, Σ-prop-path, prop→set}
 use Prim.Native.Nat.{ℕ, zero, suc, _+_, _-_, _*_, _%_, _<_}
 use native.Mathlib.Nat as Nat
 use native.Mathlib.Bridge.{le-prop}
-use Rattle.lists.specs.Sum.{Σ}
-use Rattle.algebra.specs.Ops.{Ops, sum}
-use Rattle.algebra.proofs.Ring.{CRing, eq-sub}
-use Rattle.definitions.proofs.Modulo.{mul-mod-first, mul-mod-second, mul-mod-both}
+use Rattle.math.specs.lists.Sum.{Σ}
+use Rattle.math.specs.algebra.Ops.{Ops, sum}
+use Rattle.math.proofs.algebra.Ring.{CRing, eq-sub}
+use Rattle.spec_leaves.proofs.Modulo.{mul-mod-first, mul-mod-second, mul-mod-both}
 
 -- a number below m
 abbrev pub Below : ℕ → Type 0

@@ -4,7 +4,7 @@ use mathlib.Core.List.{List}
 use Prim.Native.Nat.{ℕ, _+_, _-_, _*_, _/_, _%_, _≤_, _<_}
 use lib.Dec.{ltb, eqb}
 use lib.ListN.{length, getD}
-use Rattle.lists.specs.Table.{table}
+use Rattle.math.specs.lists.Table.{table}
 use Rattle.ntt_layers.specs.Fold.{prime, fold, montgomery, Opposite}
 
 -- the upper entry t times its power

@@ -1,5 +1,5 @@
 // Reduction modulo a prime 2^27 − d without division: by 2^27 = d, and Montgomery's of a product.
-use zq::wide::wide;
+use ring_zq::wide::wide;
 ghost use mathlib.Core.Path.{_≡_};
 ghost use Prim.Native.Nat.{_+_, _*_, _%_, _≤_, _<_, _^_};
 ghost use Rattle.ntt_layers.specs.Fold.{prime, fold, reduced, montgomery, Opposite};

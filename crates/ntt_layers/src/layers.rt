@@ -1,6 +1,6 @@
 // One layer of the NTT, and one of the inverse NTT. `neginv` is minus the prime's inverse modulo 2^32, and the twiddles stand in w times 2^32, which each product loses.
 use crate::fold;
-use zq::wide::wide;
+use ring_zq::wide::wide;
 ghost use mathlib.Core.Path.{_≡_};
 ghost use Rattle.ntt_layers.specs.Layer.{LayerFits, InverseLayerFits, layerOf, inverseLayerOf};
 

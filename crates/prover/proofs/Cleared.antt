@@ -4,22 +4,22 @@ use mathlib.Core.List.{List, _++_}
 use Prim.Native.Nat.{ℕ, _≤_}
 use native.Mathlib.Omega.{arith}
 use lib.ListN.{length, take, drop, replicate}
-use Rattle.lists.specs.Part.{splice}
-use Rattle.definitions.specs.declared.answers.Refusal.{Refusal}
-use Rattle.definitions.specs.declared.answers.Proved.{Proved}
-use Rattle.definitions.specs.declared.answers.Proved.the-variants as E
-use Rattle.definitions.specs.Answer.{result, ofProved}
-use Rattle.protocol.specs.Parameters.{parameters}
-use Rattle.protocol.specs.Layout.{span, transcript-sections, scratch-need}
-use Rattle.protocol.specs.Prover.{made-sections, zeroed}
-use Rattle.relation.specs.declared.env_params.EnvironmentParameters.{EnvironmentParameters}
-use Rattle.relation.specs.Parameters.{parametersOf}
-use Rattle.sizes.specs.Sizes.{Sized}
-use Rattle.sizes.proofs.Sized.{sized}
-use Rattle.admission.specs.declared.calls.Call.{Call}
-use Rattle.admission.specs.Admission.{callOf, Provable}
-use Rattle.workspace.specs.Holds.{Unchanged}
-use Rattle.workspace.proofs.Unchanged.{unchanged-clear}
+use Rattle.math.specs.lists.Part.{splice}
+use Rattle.spec_leaves.specs.declared.answers.Refusal.{Refusal}
+use Rattle.spec_leaves.specs.declared.answers.Proved.{Proved}
+use Rattle.spec_leaves.specs.declared.answers.Proved.the-variants as E
+use Rattle.spec_leaves.specs.Answer.{result, ofProved}
+use Rattle.spec_protocol.specs.Parameters.{parameters}
+use Rattle.spec_protocol.specs.Layout.{span, transcript-sections, scratch-need}
+use Rattle.spec_protocol.specs.Prover.{made-sections, zeroed}
+use Rattle.relation_env_params.specs.declared.env_params.EnvironmentParameters.{EnvironmentParameters}
+use Rattle.relation_env_params.specs.Parameters.{parametersOf}
+use Rattle.layout_sizes.specs.Sizes.{Sized}
+use Rattle.layout_sizes.proofs.Sized.{sized}
+use Rattle.admission_slices.specs.declared.calls.Call.{Call}
+use Rattle.admission_slices.specs.Admission.{callOf, Provable}
+use Rattle.core_workspace.specs.Holds.{Unchanged}
+use Rattle.core_workspace.proofs.Unchanged.{unchanged-clear}
 use Rattle.prover_commit.specs.Refusals.{work, makes}
 use Rattle.prover.specs.Worked.{worked}
 use Rattle.prover.proofs.Calls.{refused-is, output-made, output-zeroed}

@@ -3,11 +3,11 @@ use mathlib.Core.Path.{_≡_}
 use mathlib.Core.List.{List}
 use Prim.Native.Nat.{ℕ}
 use lib.ListN.{length}
-use Rattle.definitions.specs.declared.answers.Proved.{Proved}
-use Rattle.definitions.specs.Answer.{ofProved}
-use Rattle.protocol.specs.Prover.{prove, prove-output, prove-scratch}
-use Rattle.admission.specs.declared.calls.Call.{Call}
-use Rattle.admission.specs.Admission.{callOf}
+use Rattle.spec_leaves.specs.declared.answers.Proved.{Proved}
+use Rattle.spec_leaves.specs.Answer.{ofProved}
+use Rattle.spec_protocol.specs.Prover.{prove, prove-output, prove-scratch}
+use Rattle.admission_slices.specs.declared.calls.Call.{Call}
+use Rattle.admission_slices.specs.Admission.{callOf}
 
 pub record Proves (call : Call) (J R W scratch output scratch′ output′ : List ℕ) (r : Proved) : Type 0 where
   -- what is answered

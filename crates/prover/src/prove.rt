@@ -1,18 +1,18 @@
 // The prover's calls on whole slices, for every input.
-use admission::answers::Admitted;
-use admission::calls;
-use admission::calls::Call;
 use admission_order::prover;
-use definitions::answers::Proved;
-use relation::env_params::EnvironmentParameters;
-use sizes::buffers;
+use admission_slices::answers::Admitted;
+use admission_slices::calls;
+use admission_slices::calls::Call;
+use layout_sizes::buffers;
+use relation_env_params::env_params::EnvironmentParameters;
+use spec_leaves::answers::Proved;
 ghost use mathlib.Core.Path.{_≡_};
 ghost use lib.ListN.{length};
-ghost use Rattle.definitions.specs.Answer.{ofProved};
-ghost use Rattle.protocol.specs.Parameters.{parameters};
-ghost use Rattle.protocol.specs.Layout.{scratch-need};
-ghost use Rattle.protocol.specs.Prover.{zeroed};
-ghost use Rattle.admission.specs.Admission.{callOf, Provable};
+ghost use Rattle.spec_leaves.specs.Answer.{ofProved};
+ghost use Rattle.spec_protocol.specs.Parameters.{parameters};
+ghost use Rattle.spec_protocol.specs.Layout.{scratch-need};
+ghost use Rattle.spec_protocol.specs.Prover.{zeroed};
+ghost use Rattle.admission_slices.specs.Admission.{callOf, Provable};
 ghost use Rattle.prover_commit.specs.Refusals.{work};
 ghost use Rattle.prover.specs.Worked.{worked};
 ghost use Rattle.prover.specs.Proves.{Proves};
@@ -33,7 +33,7 @@ fn work_and_clear(
     ensures { λ r. ⌜ now (output .exit) ≡ worked (callOf call) (now (job .entry)) (now (randomness .entry)) (now (witness .entry)) (now (output .entry)) ⌝ }
     ensures { λ r. ⌜ now (scratch .exit) ≡ zeroed (scratch-need (parameters (now (job .entry)))) (now (scratch .entry)) ⌝ }
 {
-    let regions = regions::lay_out(
+    let regions = layout_regions::lay_out(
         params.rank,
         params.multiplicity,
         params.kappa,
@@ -52,15 +52,15 @@ fn work_and_clear(
                 scratch,
                 output,
             );
-            words::clear(scratch, need);
+            ring_words::clear(scratch, need);
             Proved::Made
         }
         Proved::Refused(refusal) => {
             let sections = calls::makes(call);
             let length = buffers::output_length(params, sections.from, sections.makes);
-            words::clear(output, length);
+            ring_words::clear(output, length);
             let used = need;
-            words::clear(scratch, used);
+            ring_words::clear(scratch, used);
             Proved::Refused(refusal)
         }
     }

@@ -3,27 +3,28 @@ use mathlib.Core.Path.{_≡_, refl, sym, ap, subst, _∙_}
 use mathlib.Core.Bool.{true, false, cond}
 use mathlib.Core.List.{List}
 use Prim.Native.Nat.{ℕ}
-use Rattle.definitions.specs.declared.answers.Proved.{Proved}
-use Rattle.definitions.specs.declared.answers.Proved.the-variants as E
-use Rattle.definitions.specs.declared.answers.Refusal.{Refusal}
-use Rattle.definitions.specs.Answer.{Answer, fine, ofProved, _then_}
-use Rattle.protocol.specs.Parameters.{parameters}
-use Rattle.protocol.specs.Layout.{scratch-need}
-use Rattle.protocol.specs.Formulas as F
-use Rattle.protocol.specs.Prover.{Call, witness-norm, t-norm, g-norm, work-refusal}
-use Rattle.protocol.proofs.Checks.{then-fine}
-use Rattle.layout.proofs.Then.{goes-on}
-use Rattle.admission.specs.declared.calls.Call as Code
-use Rattle.admission.specs.Admission.{callOf}
-use Rattle.admission.proofs.Stages.{stops-at}
-use Rattle.regions.specs.declared.Regions.{Regions}
-use Rattle.workspace.specs.Ready.{Drawn}
-use Rattle.workspace.specs.Holds.{Unchanged}
+use Rattle.spec_leaves.specs.declared.answers.Proved.{Proved}
+use Rattle.spec_leaves.specs.declared.answers.Proved.the-variants as E
+use Rattle.spec_leaves.specs.declared.answers.Refusal.{Refusal}
+use Rattle.spec_leaves.specs.Answer.{Answer, fine, ofProved, _then_}
+use Rattle.spec_protocol.specs.Parameters.{parameters}
+use Rattle.spec_protocol.specs.Layout.{scratch-need}
+use Rattle.spec_protocol.specs.Formulas as F
+use Rattle.spec_protocol.specs.Prover.{Call, witness-norm, t-norm, g-norm, work-refusal}
+use Rattle.spec_protocol.proofs.Checks.{then-fine}
+use Rattle.layout_sections.proofs.Then.{goes-on}
+use Rattle.admission_slices.specs.declared.calls.Call as Code
+use Rattle.admission_slices.specs.Admission.{callOf}
+use Rattle.admission_slices.proofs.Stages.{stops-at}
+use Rattle.layout_regions.specs.declared.Regions.{Regions}
+use Rattle.core_workspace.specs.Ready.{Drawn}
+use Rattle.core_workspace.specs.Holds.{Unchanged}
 use Rattle.prover_commit.specs.Refusals.{t-refusal, g-refusal, h-refusal, first-refusal, work}
 use Rattle.prover_commit.specs.Work.{Where-made, Filled}
 
 -- a refusal is the answer, whatever follows; K is what else is ensured
-pub passed-on : (k : Proved) (r : Refusal) {a : Answer} (rest : Answer) {b : Answer} {K : Type 0} → k ≡ E.Refused r → ofProved k ≡ a → a then rest ≡ b → K → (ofProved (E.Refused r) ≡ b) × (K × Unit {0})
+pub passed-on : (k : Proved) (r : Refusal) {a : Answer} (rest : Answer) {b : Answer} {K : Type 0} → k ≡ E.Refused r → ofProved k ≡ a → a then rest ≡ b → K
+    → (ofProved (E.Refused r) ≡ b) × (K × Unit {0})
 passed-on k r rest told e same unchanged = (stops-at r rest (sym (ap ofProved told) ∙ e) ∙ same, (unchanged, tt))
 
 -- after what was made the next one is the answer

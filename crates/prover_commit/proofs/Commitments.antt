@@ -8,46 +8,46 @@ use native.Mathlib.Decide.{decLe}
 use native.Mathlib.Omega.{arith}
 use lib.Dec.{leb}
 use lib.ListN.{length}
-use Rattle.lists.specs.Table.{table}
-use Rattle.lists.specs.Part.{splice}
-use Rattle.lists.proofs.Table.{table-ext}
-use Rattle.lists.proofs.Splice.{length-splice}
-use Rattle.definitions.specs.declared.answers.Proved.{Proved}
-use Rattle.definitions.specs.declared.answers.Proved.the-variants as E
-use Rattle.definitions.specs.Answer.{Answer, fine, refused, value128, _then_}
-use Rattle.protocol.specs.Checks.{require, first}
-use Rattle.protocol.specs.Parameters.{Parameters, parameters, T, triangular}
-use Rattle.protocol.specs.Layout.{start, job-sections, witness-sections, scratch-need}
-use Rattle.protocol.specs.Formulas as F
-use Rattle.protocol.specs.Formulas.{flat, rows, triangle, norm-of}
-use Rattle.protocol.specs.Prover.{witness-norm}
-use Rattle.protocol.specs.Region.{Triangle}
-use Rattle.protocol.proofs.Then.{then-assoc}
-use Rattle.protocol.proofs.ReadBack.{g-symmetric, h-symmetric}
-use Rattle.rq_matrix.specs.Region.{gram}
-use Rattle.kept_vectors.specs.NttForm.{ntt-words, NttForm, AllValues}
-use Rattle.kept_vectors.proofs.Stored.{length-ntt-words}
-use Rattle.kept_vectors.proofs.Laws.{ntt-form-values}
-use Rattle.kept_garbage.specs.NttGarbage.{ntt-gram}
-use Rattle.kept_garbage.proofs.Laws.{g-ntt}
-use Rattle.kept_commitments.specs.Spread.{ColumnsRoom}
-use Rattle.kept_h.specs.NttLines.{HRoom}
-use Rattle.commitments.specs.Cells.{digits-at, vector-norm, Room, commitments-of}
-use Rattle.commitments.proofs.Answers.{require-leb}
-use Rattle.commitments.proofs.Formula.{digits, t-is, witness-norm-is, t-norm-is, g-norm-is, h-norm-is}
-use Rattle.garbage_polynomials.specs.Garbage.{h-of}
-use Rattle.garbage_polynomials.proofs.Formula.{g-formula, h-formula}
-use Rattle.aggregate.specs.Weighed.{formed}
-use Rattle.aggregate.proofs.Formed.{b″-is}
-use Rattle.regions.specs.declared.Regions.{Regions}
-use Rattle.relation.specs.declared.env_params.EnvironmentParameters.{EnvironmentParameters}
-use Rattle.relation.specs.Parameters.{parametersOf}
-use Rattle.workspace.specs.Holds.{Holds, Unchanged}
-use Rattle.workspace.specs.Aggregated.{a″-words, φ″-words, φ-words}
-use Rattle.workspace.proofs.Holds.{holds-stored, holds-before, holds-after, holds-unchanged, vectors-held, triangle-held, vectors-list-held, triangle-list-held}
-use Rattle.workspace.proofs.Unchanged.{unchanged-refl, unchanged-trans, unchanged-weaken, unchanged-splice, unchanged-stored}
-use Rattle.workspace.proofs.Aggregated.{a″-symmetric}
-use Rattle.workspace.proofs.Ready.{ready-changed, regions-end, A-within, φ″-end, a″-end, φ-end, a-end, g-end, c-end, t-end, u-end, b″-end}
+use Rattle.math.specs.lists.Table.{table}
+use Rattle.math.specs.lists.Part.{splice}
+use Rattle.math.proofs.lists.Table.{table-ext}
+use Rattle.math.proofs.lists.Splice.{length-splice}
+use Rattle.spec_leaves.specs.declared.answers.Proved.{Proved}
+use Rattle.spec_leaves.specs.declared.answers.Proved.the-variants as E
+use Rattle.spec_leaves.specs.Answer.{Answer, fine, refused, value128, _then_}
+use Rattle.spec_protocol.specs.Checks.{require, first}
+use Rattle.spec_protocol.specs.Parameters.{Parameters, parameters, T, triangular}
+use Rattle.spec_protocol.specs.Layout.{start, job-sections, witness-sections, scratch-need}
+use Rattle.spec_protocol.specs.Formulas as F
+use Rattle.spec_protocol.specs.Formulas.{flat, rows, triangle, norm-of}
+use Rattle.spec_protocol.specs.Prover.{witness-norm}
+use Rattle.spec_protocol.specs.Region.{Triangle}
+use Rattle.spec_protocol.proofs.Then.{then-assoc}
+use Rattle.spec_protocol.proofs.ReadBack.{g-symmetric, h-symmetric}
+use Rattle.ring_rq_matrix.specs.Region.{gram}
+use Rattle.ntt_vectors.specs.NttForm.{ntt-words, NttForm, AllValues}
+use Rattle.ntt_vectors.proofs.Stored.{length-ntt-words}
+use Rattle.ntt_vectors.proofs.Laws.{ntt-form-values}
+use Rattle.core_garbage_ntt.specs.NttGarbage.{ntt-gram}
+use Rattle.core_garbage_ntt.proofs.Laws.{g-ntt}
+use Rattle.commitments_ajtai.specs.Spread.{ColumnsRoom}
+use Rattle.core_garbage_ntt.specs.NttLines.{HRoom}
+use Rattle.commitments_outer.specs.Cells.{digits-at, vector-norm, Room, commitments-of}
+use Rattle.commitments_outer.proofs.Answers.{require-leb}
+use Rattle.commitments_outer.proofs.Formula.{digits, t-is, witness-norm-is, t-norm-is, g-norm-is, h-norm-is}
+use Rattle.core_garbage_polynomials.specs.Garbage.{h-of}
+use Rattle.core_garbage_polynomials.proofs.Formula.{g-formula, h-formula}
+use Rattle.core_aggregate.specs.Weighed.{formed}
+use Rattle.core_aggregate.proofs.Formed.{b″-is}
+use Rattle.layout_regions.specs.declared.Regions.{Regions}
+use Rattle.relation_env_params.specs.declared.env_params.EnvironmentParameters.{EnvironmentParameters}
+use Rattle.relation_env_params.specs.Parameters.{parametersOf}
+use Rattle.core_workspace.specs.Holds.{Holds, Unchanged}
+use Rattle.core_workspace.specs.Aggregated.{a″-words, φ″-words, φ-words}
+use Rattle.core_workspace.proofs.Holds.{holds-stored, holds-before, holds-after, holds-unchanged, vectors-held, triangle-held, vectors-list-held, triangle-list-held}
+use Rattle.core_workspace.proofs.Unchanged.{unchanged-refl, unchanged-trans, unchanged-weaken, unchanged-splice, unchanged-stored}
+use Rattle.core_workspace.proofs.Aggregated.{a″-symmetric}
+use Rattle.core_workspace.proofs.Ready.{ready-changed, regions-end, A-within, φ″-end, a″-end, φ-end, a-end, g-end, c-end, t-end, u-end, b″-end}
 use Rattle.prover_commit.specs.Words.{statement, X, s, t-words, g-words, b″-words, h-words}
 use Rattle.prover_commit.specs.Refusals.{t-refusal, g-refusal, h-refusal, first-refusal, t-check, g-check, h-check}
 use Rattle.prover_commit.specs.Work.{Work-given, Where-made, Ready-for-h, with-h}
@@ -129,7 +129,12 @@ module _ (J W : List ℕ) (params : EnvironmentParameters) (regions : Regions) (
 
   -- "5 aggregations fewer than 128/log_q rounded up": there are at least 4
   four : 4 ≤ P .L
-  four = omega (arith, h .ready .sound .aggregated, le-div-iff-mul-le {k = P .log-q} {x = 4} {y = 127 + P .log-q} (omega (arith, h .ready .sound .within .log-q .0)) .1 (omega (arith, h .ready .sound .within .log-q .1)))
+  four = omega (
+    arith,
+    h .ready .sound .aggregated,
+    le-div-iff-mul-le {k = P .log-q} {x = 4} {y = 127 + P .log-q} (omega (arith, h .ready .sound .within .log-q .0)) .1
+        (omega (arith, h .ready .sound .within .log-q .1)),
+  )
 
   -- the region of φ'' has room for the values of the witness's vectors, and that of a'' for a square of r rows
   pub values-room : regions .phi2 + 192 * (P .r * P .n) ≤ regions .a2
@@ -154,13 +159,22 @@ module _ (J W : List ℕ) (params : EnvironmentParameters) (regions : Regions) (
 
   -- t: what `t_of` needs, and what it stores
   pub t-fits : (at : ℕ) → at ≡ 31 + start (job-sections (parametersOf params)) 6
-      → (at + 64 * (params .kappa * params .rank) ≤ length J) × (1 + 64 * (params .multiplicity * params .rank) ≤ length W) × ColumnsRoom S (params .kappa) (params .rank) (params .multiplicity) (regions .phi2) (regions .t)
+      → (at + 64 * (params .kappa * params .rank) ≤ length J) × (1 + 64 * (params .multiplicity * params .rank) ≤ length W)
+      × ColumnsRoom S (params .kappa) (params .rank) (params .multiplicity) (regions .phi2) (regions .t)
   t-fits at e =
-      subst (λ k. (k + 64 * (params .kappa * params .rank) ≤ length J) × (1 + 64 * (params .multiplicity * params .rank) ≤ length W) × ColumnsRoom S (params .kappa) (params .rank) (params .multiplicity) (regions .phi2) (regions .t)) (sym e)
-      (subst (λ Q. (31 + start (job-sections Q) 6 + 64 * (Q .κ * Q .n) ≤ length J) × (1 + 64 * (Q .r * Q .n) ≤ length W) × ColumnsRoom S (Q .κ) (Q .n) (Q .r) (regions .phi2) (regions .t)) (sym (h .ready .same)) (
+      subst (λ k. (k + 64 * (params .kappa * params .rank) ≤ length J) × (1 + 64 * (params .multiplicity * params .rank) ≤ length W)
+      × ColumnsRoom S (params .kappa) (params .rank) (params .multiplicity) (regions .phi2) (regions .t)) (sym e)
+      (subst (λ Q. (31 + start (job-sections Q) 6 + 64 * (Q .κ * Q .n) ≤ length J) × (1 + 64 * (Q .r * Q .n) ≤ length W) × ColumnsRoom S (Q .κ) (Q .n) (Q .r) (regions .phi2) (regions .t))
+      (sym (h .ready .same)) (
         A-within J params regions S (h .ready),
         witness-fits,
-        (omega (arith, values-room, a″-below-g, g-before-t), omega (arith, t-room, h .ready .room), omega (arith, h .ready .sound .within .κ .1), h .ready .sound .within .n .1, omega (arith, h .ready .sound .within .r .1)),
+        (
+          omega (arith, values-room, a″-below-g, g-before-t),
+          omega (arith, t-room, h .ready .room),
+          omega (arith, h .ready .sound .within .κ .1),
+          h .ready .sound .within .n .1,
+          omega (arith, h .ready .sound .within .r .1),
+        ),
       ))
 
   -- the words of t, from the place of A
@@ -176,14 +190,17 @@ module _ (J W : List ℕ) (params : EnvironmentParameters) (regions : Regions) (
 
   -- and what `commit_all` needs
   pub t-plain-fits : (at : ℕ) → at ≡ 31 + start (job-sections (parametersOf params)) 6
-      → Room J at (params .kappa * params .rank) × Room W 1 (params .multiplicity * params .rank) × Room S (regions .t) (params .multiplicity * params .kappa) × (params .rank ≤ 64) × (params .kappa ≤ 64)
+      → Room J at (params .kappa * params .rank) × Room W 1 (params .multiplicity * params .rank) × Room S (regions .t) (params .multiplicity * params .kappa)
+      × (params .rank ≤ 64) × (params .kappa ≤ 64)
   t-plain-fits at e = let k = t-fits at e in (k .0, k .1, k .2 .1, k .2 .3, k .2 .2)
 
   -- g: what `compute_g` needs, and what it stores
   pub g-fits : NttForm S (regions .phi2) W 1 (params .multiplicity * params .rank)
-      → AllValues S (regions .phi2) (params .multiplicity * params .rank) × (regions .phi2 + 192 * (params .multiplicity * params .rank) ≤ regions .g) × (regions .g + 64 * triangular (params .multiplicity) ≤ length S) × (params .multiplicity ≤ 64) × (params .rank ≤ 64)
+      → AllValues S (regions .phi2) (params .multiplicity * params .rank) × (regions .phi2 + 192 * (params .multiplicity * params .rank) ≤ regions .g)
+      × (regions .g + 64 * triangular (params .multiplicity) ≤ length S) × (params .multiplicity ≤ 64) × (params .rank ≤ 64)
   g-fits k =
-      let fits : (regions .phi2 + 192 * (params .multiplicity * params .rank) ≤ regions .g) × (regions .g + 64 * triangular (params .multiplicity) ≤ length S) × (params .multiplicity ≤ 64) × (params .rank ≤ 64) =
+      let fits : (regions .phi2 + 192 * (params .multiplicity * params .rank) ≤ regions .g) × (regions .g + 64 * triangular (params .multiplicity) ≤ length S)
+      × (params .multiplicity ≤ 64) × (params .rank ≤ 64) =
       subst (λ Q. (regions .phi2 + 192 * (Q .r * Q .n) ≤ regions .g) × (regions .g + 64 * T Q ≤ length S) × (Q .r ≤ 64) × (Q .n ≤ 64)) (sym (h .ready .same))
       (omega (arith, values-room, a″-below-g), omega (arith, g-room, h .ready .room), omega (arith, h .ready .sound .within .r .1), h .ready .sound .within .n .1) in
       (ntt-form-values S (regions .phi2) W 1 (params .multiplicity * params .rank) k, fits .0, fits .1, fits .2, fits .3)
@@ -194,7 +211,8 @@ module _ (J W : List ℕ) (params : EnvironmentParameters) (regions : Regions) (
       ∙ ap (λ k. flat (triangle (P .r) (gram W k (P .n)))) (sym (witness-start P))
       ∙ ap flat (g-formula J [] W)
 
-  pub g-made : (S′ : List ℕ) → NttForm S (regions .phi2) W 1 (params .multiplicity * params .rank) → S′ ≡ splice S (regions .g) (flat (triangle (params .multiplicity) (ntt-gram S (regions .phi2) (params .rank)))) → S′ ≡ splice S (regions .g) (g-words J W)
+  pub g-made : (S′ : List ℕ) → NttForm S (regions .phi2) W 1 (params .multiplicity * params .rank)
+      → S′ ≡ splice S (regions .g) (flat (triangle (params .multiplicity) (ntt-gram S (regions .phi2) (params .rank)))) → S′ ≡ splice S (regions .g) (g-words J W)
   g-made S′ k w = w ∙ ap (splice S (regions .g)) (ap flat (g-ntt S (regions .phi2) W 1 (params .multiplicity) (params .rank) (g-fits k .4) k) ∙ g-is)
 
   -- the same by plain inner products
@@ -209,8 +227,18 @@ module _ (J W : List ℕ) (params : EnvironmentParameters) (regions : Regions) (
   -- h: what its making needs
   h-fits : (1 + 64 * (params .multiplicity * params .rank) ≤ length W) × HRoom S (params .multiplicity) (params .rank) (regions .phi2) (regions .a2) (regions .phi) (regions .«a_or_h»)
   h-fits =
-      subst (λ Q. (1 + 64 * (Q .r * Q .n) ≤ length W) × HRoom S (Q .r) (Q .n) (regions .phi2) (regions .a2) (regions .phi) (regions .«a_or_h»)) (sym (h .ready .same))
-      (witness-fits, (values-room, square-room, φ-end J params regions S (h .ready), omega (arith, a-room, h .ready .room), h .ready .sound .within .n .1, omega (arith, h .ready .sound .within .r .1)))
+      subst (λ Q. (1 + 64 * (Q .r * Q .n) ≤ length W) × HRoom S (Q .r) (Q .n) (regions .phi2) (regions .a2) (regions .phi) (regions .«a_or_h»)) (sym (h .ready .same)) (
+        witness-fits,
+        (
+          values-room,
+          square-room,
+          φ-end J params regions S (h .ready),
+          omega (arith, a-room, h .ready .room),
+          h .ready .sound .within .n .1,
+          omega
+              (arith, h .ready .sound .within .r .1),
+        ),
+      )
 
   pub ready-for-h : Ready-for-h W params regions S
   ready-for-h = record { placed = placed J params regions S (h .ready); witness = h-fits .0; room = h-fits .1 }
@@ -253,14 +281,16 @@ module _ (J W : List ℕ) (params : EnvironmentParameters) (regions : Regions) (
         (holds-after S at ws (regions .«a_or_h») (h-words J R W) (omega (arith, h-end, l)) k)
 
   -- b'': what `b_double_prime` needs, and what it stores from a'', g and φ''
-  pub b″-fits : (regions .a2 + 64 * (params .«const_agg_length» * triangular (params .multiplicity)) ≤ regions .b2) × (regions .g + 64 * triangular (params .multiplicity) ≤ regions .b2) × (regions .phi2 + 64 * (params .«const_agg_length» * (params .multiplicity * params .rank)) ≤ regions .b2)
+  pub b″-fits : (regions .a2 + 64 * (params .«const_agg_length» * triangular (params .multiplicity)) ≤ regions .b2) × (regions .g + 64 * triangular (params .multiplicity) ≤ regions .b2)
+      × (regions .phi2 + 64 * (params .«const_agg_length» * (params .multiplicity * params .rank)) ≤ regions .b2)
       × (regions .b2 + 64 * params .«const_agg_length» ≤ length S) × (1 + 64 * (params .multiplicity * params .rank) ≤ length W) × (params .multiplicity ≤ 64) × (params .rank ≤ 64)
   b″-fits =
       let k = h .ready in
       let gb : regions .g + 64 * T P ≤ regions .b2 = omega (arith, g-end J params regions S k, c-end J params regions S k, t-end J params regions S k, u-end J params regions S k) in
       let ag : regions .a2 + 64 * (P .L * T P) ≤ regions .g = omega (arith, a″-end J params regions S k, φ-end J params regions S k, a-end J params regions S k) in
       let φa : regions .phi2 + 64 * (P .L * (P .r * P .n)) ≤ regions .a2 = φ″-end J params regions S k in
-      subst (λ Q. (regions .a2 + 64 * (Q .L * T Q) ≤ regions .b2) × (regions .g + 64 * T Q ≤ regions .b2) × (regions .phi2 + 64 * (Q .L * (Q .r * Q .n)) ≤ regions .b2) × (regions .b2 + 64 * Q .L ≤ length S) × (1 + 64 * (Q .r * Q .n) ≤ length W) × (Q .r ≤ 64) × (Q .n ≤ 64))
+      subst (λ Q. (regions .a2 + 64 * (Q .L * T Q) ≤ regions .b2) × (regions .g + 64 * T Q ≤ regions .b2) × (regions .phi2 + 64 * (Q .L * (Q .r * Q .n)) ≤ regions .b2)
+      × (regions .b2 + 64 * Q .L ≤ length S) × (1 + 64 * (Q .r * Q .n) ≤ length W) × (Q .r ≤ 64) × (Q .n ≤ 64))
       (sym (k .same)) (
         omega (arith, ag, gb),
         gb,
@@ -277,13 +307,17 @@ module _ (J W : List ℕ) (params : EnvironmentParameters) (regions : Regions) (
   g-stands R g = triangle-held S (regions .g) (P .r) (F.g (X J R) (s J W)) (g-symmetric (X J R) (s J W)) g
 
   pub b″-made : (R S′ : List ℕ) → Holds S (regions .phi2) (φ″-words J R) → Holds S (regions .a2) (a″-words J R) → Holds S (regions .g) (g-words J W)
-      → S′ ≡ splice S (regions .b2) (flat (table (params .«const_agg_length») (λ k. formed S (regions .a2 + 64 * (k * triangular (params .multiplicity))) (regions .g) (regions .phi2 + 64 * (k * (params .multiplicity * params .rank))) (params .multiplicity) (params .rank) W 1))) → S′ ≡ splice S (regions .b2) (b″-words J R W)
+      → S′ ≡ splice S (regions .b2) (flat
+      (table (params .«const_agg_length»)
+      (λ k. formed S (regions .a2 + 64 * (k * triangular (params .multiplicity))) (regions .g) (regions .phi2 + 64 * (k * (params .multiplicity * params .rank)))
+      (params .multiplicity) (params .rank) W 1))) → S′ ≡ splice S (regions .b2) (b″-words J R W)
   b″-made R S′ φ a g w =
       w
       ∙ ap (splice S (regions .b2))
       (ap (λ Q. flat (table (Q .L) (λ k. formed S (regions .a2 + 64 * (k * T Q)) (regions .g) (regions .phi2 + 64 * (k * (Q .r * Q .n))) (Q .r) (Q .n) W 1))) (h .ready .same)
       ∙ ap (λ x. flat (table (P .L) (λ k. formed S (regions .a2 + 64 * (k * T P)) (regions .g) (regions .phi2 + 64 * (k * (P .r * P .n))) (P .r) (P .n) W x))) (sym (witness-start P))
-      ∙ ap flat (table-ext (P .L) (λ k. formed S (regions .a2 + 64 * (k * T P)) (regions .g) (regions .phi2 + 64 * (k * (P .r * P .n))) (P .r) (P .n) W (start (witness-sections P) 0)) (F.b″ (X J R) (s J W)) (λ k l. one k l)))
+      ∙ ap flat (table-ext (P .L) (λ k. formed S (regions .a2 + 64 * (k * T P)) (regions .g) (regions .phi2 + 64 * (k * (P .r * P .n))) (P .r) (P .n) W (start (witness-sections P) 0))
+      (F.b″ (X J R) (s J W)) (λ k l. one k l)))
     where
       one : (k : ℕ) → k < P .L → formed S (regions .a2 + 64 * (k * T P)) (regions .g) (regions .phi2 + 64 * (k * (P .r * P .n))) (P .r) (P .n) W (start (witness-sections P) 0) ≡ F.b″ (X J R) (s J W) k
       one k l =

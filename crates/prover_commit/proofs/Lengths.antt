@@ -3,11 +3,11 @@ use mathlib.Core.Path.{_≡_, ap, _∙_}
 use mathlib.Core.List.{List}
 use Prim.Native.Nat.{ℕ, _*_}
 use lib.ListN.{length}
-use Rattle.definitions.specs.Rq.{Element}
-use Rattle.protocol.specs.Parameters.{Parameters, parameters, T, triangular}
-use Rattle.protocol.specs.Formulas as F
-use Rattle.protocol.specs.Formulas.{flat, rows, triangle}
-use Rattle.protocol.proofs.Flat.{length-flat, length-rows, length-triangle, length-flat-table}
+use Rattle.spec_leaves.specs.Rq.{Element}
+use Rattle.spec_protocol.specs.Parameters.{Parameters, parameters, T, triangular}
+use Rattle.spec_protocol.specs.Formulas as F
+use Rattle.spec_protocol.specs.Formulas.{flat, rows, triangle}
+use Rattle.spec_protocol.proofs.Flat.{length-flat, length-rows, length-triangle, length-flat-table}
 use Rattle.prover_commit.specs.Words.{statement, X, s, t-words, g-words, b″-words, h-words}
 
 -- the words of a triangle of r rows

@@ -7,15 +7,15 @@ use native.Mathlib.Omega.{arith}
 use mir.Syntax.{w64}
 use mir.Val.{Fits}
 use lib.ListN.{length}
-use Rattle.protocol.specs.Parameters.{parameters, T, triangular}
-use Rattle.protocol.specs.Layout.{start, job-sections, witness-sections}
-use Rattle.commitments.specs.Cells.{Cells}
-use Rattle.commitments.proofs.Formula.{digits}
-use Rattle.regions.specs.declared.Regions.{Regions}
-use Rattle.relation.specs.declared.env_params.EnvironmentParameters.{EnvironmentParameters}
-use Rattle.relation.specs.Parameters.{parametersOf}
-use Rattle.workspace.specs.Ready.{Ready}
-use Rattle.workspace.proofs.Ready.{ready-sized, a-end, g-end, c-end, t-end, u-end, b″-end, B-within, C-within, D-within}
+use Rattle.spec_protocol.specs.Parameters.{parameters, T, triangular}
+use Rattle.spec_protocol.specs.Layout.{start, job-sections, witness-sections}
+use Rattle.commitments_outer.specs.Cells.{Cells}
+use Rattle.commitments_outer.proofs.Formula.{digits}
+use Rattle.layout_regions.specs.declared.Regions.{Regions}
+use Rattle.relation_env_params.specs.declared.env_params.EnvironmentParameters.{EnvironmentParameters}
+use Rattle.relation_env_params.specs.Parameters.{parametersOf}
+use Rattle.core_workspace.specs.Ready.{Ready}
+use Rattle.core_workspace.proofs.Ready.{ready-sized, a-end, g-end, c-end, t-end, u-end, b″-end, B-within, C-within, D-within}
 use Rattle.prover_commit.specs.Work.{Work-given, Placed}
 
 -- a product of two small numbers
@@ -54,14 +54,17 @@ module _ (J : List ℕ) (params : EnvironmentParameters) (regions : Regions) (S 
       up t k u b n a c d = omega arith
 
   c-room : regions .challenges + 64 * params .multiplicity ≤ length S
-  c-room = subst (λ P. regions .challenges + 64 * P .r ≤ length S) (sym (h .same)) (up (regions .challenges) _ (regions .t) (64 * (parameters J .r * parameters J .κ)) (regions .u) (regions .b2) (length S) (c-end J params regions S h) (t-end J params regions S h) (u-end J params regions S h) (b″-end J params regions S h))
+  c-room = subst (λ P. regions .challenges + 64 * P .r ≤ length S) (sym (h .same))
+      (up (regions .challenges) _ (regions .t) (64 * (parameters J .r * parameters J .κ)) (regions .u) (regions .b2) (length S) (c-end J params regions S h)
+      (t-end J params regions S h) (u-end J params regions S h) (b″-end J params regions S h))
     where
       up : (c k t m u b n : ℕ) → c + k ≤ t → t + m ≤ u → u + 64 * 16 ≤ b → b + 64 * 32 ≤ n → c + k ≤ n
       up c k t m u b n a d e f = omega arith
 
   -- the places rise
   g-room-of : regions .g + 64 * T (parameters J) ≤ length S
-  g-room-of = up (regions .g) (64 * T (parameters J)) (regions .challenges) (64 * parameters J .r) (regions .t) (64 * (parameters J .r * parameters J .κ)) (regions .u) (regions .b2) (length S) (g-end J params regions S h) (c-end J params regions S h) (t-end J params regions S h) (u-end J params regions S h) (b″-end J params regions S h)
+  g-room-of = up (regions .g) (64 * T (parameters J)) (regions .challenges) (64 * parameters J .r) (regions .t) (64 * (parameters J .r * parameters J .κ)) (regions .u)
+      (regions .b2) (length S) (g-end J params regions S h) (c-end J params regions S h) (t-end J params regions S h) (u-end J params regions S h) (b″-end J params regions S h)
     where
       up : (g k c l t m u b n : ℕ) → g + k ≤ c → c + l ≤ t → t + m ≤ u → u + 64 * 16 ≤ b → b + 64 * 32 ≤ n → g + k ≤ n
       up g k c l t m u b n a d e f i = omega arith
@@ -94,7 +97,12 @@ module _ (params : EnvironmentParameters) (regions : Regions) (S : List ℕ) (h 
 
   -- the cells of t, g and h
   pub t-cells : Cells S (digits (regions .t) (params .multiplicity * params .kappa) (params .«t_1»))
-  t-cells = record { within = h .t; few-cells = up (params .multiplicity * params .kappa) (small-product (params .multiplicity) (params .kappa) (h .sized .within .r .1) (h .sized .within .κ .1)); few-parts = h .sized .within .t₁ .1 }
+  t-cells = record {
+    within = h .t;
+    few-cells = up (params .multiplicity * params .kappa)
+        (small-product (params .multiplicity) (params .kappa) (h .sized .within .r .1) (h .sized .within .κ .1));
+    few-parts = h .sized .within .t₁ .1;
+  }
     where
       up : (n : ℕ) → n ≤ 256 → n ≤ 2 ^ 18
       up n l = omega arith

@@ -4,19 +4,19 @@ use mathlib.Core.List.{List}
 use Prim.Native.Nat.{ℕ}
 use native.Mathlib.Omega.{arith}
 use lib.ListN.{length}
-use Rattle.lists.specs.Part.{splice}
-use Rattle.lists.proofs.Splice.{length-splice}
-use Rattle.definitions.specs.declared.answers.Proved.{Proved}
-use Rattle.definitions.specs.declared.answers.Proved.the-variants as E
-use Rattle.definitions.specs.declared.answers.Refusal.{Refusal}
-use Rattle.definitions.specs.Answer.{ofProved, _then_}
-use Rattle.protocol.specs.Parameters.{Parameters, parameters}
-use Rattle.protocol.specs.Layout.{scratch-need}
-use Rattle.regions.specs.declared.Regions.{Regions}
-use Rattle.relation.specs.declared.env_params.EnvironmentParameters.{EnvironmentParameters}
-use Rattle.workspace.specs.Holds.{Holds, Unchanged}
-use Rattle.workspace.proofs.Unchanged.{unchanged-stored}
-use Rattle.workspace.proofs.Ready.{g-end, c-end}
+use Rattle.math.specs.lists.Part.{splice}
+use Rattle.math.proofs.lists.Splice.{length-splice}
+use Rattle.spec_leaves.specs.declared.answers.Proved.{Proved}
+use Rattle.spec_leaves.specs.declared.answers.Proved.the-variants as E
+use Rattle.spec_leaves.specs.declared.answers.Refusal.{Refusal}
+use Rattle.spec_leaves.specs.Answer.{ofProved, _then_}
+use Rattle.spec_protocol.specs.Parameters.{Parameters, parameters}
+use Rattle.spec_protocol.specs.Layout.{scratch-need}
+use Rattle.layout_regions.specs.declared.Regions.{Regions}
+use Rattle.relation_env_params.specs.declared.env_params.EnvironmentParameters.{EnvironmentParameters}
+use Rattle.core_workspace.specs.Holds.{Holds, Unchanged}
+use Rattle.core_workspace.proofs.Unchanged.{unchanged-stored}
+use Rattle.core_workspace.proofs.Ready.{g-end, c-end}
 use Rattle.prover_commit.specs.Words.{t-words, g-words}
 use Rattle.prover_commit.specs.Refusals.{t-refusal, g-refusal, t-check, g-check}
 use Rattle.prover_commit.specs.Work.{Work-given, Where-made, Committed}

@@ -2,17 +2,17 @@
 use mathlib.Core.List.{List}
 use Prim.Native.Nat.{ℕ, _*_}
 use native.Mathlib.Decide.{decLe}
-use Rattle.definitions.specs.Answer.{Answer, refused, value128, _then_}
-use Rattle.protocol.specs.Checks.{require}
-use Rattle.protocol.specs.Parameters.{triangular}
-use Rattle.protocol.specs.Formulas as F
-use Rattle.protocol.specs.Formulas.{norm-of}
-use Rattle.protocol.specs.Prover as P
-use Rattle.protocol.specs.Prover.{Call, witness-norm, t-norm, g-norm, h-norm}
-use Rattle.commitments.specs.declared.outer_commitments.Digits.{Digits}
-use Rattle.commitments.specs.Cells.{digits-at}
-use Rattle.regions.specs.declared.Regions.{Regions}
-use Rattle.relation.specs.declared.env_params.EnvironmentParameters.{EnvironmentParameters}
+use Rattle.spec_leaves.specs.Answer.{Answer, refused, value128, _then_}
+use Rattle.spec_protocol.specs.Checks.{require}
+use Rattle.spec_protocol.specs.Parameters.{triangular}
+use Rattle.spec_protocol.specs.Formulas as F
+use Rattle.spec_protocol.specs.Formulas.{norm-of}
+use Rattle.spec_protocol.specs.Prover as P
+use Rattle.spec_protocol.specs.Prover.{Call, witness-norm, t-norm, g-norm, h-norm}
+use Rattle.commitments_outer.specs.declared.outer_commitments.Digits.{Digits}
+use Rattle.commitments_outer.specs.Cells.{digits-at}
+use Rattle.layout_regions.specs.declared.Regions.{Regions}
+use Rattle.relation_env_params.specs.declared.env_params.EnvironmentParameters.{EnvironmentParameters}
 use Rattle.prover_commit.specs.Words.{statement, X, s}
 
 -- "14 digits of t above B's bound, 15 of g above C's"

@@ -4,23 +4,23 @@ use mathlib.Core.List.{List}
 use Prim.Native.Nat.{ℕ, _+_, _*_, _≤_}
 use lib.Dec.{eqb, leb}
 use lib.ListN.{length}
-use Rattle.lists.specs.Part.{splice}
-use Rattle.definitions.specs.declared.answers.Proved.{Proved}
-use Rattle.definitions.specs.declared.answers.Proved.the-variants as P
-use Rattle.protocol.specs.Parameters.{parameters, triangular}
-use Rattle.protocol.specs.Layout.{start, witness-sections}
-use Rattle.protocol.specs.Formulas.{flat, triangle}
-use Rattle.admission.specs.declared.calls.Call.{Call}
-use Rattle.admission.specs.declared.calls.Call.the-variants as C
-use Rattle.regions.specs.declared.Regions.{Regions}
-use Rattle.relation.specs.declared.env_params.EnvironmentParameters.{EnvironmentParameters}
-use Rattle.relation.specs.Parameters.{parametersOf}
-use Rattle.sizes.specs.Sizes.{Sized}
-use Rattle.workspace.specs.Ready.{Ready}
-use Rattle.workspace.specs.Holds.{Holds}
-use Rattle.workspace.specs.Aggregated.{a″-words, φ″-words, φ-words, c-words}
-use Rattle.garbage_polynomials.specs.Garbage.{h-of}
-use Rattle.kept_h.specs.NttLines.{HRoom}
+use Rattle.math.specs.lists.Part.{splice}
+use Rattle.spec_leaves.specs.declared.answers.Proved.{Proved}
+use Rattle.spec_leaves.specs.declared.answers.Proved.the-variants as P
+use Rattle.spec_protocol.specs.Parameters.{parameters, triangular}
+use Rattle.spec_protocol.specs.Layout.{start, witness-sections}
+use Rattle.spec_protocol.specs.Formulas.{flat, triangle}
+use Rattle.admission_slices.specs.declared.calls.Call.{Call}
+use Rattle.admission_slices.specs.declared.calls.Call.the-variants as C
+use Rattle.layout_regions.specs.declared.Regions.{Regions}
+use Rattle.relation_env_params.specs.declared.env_params.EnvironmentParameters.{EnvironmentParameters}
+use Rattle.relation_env_params.specs.Parameters.{parametersOf}
+use Rattle.layout_sizes.specs.Sizes.{Sized}
+use Rattle.core_workspace.specs.Ready.{Ready}
+use Rattle.core_workspace.specs.Holds.{Holds}
+use Rattle.core_workspace.specs.Aggregated.{a″-words, φ″-words, φ-words, c-words}
+use Rattle.core_garbage_polynomials.specs.Garbage.{h-of}
+use Rattle.core_garbage_ntt.specs.NttLines.{HRoom}
 use Rattle.prover_commit.specs.Words.{t-words, g-words, b″-words, h-words}
 
 -- a job that is refused nothing, and a witness of the job's size

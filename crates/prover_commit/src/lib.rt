@@ -1,23 +1,22 @@
 // t and g into the scratch, with the refusals 13 to 15; what the prover's steps stand on and leave there.
-use commitment_bounds::common_instances;
-use commitments::outer_commitments::Digits;
-use definitions::answers::Proved;
-use definitions::answers::Refusal;
-use garbage_polynomials::g;
-use inner_commitments::ajtai_commitment;
-use kept_commitments;
-use kept_garbage;
-use regions::Regions;
-use relation::env_params::EnvironmentParameters;
-use sizes::names;
-use sizes::offsets;
-use sizes::slices;
+use commitments_ajtai::ajtai_commitment;
+use commitments_ajtai::ntt;
+use commitments_bounds::common_instances;
+use commitments_outer::outer_commitments::Digits;
+use core_garbage_polynomials::g;
+use layout_regions::Regions;
+use layout_sizes::names;
+use layout_sizes::offsets;
+use layout_sizes::slices;
+use relation_env_params::env_params::EnvironmentParameters;
+use spec_leaves::answers::Proved;
+use spec_leaves::answers::Refusal;
 ghost use mathlib.Core.Path.{_≡_};
 ghost use Prim.Native.Nat.{_≤_};
-ghost use Rattle.definitions.specs.Answer.{ofProved, _then_};
-ghost use Rattle.protocol.specs.Parameters.{parameters};
-ghost use Rattle.protocol.specs.Layout.{scratch-need};
-ghost use Rattle.workspace.specs.Holds.{Unchanged};
+ghost use Rattle.spec_leaves.specs.Answer.{ofProved, _then_};
+ghost use Rattle.spec_protocol.specs.Parameters.{parameters};
+ghost use Rattle.spec_protocol.specs.Layout.{scratch-need};
+ghost use Rattle.core_workspace.specs.Holds.{Unchanged};
 ghost use Rattle.prover_commit.specs.Refusals.{t-refusal, g-refusal, first-refusal, t-check, g-check};
 ghost use Rattle.prover_commit.specs.Work.{Work-given, Placed, Where-made, Committed, plain-sizes};
 
@@ -78,7 +77,7 @@ fn commit_ntt(
     ensures { λ result. ⌜ Where-made result (Committed (now (job .entry)) (now (witness .entry)) regions (now (scratch .exit))) ⌝ }
 {
     let a_at = offsets::of_job(params, names::MATRIX_A);
-    kept_commitments::t_of(
+    ntt::t_of(
         job,
         a_at,
         params.kappa,
@@ -93,7 +92,7 @@ fn commit_ntt(
     match check_t(params, regions, scratch) {
         Proved::Refused(refusal) => Proved::Refused(refusal),
         Proved::Made => {
-            kept_garbage::compute_g(
+            core_garbage_ntt::g::compute_g(
                 scratch,
                 regions.phi2,
                 params.multiplicity,

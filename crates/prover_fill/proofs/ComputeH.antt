@@ -5,20 +5,20 @@ use mathlib.Core.List.{List}
 use Prim.Native.Nat.{ℕ, _+_, _*_, _≤_}
 use native.Mathlib.Omega.{arith}
 use lib.ListN.{length}
-use Rattle.lists.specs.Part.{splice}
-use Rattle.lists.proofs.Splice.{length-splice}
-use Rattle.definitions.specs.Rq.{Element}
-use Rattle.protocol.specs.Formulas.{dot, flat, rows, triangle}
-use Rattle.protocol.proofs.Flat.{length-flat, length-rows}
-use Rattle.rq_matrix.specs.Region.{vector}
-use Rattle.garbage_polynomials.specs.Garbage.{h-of, TriangleFits}
-use Rattle.kept_vectors.specs.NttForm.{ntt-words}
-use Rattle.kept_vectors.proofs.Stored.{length-ntt-words}
-use Rattle.kept_h.specs.NttLines as K
-use Rattle.regions.specs.declared.Regions.{Regions}
-use Rattle.relation.specs.declared.env_params.EnvironmentParameters.{EnvironmentParameters}
-use Rattle.workspace.specs.Holds.{Unchanged}
-use Rattle.workspace.proofs.Unchanged.{unchanged-refl, unchanged-stored, unchanged-under}
+use Rattle.math.specs.lists.Part.{splice}
+use Rattle.math.proofs.lists.Splice.{length-splice}
+use Rattle.spec_leaves.specs.Rq.{Element}
+use Rattle.spec_protocol.specs.Formulas.{dot, flat, rows, triangle}
+use Rattle.spec_protocol.proofs.Flat.{length-flat, length-rows}
+use Rattle.ring_rq_matrix.specs.Region.{vector}
+use Rattle.core_garbage_polynomials.specs.Garbage.{h-of, TriangleFits}
+use Rattle.ntt_vectors.specs.NttForm.{ntt-words}
+use Rattle.ntt_vectors.proofs.Stored.{length-ntt-words}
+use Rattle.core_garbage_ntt.specs.NttLines as K
+use Rattle.layout_regions.specs.declared.Regions.{Regions}
+use Rattle.relation_env_params.specs.declared.env_params.EnvironmentParameters.{EnvironmentParameters}
+use Rattle.core_workspace.specs.Holds.{Unchanged}
+use Rattle.core_workspace.proofs.Unchanged.{unchanged-refl, unchanged-stored, unchanged-under}
 use Rattle.prover_commit.specs.Work.{Placed, Ready-for-h, with-h}
 use Rattle.prover_commit.proofs.Lengths.{length-cells}
 

@@ -4,18 +4,18 @@ use mathlib.Core.List.{List, _++_}
 use Prim.Native.Nat.{ℕ, _+_, _*_, _≤_}
 use native.Mathlib.Omega.{arith}
 use lib.ListN.{length, length-append}
-use Rattle.lists.specs.Part.{splice}
-use Rattle.protocol.specs.Parameters.{Parameters, parameters, T}
-use Rattle.protocol.specs.Layout.{scratch-need}
-use Rattle.regions.specs.declared.Regions.{Regions}
-use Rattle.relation.specs.declared.env_params.EnvironmentParameters.{EnvironmentParameters}
-use Rattle.relation.specs.Parameters.{parametersOf}
-use Rattle.workspace.specs.Holds.{Holds, Unchanged}
-use Rattle.workspace.specs.Aggregated.{a″-words, φ″-words, c-words, challenge-words}
-use Rattle.workspace.specs.Ready.{Ready, Drawn, Challengeable}
-use Rattle.workspace.proofs.Holds.{holds-first, holds-second}
-use Rattle.workspace.proofs.Unchanged.{unchanged-refl, unchanged-trans, unchanged-stored}
-use Rattle.workspace.proofs.Ready.{regions-end, φ″-end, a″-end, φ-end, a-end, g-end, c-end, t-end, u-end, length-φ″, length-a″, length-c, c-requires, c-made}
+use Rattle.math.specs.lists.Part.{splice}
+use Rattle.spec_protocol.specs.Parameters.{Parameters, parameters, T}
+use Rattle.spec_protocol.specs.Layout.{scratch-need}
+use Rattle.layout_regions.specs.declared.Regions.{Regions}
+use Rattle.relation_env_params.specs.declared.env_params.EnvironmentParameters.{EnvironmentParameters}
+use Rattle.relation_env_params.specs.Parameters.{parametersOf}
+use Rattle.core_workspace.specs.Holds.{Holds, Unchanged}
+use Rattle.core_workspace.specs.Aggregated.{a″-words, φ″-words, c-words, challenge-words}
+use Rattle.core_workspace.specs.Ready.{Ready, Drawn, Challengeable}
+use Rattle.core_workspace.proofs.Holds.{holds-first, holds-second}
+use Rattle.core_workspace.proofs.Unchanged.{unchanged-refl, unchanged-trans, unchanged-stored}
+use Rattle.core_workspace.proofs.Ready.{regions-end, φ″-end, a″-end, φ-end, a-end, g-end, c-end, t-end, u-end, length-φ″, length-a″, length-c, c-requires, c-made}
 use Rattle.prover_commit.specs.Words.{t-words, g-words, b″-words, h-words}
 use Rattle.prover_commit.specs.Work.{Work-given, Committed, Aggregated}
 use Rattle.prover_commit.proofs.Commitments.{held-stored, held-before, held-after, given-changed}
@@ -39,7 +39,16 @@ module _ (J R W : List ℕ) (params : EnvironmentParameters) (regions : Regions)
 
   double-prime-end : 0 + length (φ″-words J R ++ a″-words J R) ≤ regions .g
   double-prime-end =
-      omega (arith, double-prime-size, h .ready .laid .first, φ″-end J params regions S (h .ready), a″-end J params regions S (h .ready), φ-end J params regions S (h .ready), a-end J params regions S (h .ready))
+      omega (
+        arith,
+        double-prime-size,
+        h .ready .laid .first,
+        φ″-end J params regions S (h .ready),
+        a″-end J params regions S (h .ready),
+        φ-end J params regions S
+            (h .ready),
+        a-end J params regions S (h .ready),
+      )
 
   pub g-below : regions .g + length (g-words J W) ≤ regions .challenges
   g-below = omega (arith, length-g J W, g-end J params regions S (h .ready))

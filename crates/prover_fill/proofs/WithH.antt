@@ -5,25 +5,25 @@ use mathlib.Core.List.{List, _++_}
 use Prim.Native.Nat.{ℕ, _+_, _≤_}
 use native.Mathlib.Omega.{arith}
 use lib.ListN.{length, length-append}
-use Rattle.lists.specs.Part.{splice}
-use Rattle.lists.proofs.Splice.{length-splice}
-use Rattle.definitions.specs.declared.answers.Proved.{Proved}
-use Rattle.definitions.specs.declared.answers.Proved.the-variants as E
-use Rattle.protocol.specs.Parameters.{Parameters, parameters}
-use Rattle.protocol.specs.Layout.{scratch-need}
-use Rattle.regions.specs.declared.Regions.{Regions}
-use Rattle.relation.specs.declared.env_params.EnvironmentParameters.{EnvironmentParameters}
-use Rattle.workspace.specs.Ready.{Ready, Drawn}
-use Rattle.workspace.specs.Holds.{Holds, Unchanged}
-use Rattle.workspace.specs.Aggregated.{a″-words, φ″-words, φ-words}
-use Rattle.workspace.proofs.Unchanged.{unchanged-stored, unchanged-trans}
-use Rattle.workspace.proofs.Ready.{drawn-fewer, φ″-end, a″-end, φ-end, a-end, g-end, c-end, length-φ″, length-a″, length-φ}
+use Rattle.math.specs.lists.Part.{splice}
+use Rattle.math.proofs.lists.Splice.{length-splice}
+use Rattle.spec_leaves.specs.declared.answers.Proved.{Proved}
+use Rattle.spec_leaves.specs.declared.answers.Proved.the-variants as E
+use Rattle.spec_protocol.specs.Parameters.{Parameters, parameters}
+use Rattle.spec_protocol.specs.Layout.{scratch-need}
+use Rattle.layout_regions.specs.declared.Regions.{Regions}
+use Rattle.relation_env_params.specs.declared.env_params.EnvironmentParameters.{EnvironmentParameters}
+use Rattle.core_workspace.specs.Ready.{Ready, Drawn}
+use Rattle.core_workspace.specs.Holds.{Holds, Unchanged}
+use Rattle.core_workspace.specs.Aggregated.{a″-words, φ″-words, φ-words}
+use Rattle.core_workspace.proofs.Unchanged.{unchanged-stored, unchanged-trans}
+use Rattle.core_workspace.proofs.Ready.{drawn-fewer, φ″-end, a″-end, φ-end, a-end, g-end, c-end, length-φ″, length-a″, length-φ}
 use Rattle.prover_commit.specs.Words.{t-words, g-words, b″-words, h-words}
 use Rattle.prover_commit.specs.Refusals.{h-refusal, h-check}
 use Rattle.prover_commit.specs.Work.{Work-given, Where-made, Committed, Weighed, Aggregated, AllMade, with-h}
 use Rattle.prover_commit.proofs.Commitments.{from-made, held-stored, held-before, held-after, given-changed, a-room, given-h, unchanged-h, stands-h, held-h, h-checked}
 use Rattle.prover_commit.proofs.Lengths.{length-h}
-use Rattle.prover_phi_and_b.specs.Stored.{with-φ, weighed-scratch}
+use Rattle.prover_fill.specs.Stored.{with-φ, weighed-scratch}
 use Rattle.prover_fill.proofs.Scratch as Scratch
 
 -- φ and b'' leave the scratch's length
@@ -88,7 +88,8 @@ module _ (J R W : List ℕ) (params : EnvironmentParameters) (regions : Regions)
         φ-held = held-stored S₂ S₃ (regions .phi) (φ-words J R) e₃ (omega (arith, φ-stop, h-room, h .ready .room, size₂))
 
         pub unchanged-φ : Unchanged (scratch-need P) S S₃
-        unchanged-φ = unchanged-stored (scratch-need P) S S₂ S₃ (regions .phi) (φ-words J R) (unchanged-stored (scratch-need P) S S₁ S₂ 0 both unchanged e₂ (omega (arith, both-end, φ-stop, h-room))) e₃ (omega (arith, φ-stop, h-room))
+        unchanged-φ = unchanged-stored (scratch-need P) S S₂ S₃ (regions .phi) (φ-words J R)
+            (unchanged-stored (scratch-need P) S S₁ S₂ 0 both unchanged e₂ (omega (arith, both-end, φ-stop, h-room))) e₃ (omega (arith, φ-stop, h-room))
 
         pub weighed : (r : Proved) → r ≡ E.Made → Where-made r (Committed J W regions S₁) → Weighed J R W regions S₃
         weighed r made w =

@@ -1,32 +1,32 @@
 // What the prover works out into the scratch, with the refusals 13 to 16: b'', h and the challenges after t and g.
-use admission::calls::Call;
-use aggregate;
-use commitment_bounds::common_instances;
-use commitments::outer_commitments::Digits;
-use definitions::answers::Proved;
-use definitions::answers::Refusal;
-use garbage_polynomials::h;
-use kept_h;
+pub mod phi_and_b;
+
+use admission_slices::calls::Call;
+use commitments_bounds::common_instances;
+use commitments_outer::outer_commitments::Digits;
+use core_aggregate;
+use core_garbage_polynomials::h;
+use core_workspace;
+use layout_regions::Regions;
+use layout_sizes::slices;
 use prover_commit::commit;
 use prover_commit::plain_is_faster;
-use prover_phi_and_b;
-use regions::Regions;
-use relation::env_params::EnvironmentParameters;
-use sizes::slices;
-use workspace;
+use relation_env_params::env_params::EnvironmentParameters;
+use spec_leaves::answers::Proved;
+use spec_leaves::answers::Refusal;
 ghost use mathlib.Core.Path.{_≡_};
-ghost use Rattle.definitions.specs.Answer.{ofProved};
-ghost use Rattle.protocol.specs.Parameters.{parameters};
-ghost use Rattle.protocol.specs.Layout.{scratch-need};
-ghost use Rattle.protocol.specs.Prover.{round₃, round₄, round₅, whole};
-ghost use Rattle.admission.specs.Admission.{callOf};
-ghost use Rattle.admission.specs.declared.calls.Call.the-variants as C;
-ghost use Rattle.workspace.specs.Ready.{Drawn};
-ghost use Rattle.workspace.specs.Holds.{Holds, Unchanged};
-ghost use Rattle.workspace.specs.Aggregated.{φ″-words};
+ghost use Rattle.spec_leaves.specs.Answer.{ofProved};
+ghost use Rattle.spec_protocol.specs.Parameters.{parameters};
+ghost use Rattle.spec_protocol.specs.Layout.{scratch-need};
+ghost use Rattle.spec_protocol.specs.Prover.{round₃, round₄, round₅, whole};
+ghost use Rattle.admission_slices.specs.Admission.{callOf};
+ghost use Rattle.admission_slices.specs.declared.calls.Call.the-variants as C;
+ghost use Rattle.core_workspace.specs.Ready.{Drawn};
+ghost use Rattle.core_workspace.specs.Holds.{Holds, Unchanged};
+ghost use Rattle.core_workspace.specs.Aggregated.{φ″-words};
 ghost use Rattle.prover_commit.specs.Refusals.{work, h-check};
 ghost use Rattle.prover_commit.specs.Work.{Work-given, Placed, Where-made, AllMade, Filled, Ready-for-h, with-h};
-ghost use Rattle.prover_phi_and_b.specs.Stored.{weighed-with-h};
+ghost use Rattle.prover_fill.specs.Stored.{weighed-with-h};
 
 // "16 of h above D's"
 fn check_h(params: EnvironmentParameters, regions: Regions, scratch: &[u32]) -> Proved
@@ -62,8 +62,8 @@ fn commit_with_b_double_prime(
     match commit(job, witness, params, regions, scratch) {
         Proved::Refused(refusal) => Proved::Refused(refusal),
         Proved::Made => {
-            workspace::double_prime(job, randomness, params, regions, scratch);
-            aggregate::b_double_prime(
+            core_workspace::double_prime(job, randomness, params, regions, scratch);
+            core_aggregate::b_double_prime(
                 scratch,
                 regions.a2,
                 regions.g,
@@ -96,7 +96,7 @@ fn compute_h(witness: &[u32], params: EnvironmentParameters, regions: Regions, s
             regions.a_or_h,
         );
     } else {
-        kept_h::compute_h(
+        core_garbage_ntt::h::compute_h(
             witness,
             1,
             params.multiplicity,
@@ -141,9 +141,9 @@ fn weigh(
         (now (scratch .exit)) ⌝ }
 {
     if with_b {
-        prover_phi_and_b::phi_and_b(job, randomness, witness, params, regions, scratch);
+        phi_and_b::phi_and_b(job, randomness, witness, params, regions, scratch);
     } else {
-        workspace::phi(job, randomness, params, regions, scratch);
+        core_workspace::phi(job, randomness, params, regions, scratch);
     }
     add_h(witness, params, regions, scratch)
 }
@@ -165,7 +165,7 @@ fn commit_with_h(
     match commit(job, witness, params, regions, scratch) {
         Proved::Refused(refusal) => Proved::Refused(refusal),
         Proved::Made => {
-            workspace::double_prime(job, randomness, params, regions, scratch);
+            core_workspace::double_prime(job, randomness, params, regions, scratch);
             weigh(job, randomness, witness, params, regions, scratch, false)
         }
     }
@@ -188,7 +188,7 @@ fn commit_with_b_and_h(
     match commit(job, witness, params, regions, scratch) {
         Proved::Refused(refusal) => Proved::Refused(refusal),
         Proved::Made => {
-            workspace::double_prime(job, randomness, params, regions, scratch);
+            core_workspace::double_prime(job, randomness, params, regions, scratch);
             weigh(job, randomness, witness, params, regions, scratch, true)
         }
     }
@@ -211,7 +211,7 @@ fn commit_with_challenges(
     match commit_with_h(job, randomness, witness, params, regions, scratch) {
         Proved::Refused(refusal) => Proved::Refused(refusal),
         Proved::Made => {
-            workspace::generate_challenges(randomness, params, regions, scratch);
+            core_workspace::generate_challenges(randomness, params, regions, scratch);
             Proved::Made
         }
     }
@@ -234,7 +234,7 @@ fn commit_for_all(
     match commit_with_b_and_h(job, randomness, witness, params, regions, scratch) {
         Proved::Refused(refusal) => Proved::Refused(refusal),
         Proved::Made => {
-            workspace::generate_challenges(randomness, params, regions, scratch);
+            core_workspace::generate_challenges(randomness, params, regions, scratch);
             Proved::Made
         }
     }

@@ -6,13 +6,13 @@ use native.Mathlib.Omega.{arith}
 use mir.Syntax.{w32, w64}
 use mir.Val.{Fits}
 use lib.ListN.{length, set, length-set}
-use Rattle.protocol.specs.Layout.{start, sections, randomness-sections}
-use Rattle.jl.specs.Run as Jl
-use Rattle.regions.specs.declared.Regions.{Regions}
-use Rattle.relation.specs.declared.env_params.EnvironmentParameters.{EnvironmentParameters}
-use Rattle.relation.specs.Parameters.{parametersOf}
-use Rattle.workspace.specs.Ready.{Drawn}
-use Rattle.workspace.proofs.Ready.{ready-sized, Π-within}
+use Rattle.spec_protocol.specs.Layout.{start, sections, randomness-sections}
+use Rattle.core_jl.specs.Run as Jl
+use Rattle.layout_regions.specs.declared.Regions.{Regions}
+use Rattle.relation_env_params.specs.declared.env_params.EnvironmentParameters.{EnvironmentParameters}
+use Rattle.relation_env_params.specs.Parameters.{parametersOf}
+use Rattle.core_workspace.specs.Ready.{Drawn}
+use Rattle.core_workspace.proofs.Ready.{ready-sized, Π-within}
 use Rattle.prover_commit.specs.Work.{Work-given}
 use Rattle.prover_commit.proofs.Room.{s-room}
 use Rattle.prover_p_and_b.specs.Sections.{Projects}
@@ -69,7 +69,8 @@ pub p-room : (params : EnvironmentParameters) (R W : List ℕ) → Projects para
     → Jl.Within R at W 1 (params .rank) (params .multiplicity)
 p-room params R W h at e =
     record {
-      matrices = subst (λ a. a + params .multiplicity * 256 * (64 * params .rank) ≤ length R) (sym e) (turned (start (randomness-sections (parametersOf params)) 0) (params .rank) (params .multiplicity) (length R) (h .matrices));
+      matrices = subst (λ a. a + params .multiplicity * 256 * (64 * params .rank) ≤ length R) (sym e)
+          (turned (start (randomness-sections (parametersOf params)) 0) (params .rank) (params .multiplicity) (length R) (h .matrices));
       vectors = joined (params .rank) (params .multiplicity) (length W) (h .vectors);
       narrow = up (params .rank) (h .sized .within .n .1);
       few = up′ (params .multiplicity) (h .sized .within .r .1);

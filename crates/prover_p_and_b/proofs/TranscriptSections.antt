@@ -6,10 +6,10 @@ use native.Mathlib.Numerals.{add-one}
 use native.Mathlib.Omega.{arith}
 use lib.ListN.{length, set, length-append}
 use lib.Seq.{sets}
-use Rattle.lists.specs.Part.{part, splice}
-use Rattle.lists.proofs.Splice.{length-splice, splice-append}
-use Rattle.protocol.specs.Layout.{sections}
-use Rattle.protocol.proofs.Prefix.{sections-append}
+use Rattle.math.specs.lists.Part.{part, splice}
+use Rattle.math.proofs.lists.Splice.{length-splice, splice-append}
+use Rattle.spec_protocol.specs.Layout.{sections}
+use Rattle.spec_protocol.proofs.Prefix.{sections-append}
 use Rattle.prover_p_and_b.specs.Sections.{SectionsRoom, Put}
 
 -- their words, counts included
@@ -43,7 +43,8 @@ section-stored o o′ at count ws new stored same size =
     ∙ ap (sets o at) (sym (one-section ws))
 
 -- a section copied from where its words stand
-pub section-copied : (o o′ S : List ℕ) (at from count n : ℕ) → o′ ≡ splice o at (count ∷ part S from count) → count ≡ n → length (part S from n) ≡ count → o′ ≡ splice o at (sections (part S from n ∷ []))
+pub section-copied : (o o′ S : List ℕ) (at from count n : ℕ) → o′ ≡ splice o at (count ∷ part S from count) → count ≡ n → length (part S from n) ≡ count
+    → o′ ≡ splice o at (sections (part S from n ∷ []))
 section-copied o o′ S at from count n copied same size =
     copied
     ∙ ap (λ k. splice o at (count ∷ part S from k)) same
@@ -51,7 +52,8 @@ section-copied o o′ S at from count n copied same size =
     ∙ ap (splice o at) (sym (one-section (part S from n)))
 
 -- sections stored after sections, where the place is theirs
-pub section-after : (o o₁ o₂ : List ℕ) (at next : ℕ) (xs ys : List (List ℕ)) → o₁ ≡ splice o at (sections xs) → o₂ ≡ splice o₁ next (sections ys) → next ≡ at + length (sections xs) → o₂ ≡ splice o at (sections (xs ++ ys))
+pub section-after : (o o₁ o₂ : List ℕ) (at next : ℕ) (xs ys : List (List ℕ)) → o₁ ≡ splice o at (sections xs) → o₂ ≡ splice o₁ next (sections ys) → next ≡ at + length (sections xs)
+    → o₂ ≡ splice o at (sections (xs ++ ys))
 section-after o o₁ o₂ at next xs ys first second place = second ∙ ap₂ (λ l k. splice l k (sections ys)) first place ∙ sections-after o at xs ys
 
 -- room for the first of some sections

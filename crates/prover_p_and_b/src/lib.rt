@@ -1,11 +1,11 @@
 // p and b'' in the lent output, each after its count. Each function writes from a place on and answers the place after it.
-use jl::projection;
-use regions::Regions;
-use relation::env_params::EnvironmentParameters;
-use sizes::names;
-use sizes::offsets;
+use core_jl::projection;
+use layout_regions::Regions;
+use layout_sizes::names;
+use layout_sizes::offsets;
+use relation_env_params::env_params::EnvironmentParameters;
 ghost use mathlib.Core.List.{[], _∷_};
-ghost use Rattle.relation.specs.Parameters.{parametersOf};
+ghost use Rattle.relation_env_params.specs.Parameters.{parametersOf};
 ghost use Rattle.prover_commit.specs.Work.{Placed};
 ghost use Rattle.prover_p_and_b.specs.Sections.{p-in, b″-in, SectionsRoom, Put, Projects};
 
@@ -48,6 +48,6 @@ pub fn put_b_double_prime(
     ensures { λ next. ⌜ Put at next (now (output .entry)) (now (output .exit)) (b″-in (parametersOf params) regions (now (scratch .entry)) ∷ []) ⌝ }
 {
     let count = 64 * params.const_agg_length;
-    words::put_section(output, at, scratch, regions.b2, count);
+    ring_words::put_section(output, at, scratch, regions.b2, count);
     at + 1 + count
 }

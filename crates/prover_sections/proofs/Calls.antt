@@ -4,18 +4,18 @@ use mathlib.Core.List.{List, [], _∷_}
 use Prim.Native.Nat.{ℕ, _+_, _≤_}
 use native.Mathlib.Omega.{arith}
 use lib.ListN.{length}
-use Rattle.lists.specs.Part.{splice}
-use Rattle.protocol.specs.Parameters.{parameters}
-use Rattle.protocol.specs.Layout.{span, sections}
-use Rattle.protocol.specs.Formulas as F
-use Rattle.protocol.specs.Prover.{whole, round₁, round₂, round₃, round₄, round₅, made-sections, transcript, made}
-use Rattle.protocol.proofs.Accepted.{length-made}
-use Rattle.admission.specs.declared.calls.Call.the-variants as C
-use Rattle.admission.specs.declared.calls.Call as Code
-use Rattle.admission.specs.Admission.{callOf}
-use Rattle.regions.specs.declared.Regions.{Regions}
-use Rattle.relation.specs.declared.env_params.EnvironmentParameters.{EnvironmentParameters}
-use Rattle.relation.specs.Parameters.{parametersOf}
+use Rattle.math.specs.lists.Part.{splice}
+use Rattle.spec_protocol.specs.Parameters.{parameters}
+use Rattle.spec_protocol.specs.Layout.{span, sections}
+use Rattle.spec_protocol.specs.Formulas as F
+use Rattle.spec_protocol.specs.Prover.{whole, round₁, round₂, round₃, round₄, round₅, made-sections, transcript, made}
+use Rattle.spec_protocol.proofs.Accepted.{length-made}
+use Rattle.admission_slices.specs.declared.calls.Call.the-variants as C
+use Rattle.admission_slices.specs.declared.calls.Call as Code
+use Rattle.admission_slices.specs.Admission.{callOf}
+use Rattle.layout_regions.specs.declared.Regions.{Regions}
+use Rattle.relation_env_params.specs.declared.env_params.EnvironmentParameters.{EnvironmentParameters}
+use Rattle.relation_env_params.specs.Parameters.{parametersOf}
 use Rattle.prover_commit.specs.Words.{X, s, u₁-words, p-words, b″-words, u₂-words, z-words, t-words, g-words, h-words}
 use Rattle.prover_commit.specs.Refusals.{makes}
 use Rattle.prover_commit.specs.Work.{Filled}
@@ -70,7 +70,8 @@ module _ (J R W : List ℕ) where
     last-made : Filled J R W regions S C.Round5 → last-in (parametersOf params) regions S W ≡ z-words J R W ∷ t-words J W ∷ g-words J W ∷ h-words J R W ∷ []
     last-made k =
         ap₂ _∷_ (z-made J R W params regions S same (k .1))
-        (ap₂ _∷_ (t-made J R W params regions S same (k .0 .committed)) (ap₂ _∷_ (g-made J R W params regions S same (k .0 .committed)) (ap (λ w. w ∷ []) (h-made J R W params regions S same (k .0 .h)))))
+        (ap₂ _∷_ (t-made J R W params regions S same (k .0 .committed))
+        (ap₂ _∷_ (g-made J R W params regions S same (k .0 .committed)) (ap (λ w. w ∷ []) (h-made J R W params regions S same (k .0 .h)))))
 
     pub sections₅ : Filled J R W regions S C.Round5 → sections (last-in (parametersOf params) regions S W) ≡ makes J R W round₅
     sections₅ k = ap sections (last-made k) ∙ made₅

@@ -3,25 +3,25 @@ use mathlib.Core.Path.{_≡_, sym, ap, _∙_}
 use mathlib.Core.List.{List, []}
 use Prim.Native.Nat.{ℕ, _+_, _*_}
 use lib.ListN.{length}
-use Rattle.lists.specs.Table.{table}
-use Rattle.lists.specs.Part.{part}
-use Rattle.protocol.specs.Parameters.{Parameters, parameters, T}
-use Rattle.protocol.specs.Layout.{start, job-sections}
-use Rattle.protocol.specs.Views.{public}
-use Rattle.protocol.specs.Formulas as F
-use Rattle.protocol.specs.Formulas.{_⊕_, flat, times}
-use Rattle.protocol.proofs.ReadBack.{g-symmetric, h-symmetric}
-use Rattle.rq_matrix.specs.Region.{vector}
-use Rattle.commitments.specs.Cells.{digits-at}
-use Rattle.commitments.proofs.Formula.{digits, u₁-is, u₂-is}
-use Rattle.jl.proofs.Formula.{run-is-p}
-use Rattle.challenges.proofs.Formula.{z-formula}
-use Rattle.regions.specs.declared.Regions.{Regions}
-use Rattle.relation.specs.declared.env_params.EnvironmentParameters.{EnvironmentParameters}
-use Rattle.relation.specs.Parameters.{parametersOf}
-use Rattle.workspace.specs.Holds.{Holds}
-use Rattle.workspace.specs.Aggregated.{c-words}
-use Rattle.workspace.proofs.Holds.{elements-held, vectors-held, triangle-held}
+use Rattle.math.specs.lists.Table.{table}
+use Rattle.math.specs.lists.Part.{part}
+use Rattle.spec_protocol.specs.Parameters.{Parameters, parameters, T}
+use Rattle.spec_protocol.specs.Layout.{start, job-sections}
+use Rattle.spec_protocol.specs.Views.{public}
+use Rattle.spec_protocol.specs.Formulas as F
+use Rattle.spec_protocol.specs.Formulas.{_⊕_, flat, times}
+use Rattle.spec_protocol.proofs.ReadBack.{g-symmetric, h-symmetric}
+use Rattle.ring_rq_matrix.specs.Region.{vector}
+use Rattle.commitments_outer.specs.Cells.{digits-at}
+use Rattle.commitments_outer.proofs.Formula.{digits, u₁-is, u₂-is}
+use Rattle.core_jl.proofs.Formula.{run-is-p}
+use Rattle.transcript_challenges.proofs.Formula.{z-formula}
+use Rattle.layout_regions.specs.declared.Regions.{Regions}
+use Rattle.relation_env_params.specs.declared.env_params.EnvironmentParameters.{EnvironmentParameters}
+use Rattle.relation_env_params.specs.Parameters.{parametersOf}
+use Rattle.core_workspace.specs.Holds.{Holds}
+use Rattle.core_workspace.specs.Aggregated.{c-words}
+use Rattle.core_workspace.proofs.Holds.{elements-held, vectors-held, triangle-held}
 use Rattle.prover_commit.specs.Words.{statement, X, s, u₁-words, p-words, b″-words, u₂-words, z-words, t-words, g-words, h-words}
 use Rattle.prover_commit.specs.Work.{Committed}
 use Rattle.prover_commit.proofs.Lengths.{length-t, length-g, length-b″, length-h}

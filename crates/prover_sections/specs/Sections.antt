@@ -1,15 +1,15 @@
 -- The words of the transcript's sections as they are made of slices and of what stands in the scratch's regions.
 use mathlib.Core.List.{List, [], _∷_}
 use Prim.Native.Nat.{ℕ, _+_, _*_}
-use Rattle.lists.specs.Table.{table}
-use Rattle.lists.specs.Part.{part}
-use Rattle.inner_product.specs.Run.{run}
-use Rattle.protocol.specs.Parameters.{Parameters, T}
-use Rattle.protocol.specs.Layout.{start, job-sections}
-use Rattle.protocol.specs.Formulas.{_⊕_, _⊗_, sum, flat, times}
-use Rattle.rq_matrix.specs.Region.{vector}
-use Rattle.commitments.specs.Cells.{digits-at}
-use Rattle.regions.specs.declared.Regions.{Regions}
+use Rattle.math.specs.lists.Table.{table}
+use Rattle.math.specs.lists.Part.{part}
+use Rattle.ring_inner_product.specs.Run.{run}
+use Rattle.spec_protocol.specs.Parameters.{Parameters, T}
+use Rattle.spec_protocol.specs.Layout.{start, job-sections}
+use Rattle.spec_protocol.specs.Formulas.{_⊕_, _⊗_, sum, flat, times}
+use Rattle.ring_rq_matrix.specs.Region.{vector}
+use Rattle.commitments_outer.specs.Cells.{digits-at}
+use Rattle.layout_regions.specs.declared.Regions.{Regions}
 use Rattle.prover_p_and_b.specs.Sections.{p-in, b″-in}
 
 module _ (P : Parameters) where

@@ -1,25 +1,25 @@
 // The transcript's sections in the lent output, each after its count. Each function writes from a place on and answers the place after it.
-use admission::calls::Call;
-use commitments::outer_commitments;
-use commitments::outer_commitments::Digits;
+use admission_slices::calls::Call;
+use commitments_outer::outer_commitments;
+use commitments_outer::outer_commitments::Digits;
+use layout_regions::Regions;
+use layout_sizes::names;
+use layout_sizes::offsets;
+use layout_sizes::slices;
 use prover_p_and_b::compute_p;
 use prover_p_and_b::put_b_double_prime;
-use regions::Regions;
-use relation::env_params::EnvironmentParameters;
-use sizes::names;
-use sizes::offsets;
-use sizes::slices;
+use relation_env_params::env_params::EnvironmentParameters;
 ghost use mathlib.Core.Path.{_≡_};
 ghost use mathlib.Core.List.{[], _∷_};
 ghost use Prim.Native.Nat.{_≤_};
 ghost use lib.ListN.{length};
-ghost use Rattle.lists.specs.Part.{splice};
-ghost use Rattle.protocol.specs.Parameters.{parameters};
-ghost use Rattle.protocol.specs.Layout.{span};
-ghost use Rattle.protocol.specs.Prover.{made-sections};
-ghost use Rattle.admission.specs.Admission.{callOf};
-ghost use Rattle.relation.specs.Parameters.{parametersOf};
-ghost use Rattle.workspace.specs.Ready.{Ready, Drawn};
+ghost use Rattle.math.specs.lists.Part.{splice};
+ghost use Rattle.spec_protocol.specs.Parameters.{parameters};
+ghost use Rattle.spec_protocol.specs.Layout.{span};
+ghost use Rattle.spec_protocol.specs.Prover.{made-sections};
+ghost use Rattle.admission_slices.specs.Admission.{callOf};
+ghost use Rattle.relation_env_params.specs.Parameters.{parametersOf};
+ghost use Rattle.core_workspace.specs.Ready.{Ready, Drawn};
 ghost use Rattle.prover_commit.specs.Refusals.{makes};
 ghost use Rattle.prover_commit.specs.Work.{Work-given, Placed, Filled};
 ghost use Rattle.prover_p_and_b.specs.Sections.{SectionsRoom, Put, Vectors, Projects};
@@ -115,7 +115,7 @@ fn compute_z(
     let vectors = params.multiplicity;
     let count = 64 * params.rank;
     output[at] = count as u32;
-    challenges::compute_z(
+    transcript_challenges::compute_z(
         witness,
         1,
         scratch,
@@ -143,9 +143,9 @@ fn put_t_g_h(
     let count = 64 * slices::triangle(params.multiplicity);
     let g_at = at + 1 + cells;
     let h_at = g_at + 1 + count;
-    words::put_section(output, at, scratch, regions.t, cells);
-    words::put_section(output, g_at, scratch, regions.g, count);
-    words::put_section(output, h_at, scratch, regions.a_or_h, count);
+    ring_words::put_section(output, at, scratch, regions.t, cells);
+    ring_words::put_section(output, g_at, scratch, regions.g, count);
+    ring_words::put_section(output, h_at, scratch, regions.a_or_h, count);
     h_at + 1 + count
 }
 

@@ -4,12 +4,12 @@ use crate::answers::RangesChecked;
 use crate::answers::refusal_of;
 use crate::answers::refused;
 use crate::checks;
-use admission::answers::Admitted;
-use admission::job;
-use range_vectors::vectors;
-use relation::env_params::EnvironmentParameters;
-ghost use Rattle.relation.specs.Parameters.{parametersOf};
-ghost use Rattle.sizes.specs.Sizes.{Sized};
+use admission_slices::answers::Admitted;
+use admission_slices::job;
+use ranges_vectors::vectors::vectors;
+use relation_env_params::env_params::EnvironmentParameters;
+ghost use Rattle.relation_env_params.specs.Parameters.{parametersOf};
+ghost use Rattle.layout_sizes.specs.Sizes.{Sized};
 ghost use Rattle.ranges.specs.Answers.{RangesCall, RangesOf};
 
 // With the parameters of a job that is refused nothing.

@@ -4,36 +4,36 @@ use mathlib.Core.List.{List, [], _∷_}
 use Prim.Native.Nat.{ℕ, _≤_}
 use native.Mathlib.Omega.{arith}
 use lib.ListN.{length, replicate, take, drop, length-append, length-replicate, length-drop}
-use Rattle.lists.specs.Part.{splice}
+use Rattle.math.specs.lists.Part.{splice}
 use denote.Enum.Declared.{tagOf}
 use types.Run.{OneOf}
-use Rattle.definitions.proofs.answers.Checked.{the-type}
-use Rattle.definitions.specs.Answer.{Answer, accepted, ofRefusal, ofChecked, ofVerdict, result, _then_}
-use Rattle.definitions.specs.declared.answers.Checked.{Checked}
-use Rattle.definitions.specs.declared.answers.Checked.the-variants as C
-use Rattle.definitions.specs.declared.answers.Verdict.{Verdict}
-use Rattle.definitions.specs.declared.answers.Refusal.{Refusal}
-use Rattle.protocol.specs.Parameters.{parameters}
-use Rattle.protocol.specs.Layout.{randomness-sections, scratch-need}
-use Rattle.protocol.specs.Views.{Public, Message, public, message}
-use Rattle.protocol.specs.Formulas.{cells-left-of, u₁-of, u₂-of}
-use Rattle.protocol.specs.Prover.{t-norm, g-norm, h-norm, zeroed}
-use Rattle.protocol.specs.Verifier.{check-21, check-22, check-23, check-24, check-25, check-26, check-27, check-28, check-29, checks, verify-refusal, verify, verify-scratch}
-use Rattle.protocol.proofs.Then.{then-assoc}
-use Rattle.layout.specs.Laid.{Laid}
-use Rattle.layout.proofs.Then.{goes-on}
-use Rattle.regions.specs.declared.Regions.{Regions}
-use Rattle.regions.specs.Laid as Places
-use Rattle.relation.specs.declared.env_params.EnvironmentParameters.{EnvironmentParameters}
-use Rattle.relation.specs.Parameters.{parametersOf}
-use Rattle.sizes.specs.Sizes.{Sized}
-use Rattle.admission.specs.declared.answers.Admitted.{Admitted}
-use Rattle.admission.specs.declared.answers.Admitted.the-variants as A
-use Rattle.admission.specs.Admission.{ofAdmitted, At, Verifiable}
-use Rattle.admission.proofs.Fit.{refusal-none}
-use Rattle.workspace.specs.Ready.{Ready, Drawn}
-use Rattle.workspace.specs.Holds.{Unchanged}
-use Rattle.workspace.proofs.Unchanged.{unchanged-clear}
+use Rattle.spec_leaves.proofs.answers.Checked.{the-type}
+use Rattle.spec_leaves.specs.Answer.{Answer, accepted, ofRefusal, ofChecked, ofVerdict, result, _then_}
+use Rattle.spec_leaves.specs.declared.answers.Checked.{Checked}
+use Rattle.spec_leaves.specs.declared.answers.Checked.the-variants as C
+use Rattle.spec_leaves.specs.declared.answers.Verdict.{Verdict}
+use Rattle.spec_leaves.specs.declared.answers.Refusal.{Refusal}
+use Rattle.spec_protocol.specs.Parameters.{parameters}
+use Rattle.spec_protocol.specs.Layout.{randomness-sections, scratch-need}
+use Rattle.spec_protocol.specs.Views.{Public, Message, public, message}
+use Rattle.spec_protocol.specs.Formulas.{cells-left-of, u₁-of, u₂-of}
+use Rattle.spec_protocol.specs.Prover.{t-norm, g-norm, h-norm, zeroed}
+use Rattle.spec_protocol.specs.Verifier.{check-21, check-22, check-23, check-24, check-25, check-26, check-27, check-28, check-29, checks, verify-refusal, verify, verify-scratch}
+use Rattle.spec_protocol.proofs.Then.{then-assoc}
+use Rattle.spec_protocol.specs.Laid.{Laid}
+use Rattle.layout_sections.proofs.Then.{goes-on}
+use Rattle.layout_regions.specs.declared.Regions.{Regions}
+use Rattle.layout_regions.specs.Laid as Places
+use Rattle.relation_env_params.specs.declared.env_params.EnvironmentParameters.{EnvironmentParameters}
+use Rattle.relation_env_params.specs.Parameters.{parametersOf}
+use Rattle.layout_sizes.specs.Sizes.{Sized}
+use Rattle.admission_slices.specs.declared.answers.Admitted.{Admitted}
+use Rattle.admission_slices.specs.declared.answers.Admitted.the-variants as A
+use Rattle.admission_slices.specs.Admission.{ofAdmitted, At, Verifiable}
+use Rattle.admission_slices.proofs.Fit.{refusal-none}
+use Rattle.core_workspace.specs.Ready.{Ready, Drawn}
+use Rattle.core_workspace.specs.Holds.{Unchanged}
+use Rattle.core_workspace.proofs.Unchanged.{unchanged-clear}
 use Rattle.verifier_common.specs.Work.{Sent}
 use Rattle.verifier_common.specs.Answers.{cells-left}
 use Rattle.verifier_norms.specs.Order.{norms}
@@ -62,7 +62,8 @@ abbrev pub of-commitments : Public → Message → Answer
 of-commitments X M = ((t-norm X (M .t) then g-norm X (M .g)) then check-28 X M) then (h-norm X (M .h) then check-29 X M)
 
 -- the checks of no randomness, and of parameters alone, are those of the protocol
-norms-are : (J R T : List ℕ) → norms J R T ≡ check-21 (public J R) (message (parameters J) T) then check-22 (public J R) (message (parameters J) T) then check-23 (public J R) (message (parameters J) T)
+norms-are : (J R T : List ℕ) → norms J R T ≡ check-21 (public J R) (message (parameters J) T) then check-22 (public J R) (message (parameters J) T) then check-23 (public J R)
+    (message (parameters J) T)
 unfolding check-21 check-23
 norms-are J R T = refl
 

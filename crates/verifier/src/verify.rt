@@ -1,27 +1,27 @@
 // The verifier's call on whole slices, for every input.
-use admission::answers::Admitted;
 use admission_order::verifier;
-use definitions::answers::Checked;
-use definitions::answers::Verdict;
-use regions::Regions;
-use relation::env_params::EnvironmentParameters;
-use sizes::buffers;
+use admission_slices::answers::Admitted;
+use layout_regions::Regions;
+use layout_sizes::buffers;
+use relation_env_params::env_params::EnvironmentParameters;
+use spec_leaves::answers::Checked;
+use spec_leaves::answers::Verdict;
 use verifier_commitments::outer_commitments;
 use verifier_common::verdict;
 use verifier_digits::SentDigits;
 use verifier_norms::norm_checks;
 use verifier_relations::relations;
 ghost use mathlib.Core.Path.{_≡_};
-ghost use Rattle.definitions.specs.Answer.{ofChecked, ofVerdict};
-ghost use Rattle.protocol.specs.Parameters.{parameters};
+ghost use Rattle.spec_leaves.specs.Answer.{ofChecked, ofVerdict};
+ghost use Rattle.spec_protocol.specs.Parameters.{parameters};
 ghost use lib.ListN.{length};
-ghost use Rattle.protocol.specs.Layout.{scratch-need};
-ghost use Rattle.protocol.specs.Prover.{zeroed};
-ghost use Rattle.protocol.specs.Verifier.{verify as verdict, verify-scratch};
-ghost use Rattle.admission.specs.Admission.{Verifiable};
-ghost use Rattle.workspace.specs.Ready.{Ready};
-ghost use Rattle.workspace.specs.Holds.{Unchanged};
-ghost use Rattle.relation.specs.Parameters.{parametersOf};
+ghost use Rattle.spec_protocol.specs.Layout.{scratch-need};
+ghost use Rattle.spec_protocol.specs.Prover.{zeroed};
+ghost use Rattle.spec_protocol.specs.Verifier.{verify as verdict, verify-scratch};
+ghost use Rattle.admission_slices.specs.Admission.{Verifiable};
+ghost use Rattle.core_workspace.specs.Ready.{Ready};
+ghost use Rattle.core_workspace.specs.Holds.{Unchanged};
+ghost use Rattle.relation_env_params.specs.Parameters.{parametersOf};
 ghost use Rattle.verifier_common.specs.Work.{Sent};
 ghost use Rattle.verifier_digits.specs.Taken.{Taken};
 ghost use Rattle.verifier.specs.Order.{rest, all-checks};
@@ -90,7 +90,7 @@ pub fn work_and_clear(
     ensures { λ v. ⌜ ofVerdict v ≡ all-checks (now (job .entry)) (now (randomness .entry)) (now (transcript .entry)) ⌝ }
     ensures { λ v. ⌜ now (scratch .exit) ≡ zeroed (scratch-need (parameters (now (job .entry)))) (now (scratch .entry)) ⌝ }
 {
-    let regions = regions::lay_out(
+    let regions = layout_regions::lay_out(
         params.rank,
         params.multiplicity,
         params.kappa,
@@ -98,7 +98,7 @@ pub fn work_and_clear(
     );
     let answer = check_all(job, randomness, transcript, params, regions, scratch);
     let need = buffers::scratch_length(params);
-    words::clear(scratch, need);
+    ring_words::clear(scratch, need);
     answer
 }
 

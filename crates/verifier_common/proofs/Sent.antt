@@ -5,15 +5,15 @@ use Prim.Native.Nat.{ℕ, _+_, _*_, _≤_, _<_, _^_}
 use native.Mathlib.Nat.{mul-le-mul}
 use native.Mathlib.Omega.{arith}
 use lib.ListN.{length}
-use Rattle.inner_product.specs.Run.{Run}
-use Rattle.protocol.specs.Parameters.{Parameters, parameters, triangular}
-use Rattle.protocol.specs.Layout.{start, job-sections, transcript-sections}
-use Rattle.layout.specs.Laid.{Laid, nth}
-use Rattle.relation.specs.declared.env_params.EnvironmentParameters.{EnvironmentParameters}
-use Rattle.relation.specs.Parameters.{parametersOf}
-use Rattle.sizes.specs.Sizes.{Sized}
-use Rattle.sizes.proofs.Sized.{sized}
-use Rattle.aggregate.proofs.Grid.{row-run}
+use Rattle.ring_inner_product.specs.Run.{Run}
+use Rattle.spec_protocol.specs.Parameters.{Parameters, parameters, triangular}
+use Rattle.spec_protocol.specs.Layout.{start, job-sections, transcript-sections}
+use Rattle.spec_protocol.specs.Laid.{Laid, nth}
+use Rattle.relation_env_params.specs.declared.env_params.EnvironmentParameters.{EnvironmentParameters}
+use Rattle.relation_env_params.specs.Parameters.{parametersOf}
+use Rattle.layout_sizes.specs.Sizes.{Sized}
+use Rattle.layout_sizes.proofs.Sized.{sized}
+use Rattle.core_aggregate.proofs.Grid.{row-run}
 use Rattle.verifier_common.specs.Work.{Received, Posed}
 
 -- a section that starts after no words
@@ -56,7 +56,8 @@ module _ {J T : List ℕ} {params : EnvironmentParameters} (w : Posed J T params
 
 module _ (J X : List ℕ) (params : EnvironmentParameters) (s : Posed J X params) where
   -- a bound by the job's parameters is one by the parameters and the place that the code holds
-  pub placed : (ws : List ℕ) (place count : Parameters → ℕ) (at : ℕ) → at ≡ place (parametersOf params) → place (parameters J) + 64 * count (parameters J) ≤ length ws → at + 64 * count (parametersOf params) ≤ length ws
+  pub placed : (ws : List ℕ) (place count : Parameters → ℕ) (at : ℕ) → at ≡ place (parametersOf params) → place (parameters J) + 64 * count (parameters J) ≤ length ws
+      → at + 64 * count (parametersOf params) ≤ length ws
   placed ws place count at e h = subst (λ a. a + 64 * count (parametersOf params) ≤ length ws) (sym e) (subst (λ Q. place Q + 64 * count Q ≤ length ws) (sym (s .same)) h)
 
   -- b'' lies within the transcript

@@ -1,15 +1,15 @@
 // The constant terms of what the prover sends: check 22.
 use crate::numbers;
-use definitions::answers::Checked;
-use definitions::answers::FailedCheck;
-use relation::env_params::EnvironmentParameters;
-use rq_product::product;
-use sizes::names;
-use sizes::offsets;
+use layout_sizes::names;
+use layout_sizes::offsets;
+use relation_env_params::env_params::EnvironmentParameters;
+use ring_rq_product::product;
+use spec_leaves::answers::Checked;
+use spec_leaves::answers::FailedCheck;
 ghost use mathlib.Core.Path.{_≡_};
 ghost use Prim.Native.Nat.{_+_, _≤_};
 ghost use lib.ListN.{length};
-ghost use Rattle.definitions.specs.Answer.{ofChecked};
+ghost use Rattle.spec_leaves.specs.Answer.{ofChecked};
 ghost use Rattle.verifier_common.specs.Work.{Sent};
 ghost use Rattle.verifier_common.specs.Answers.{constant-terms};
 ghost use Rattle.verifier_constant_terms.specs.Terms.{constant-term};

@@ -3,19 +3,19 @@ use mathlib.Core.Path.{_≡_, refl, sym, ap, ap₂, _∙_}
 use mathlib.Core.List.{List, flatMap}
 use Prim.Native.Nat.{ℕ, _+_, _*_}
 use native.Mathlib.Omega.{arith}
-use Rattle.lists.specs.Table.{table}
-use Rattle.definitions.specs.Answer.{refused, _then_}
-use Rattle.inner_product.specs.Run.{run}
-use Rattle.protocol.specs.Parameters.{Parameters, triangular}
-use Rattle.protocol.specs.Layout.{start, transcript-sections}
-use Rattle.protocol.specs.Views.{message}
-use Rattle.protocol.specs.Formulas.{norm-of, two-parts, digits-of, count-left, t-digits, g-digits, h-digits}
-use Rattle.protocol.specs.Prover.{t-norm, g-norm, h-norm}
-use Rattle.protocol.proofs.CellsLeft.{counted-cells}
-use Rattle.commitments.proofs.Answers.{require-by}
-use Rattle.commitments.proofs.Formula.{vectors-cells, triangle-cells}
-use Rattle.relation.specs.declared.env_params.EnvironmentParameters.{EnvironmentParameters}
-use Rattle.relation.specs.Parameters.{parametersOf}
+use Rattle.math.specs.lists.Table.{table}
+use Rattle.spec_leaves.specs.Answer.{refused, _then_}
+use Rattle.ring_inner_product.specs.Run.{run}
+use Rattle.spec_protocol.specs.Parameters.{Parameters, triangular}
+use Rattle.spec_protocol.specs.Layout.{start, transcript-sections}
+use Rattle.spec_protocol.specs.Views.{message}
+use Rattle.spec_protocol.specs.Formulas.{norm-of, two-parts, digits-of, count-left, t-digits, g-digits, h-digits}
+use Rattle.spec_protocol.specs.Prover.{t-norm, g-norm, h-norm}
+use Rattle.spec_protocol.proofs.CellsLeft.{counted-cells}
+use Rattle.commitments_outer.proofs.Answers.{require-by}
+use Rattle.commitments_outer.proofs.Formula.{vectors-cells, triangle-cells}
+use Rattle.relation_env_params.specs.declared.env_params.EnvironmentParameters.{EnvironmentParameters}
+use Rattle.relation_env_params.specs.Parameters.{parametersOf}
 use Rattle.verifier_common.specs.Answers.{bare, cells-left, t-and-g-bounds, h-bound}
 use Rattle.verifier_digits.specs.declared.SentDigits.{SentDigits}
 use Rattle.verifier_digits.specs.Taken.{digit-norms, Taken, t-and-g-found, h-found}

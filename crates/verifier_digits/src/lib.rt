@@ -1,13 +1,13 @@
 // The digits of what the prover sends, taken once for check 23, for 14 to 16 and for the number that an acceptance states (document 02, Item 5).
-use definitions::answers::U128;
-use digit_norms::norm;
-use digit_norms::parts;
-use norm_bounds::bound;
-use relation::env_params::EnvironmentParameters;
-use sizes::names;
-use sizes::offsets;
-use sizes::slices;
-ghost use Rattle.relation.specs.Parameters.{parametersOf};
+use layout_sizes::names;
+use layout_sizes::offsets;
+use layout_sizes::slices;
+use relation_env_params::env_params::EnvironmentParameters;
+use ring_digit_norms::norm;
+use ring_digit_norms::parts;
+use ring_zq::bound;
+use spec_leaves::answers::U128;
+ghost use Rattle.relation_env_params.specs.Parameters.{parametersOf};
 ghost use Rattle.verifier_common.specs.Work.{Received};
 ghost use Rattle.verifier_digits.specs.Taken.{Taken};
 

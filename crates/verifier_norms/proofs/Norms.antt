@@ -8,20 +8,20 @@ use native.Mathlib.Omega.{arith}
 use borrow.Author.Tests.{le-leb}
 use lib.Dec.{leb}
 use lib.ListN.{length, getD}
-use Rattle.lists.specs.Part.{part}
-use Rattle.lists.specs.Table.{table}
-use Rattle.lists.proofs.Splice.{part-table}
-use Rattle.definitions.specs.Answer.{fine, failed, value128}
-use Rattle.definitions.specs.declared.answers.U128.{U128}
-use Rattle.definitions.specs.Norm.{norm}
-use Rattle.protocol.specs.Checks.{require}
-use Rattle.protocol.specs.Parameters.{Parameters}
-use Rattle.protocol.specs.Layout.{start, transcript-sections}
-use Rattle.protocol.specs.Views.{message}
-use Rattle.protocol.specs.Verifier.{check-21, check-23}
-use Rattle.commitments.proofs.Answers.{require-by}
-use Rattle.relation.specs.declared.env_params.EnvironmentParameters.{EnvironmentParameters}
-use Rattle.relation.specs.Parameters.{parametersOf}
+use Rattle.math.specs.lists.Part.{part}
+use Rattle.math.specs.lists.Table.{table}
+use Rattle.math.proofs.lists.Splice.{part-table}
+use Rattle.spec_leaves.specs.Answer.{fine, failed, value128}
+use Rattle.spec_leaves.specs.declared.answers.U128.{U128}
+use Rattle.spec_leaves.specs.Norm.{norm}
+use Rattle.spec_protocol.specs.Checks.{require}
+use Rattle.spec_protocol.specs.Parameters.{Parameters}
+use Rattle.spec_protocol.specs.Layout.{start, transcript-sections}
+use Rattle.spec_protocol.specs.Views.{message}
+use Rattle.spec_protocol.specs.Verifier.{check-21, check-23}
+use Rattle.commitments_outer.proofs.Answers.{require-by}
+use Rattle.relation_env_params.specs.declared.env_params.EnvironmentParameters.{EnvironmentParameters}
+use Rattle.relation_env_params.specs.Parameters.{parametersOf}
 use Rattle.verifier_common.specs.Answers.{bare, norm-sum}
 use Rattle.verifier_digits.specs.declared.SentDigits.{SentDigits}
 use Rattle.verifier_digits.specs.Taken.{Taken}

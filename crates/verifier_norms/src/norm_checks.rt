@@ -1,17 +1,18 @@
 // The norms of what the prover sends: checks 21 and 23, and 21 to 23 in order.
 use crate::numbers;
-use definitions::answers::Checked;
-use definitions::answers::FailedCheck;
-use definitions::answers::U128;
-use norm_bounds::bound;
-use relation::env_params::EnvironmentParameters;
-use sizes::names;
-use sizes::offsets;
+use layout_sizes::names;
+use layout_sizes::offsets;
+use relation_env_params::env_params::EnvironmentParameters;
+use ring_zq::bound;
+use ring_zq::norms;
+use spec_leaves::answers::Checked;
+use spec_leaves::answers::FailedCheck;
+use spec_leaves::answers::U128;
 use verifier_constant_terms::constant_terms::check_constant_terms;
 use verifier_digits::SentDigits;
 ghost use mathlib.Core.Path.{_≡_};
-ghost use Rattle.definitions.specs.Answer.{ofChecked, value128};
-ghost use Rattle.relation.specs.Parameters.{parametersOf};
+ghost use Rattle.spec_leaves.specs.Answer.{ofChecked, value128};
+ghost use Rattle.relation_env_params.specs.Parameters.{parametersOf};
 ghost use Rattle.verifier_common.specs.Work.{Received, Sent};
 ghost use Rattle.verifier_common.specs.Answers.{projection-norm};
 ghost use Rattle.verifier_norms.specs.Order.{sum-within, norms, Taken-if};

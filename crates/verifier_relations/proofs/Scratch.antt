@@ -4,18 +4,18 @@ use mathlib.Core.List.{List, _++_}
 use Prim.Native.Nat.{ℕ, _+_, _*_, _≤_}
 use native.Mathlib.Omega.{arith}
 use lib.ListN.{length, length-append}
-use Rattle.lists.specs.Part.{splice}
-use Rattle.lists.proofs.Splice.{length-splice}
-use Rattle.protocol.specs.Parameters.{parameters, T}
-use Rattle.protocol.specs.Layout.{scratch-need}
-use Rattle.regions.specs.declared.Regions.{Regions}
-use Rattle.relation.specs.declared.env_params.EnvironmentParameters.{EnvironmentParameters}
-use Rattle.workspace.specs.Ready.{Ready}
-use Rattle.workspace.specs.Holds.{Holds, Unchanged}
-use Rattle.workspace.specs.Aggregated.{a″-words, φ″-words, φ-words, a-words, c-words}
-use Rattle.workspace.proofs.Unchanged.{unchanged-refl, unchanged-trans, unchanged-stored}
-use Rattle.workspace.proofs.Holds.{holds-stored, holds-before, holds-after, holds-first, holds-second}
-use Rattle.workspace.proofs.Ready.{length-φ″, length-a″, length-φ, length-a, length-c, ready-changed, regions-end, φ″-end, a″-end, φ-end, a-end, g-end, c-end, t-end, u-end}
+use Rattle.math.specs.lists.Part.{splice}
+use Rattle.math.proofs.lists.Splice.{length-splice}
+use Rattle.spec_protocol.specs.Parameters.{parameters, T}
+use Rattle.spec_protocol.specs.Layout.{scratch-need}
+use Rattle.layout_regions.specs.declared.Regions.{Regions}
+use Rattle.relation_env_params.specs.declared.env_params.EnvironmentParameters.{EnvironmentParameters}
+use Rattle.core_workspace.specs.Ready.{Ready}
+use Rattle.core_workspace.specs.Holds.{Holds, Unchanged}
+use Rattle.core_workspace.specs.Aggregated.{a″-words, φ″-words, φ-words, a-words, c-words}
+use Rattle.core_workspace.proofs.Unchanged.{unchanged-refl, unchanged-trans, unchanged-stored}
+use Rattle.core_workspace.proofs.Holds.{holds-stored, holds-before, holds-after, holds-first, holds-second}
+use Rattle.core_workspace.proofs.Ready.{length-φ″, length-a″, length-φ, length-a, length-c, ready-changed, regions-end, φ″-end, a″-end, φ-end, a-end, g-end, c-end, t-end, u-end}
 
 -- a scratch that holds words stored before a place, and is as it was from there on
 pub record Made (J : List ℕ) (params : EnvironmentParameters) (regions : Regions) (S S′ : List ℕ) (at : ℕ) (ws : List ℕ) : Type 0 where

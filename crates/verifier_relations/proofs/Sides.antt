@@ -6,35 +6,35 @@ use Prim.Native.Nat.{ℕ, _+_, _*_, _≤_, _<_, _^_}
 use native.Mathlib.Nat.{mul-le-mul}
 use native.Mathlib.Omega.{arith}
 use lib.ListN.{length}
-use Rattle.definitions.specs.Answer.{Answer, fine, failed}
-use Rattle.definitions.specs.Rq.{Element, radd}
-use Rattle.definitions.specs.Ring.{words}
-use Rattle.inner_product.specs.Run.{Run, run}
-use Rattle.protocol.specs.Checks.{require, first}
-use Rattle.protocol.specs.Parameters.{parameters, triangular}
-use Rattle.protocol.specs.Layout.{start, job-sections}
-use Rattle.protocol.specs.Region.{Elements}
-use Rattle.protocol.specs.Views.{public, message}
-use Rattle.protocol.specs.Formulas.{_⊗_, sum, dot, pairs, φ-sum}
-use Rattle.protocol.specs.Verifier.{same, twice, check-24, check-25, check-26}
-use Rattle.rq_matrix.specs.Region.{vector, triangle-at}
-use Rattle.rq_matrix.proofs.Place.{rows-within}
-use Rattle.rq_matrix.proofs.Word.{words-of-vector}
-use Rattle.rq_matrix.proofs.Formula.{sum-of-t, sum-of-g, sum-of-h, sum-of-φ}
-use Rattle.aggregate.proofs.Grid.{row-run}
-use Rattle.regions.specs.declared.Regions.{Regions}
-use Rattle.relation.specs.declared.env_params.EnvironmentParameters.{EnvironmentParameters}
-use Rattle.relation.specs.Parameters.{parametersOf}
-use Rattle.workspace.specs.Ready.{Ready}
-use Rattle.workspace.specs.Holds.{Holds}
-use Rattle.workspace.specs.Aggregated.{φ-words, c-words}
-use Rattle.workspace.proofs.Holds.{elements-held, vectors-held}
-use Rattle.workspace.proofs.Ready.{φ-end, a-end, g-end, c-end, t-end, u-end, b″-end, A-within}
+use Rattle.spec_leaves.specs.Answer.{Answer, fine, failed}
+use Rattle.spec_leaves.specs.Rq.{Element, radd}
+use Rattle.spec_leaves.specs.Ring.{words}
+use Rattle.ring_inner_product.specs.Run.{Run, run}
+use Rattle.spec_protocol.specs.Checks.{require, first}
+use Rattle.spec_protocol.specs.Parameters.{parameters, triangular}
+use Rattle.spec_protocol.specs.Layout.{start, job-sections}
+use Rattle.spec_protocol.specs.Region.{Elements}
+use Rattle.spec_protocol.specs.Views.{public, message}
+use Rattle.spec_protocol.specs.Formulas.{_⊗_, sum, dot, pairs, φ-sum}
+use Rattle.spec_protocol.specs.Verifier.{same, twice, check-24, check-25, check-26}
+use Rattle.ring_rq_matrix.specs.Region.{vector, triangle-at}
+use Rattle.ring_rq_matrix.proofs.Place.{rows-within}
+use Rattle.ring_rq_matrix.proofs.Word.{words-of-vector}
+use Rattle.ring_rq_matrix.proofs.Formula.{sum-of-t, sum-of-g, sum-of-h, sum-of-φ}
+use Rattle.core_aggregate.proofs.Grid.{row-run}
+use Rattle.layout_regions.specs.declared.Regions.{Regions}
+use Rattle.relation_env_params.specs.declared.env_params.EnvironmentParameters.{EnvironmentParameters}
+use Rattle.relation_env_params.specs.Parameters.{parametersOf}
+use Rattle.core_workspace.specs.Ready.{Ready}
+use Rattle.core_workspace.specs.Holds.{Holds}
+use Rattle.core_workspace.specs.Aggregated.{φ-words, c-words}
+use Rattle.core_workspace.proofs.Holds.{elements-held, vectors-held}
+use Rattle.core_workspace.proofs.Ready.{φ-end, a-end, g-end, c-end, t-end, u-end, b″-end, A-within}
 use Rattle.verifier_common.specs.Answers.{az, z-inner, phi}
 use Rattle.verifier_common.specs.Work.{Received, Posed, equal}
 use Rattle.verifier_relations.specs.Weighed.{challenges-in, lines-in, ChallengesWithin, LinesWithin, az-of, z-inner-of, phi-of}
 use Rattle.verifier_common.proofs.Runs.{require-equal}
-use Rattle.aggregated_relation.proofs.Sides.{words-of-twice}
+use Rattle.verifier_aggregated.proofs.Sides.{words-of-twice}
 use Rattle.verifier_common.proofs.Verdicts.{first-failed}
 use Rattle.verifier_common.proofs.Sent.{transcript-at, reckoned, received, placed, z-within, z-run, t-within}
 
@@ -57,7 +57,17 @@ module _ (J X : List ℕ) (params : EnvironmentParameters) (regions : Regions) (
   pub φ-within : LinesWithin params regions S
   φ-within =
       placed J X params s S (λ Q. regions .phi) (λ Q. Q .r * Q .n) (regions .phi) refl
-      (omega (arith, φ-end J params regions S ready, a-end J params regions S ready, g-end J params regions S ready, c-end J params regions S ready, t-end J params regions S ready, u-end J params regions S ready, b″-end J params regions S ready))
+      (omega (
+        arith,
+        φ-end J params regions S ready,
+        a-end J params regions S ready,
+        g-end J params regions S ready,
+        c-end J params regions S ready,
+        t-end J params regions
+            S ready,
+        u-end J params regions S ready,
+        b″-end J params regions S ready,
+      ))
 
   -- the rows of A lie within the job
   pub A-rows : (a-at : ℕ) → a-at ≡ 31 + start (job-sections (parametersOf params)) 6 → a-at + 64 * (params .kappa * params .rank) ≤ length J
@@ -96,11 +106,13 @@ module _ (J X : List ℕ) (params : EnvironmentParameters) (regions : Regions) (
 
   -- what Σ t_ik·c_i requires
   pub column-requires : (t-at k : ℕ) → t-at ≡ transcript-at (parametersOf params) 5 → k < params .kappa
-      → (t-at + 64 * (params .multiplicity * params .kappa) ≤ length X) × (regions .challenges + 64 * params .multiplicity ≤ length S) × (k < params .kappa) × (params .kappa ≤ 64) × (params .multiplicity ≤ 64)
+      → (t-at + 64 * (params .multiplicity * params .kappa) ≤ length X) × (regions .challenges + 64 * params .multiplicity ≤ length S) × (k < params .kappa)
+      × (params .kappa ≤ 64) × (params .multiplicity ≤ 64)
   column-requires t-at k e h = (t-within X params (received s) t-at e, c-within, h, omega (arith, reckoned s .within .κ .1), omega (arith, reckoned s .within .r .1))
 
   -- check 24 for row k by the boolean's value, of the words that are compared
-  pub az-tested : (a-at z-at t-at k : ℕ) (left right : List ℕ) (t : Bool) → a-at ≡ 31 + start (job-sections (parametersOf params)) 6 → z-at ≡ transcript-at (parametersOf params) 4 → t-at ≡ transcript-at (parametersOf params) 5
+  pub az-tested : (a-at z-at t-at k : ℕ) (left right : List ℕ) (t : Bool) → a-at ≡ 31 + start (job-sections (parametersOf params)) 6 → z-at ≡ transcript-at (parametersOf params) 4
+      → t-at ≡ transcript-at (parametersOf params) 5
       → left ≡ words (dot (params .rank) (run J (a-at + 64 * (k * params .rank)) 64) (run X z-at 64))
       → right ≡ words (sum (params .multiplicity) (λ i. vector X t-at (params .kappa) i k ⊗ challenges-in S regions i))
       → t ≡ equal left right → az-test J X (challenges-in S regions) k ≡ cond t fine (failed 24 [])
@@ -126,7 +138,8 @@ module _ (X : List ℕ) (params : EnvironmentParameters) (regions : Regions) (S 
 
   -- what the sum over the lines φ_i requires
   pub lines-requires : (z-at : ℕ) → ChallengesWithin params regions S → LinesWithin params regions S → z-at ≡ transcript-at (parametersOf params) 4
-      → (regions .phi + 64 * (params .multiplicity * params .rank) ≤ length S) × (z-at + 64 * params .rank ≤ length X) × (regions .challenges + 64 * params .multiplicity ≤ length S) × (params .rank ≤ 64)
+      → (regions .phi + 64 * (params .multiplicity * params .rank) ≤ length S) × (z-at + 64 * params .rank ≤ length X) × (regions .challenges + 64 * params .multiplicity ≤ length S)
+      × (params .rank ≤ 64)
   lines-requires z-at c l e = (l, z-within X params s z-at e, c, s .sized .within .n .1)
 
   -- a sum over a triangle of the transcript, weighed by the challenges

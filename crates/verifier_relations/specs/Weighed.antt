@@ -2,17 +2,17 @@
 use mathlib.Core.List.{List, []}
 use Prim.Native.Nat.{ℕ, _+_, _*_, _≤_}
 use lib.ListN.{length}
-use Rattle.definitions.specs.Answer.{Answer, failed}
-use Rattle.definitions.specs.Rq.{Element}
-use Rattle.inner_product.specs.Run.{run}
-use Rattle.protocol.specs.Checks.{require}
-use Rattle.protocol.specs.Parameters.{Parameters, parameters}
-use Rattle.protocol.specs.Views.{Public, Message, public, message}
-use Rattle.protocol.specs.Formulas.{_⊗_, sum, dot, pairs}
-use Rattle.protocol.specs.Verifier.{same, twice, check-24, check-25}
-use Rattle.regions.specs.declared.Regions.{Regions}
-use Rattle.relation.specs.declared.env_params.EnvironmentParameters.{EnvironmentParameters}
-use Rattle.rq_matrix.specs.Region.{vector}
+use Rattle.spec_leaves.specs.Answer.{Answer, failed}
+use Rattle.spec_leaves.specs.Rq.{Element}
+use Rattle.ring_inner_product.specs.Run.{run}
+use Rattle.spec_protocol.specs.Checks.{require}
+use Rattle.spec_protocol.specs.Parameters.{Parameters, parameters}
+use Rattle.spec_protocol.specs.Views.{Public, Message, public, message}
+use Rattle.spec_protocol.specs.Formulas.{_⊗_, sum, dot, pairs}
+use Rattle.spec_protocol.specs.Verifier.{same, twice, check-24, check-25}
+use Rattle.layout_regions.specs.declared.Regions.{Regions}
+use Rattle.relation_env_params.specs.declared.env_params.EnvironmentParameters.{EnvironmentParameters}
+use Rattle.ring_rq_matrix.specs.Region.{vector}
 use Rattle.verifier_common.specs.Answers.{bare}
 
 -- the public values with challenges handed in

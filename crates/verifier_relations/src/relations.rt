@@ -1,23 +1,23 @@
 // The relations between what the prover sends and the statement: checks 24 to 26, and 24 to 27 in order.
-use aggregated_relation::check_relation;
-use definitions::answers::Checked;
-use definitions::answers::FailedCheck;
-use inner_product;
-use regions::Regions;
-use relation::env_params::EnvironmentParameters;
-use rq_matrix;
-use sizes::names;
-use sizes::offsets;
+use core_workspace;
+use layout_regions::Regions;
+use layout_sizes::names;
+use layout_sizes::offsets;
+use relation_env_params::env_params::EnvironmentParameters;
+use ring_inner_product;
+use ring_rq_matrix;
+use spec_leaves::answers::Checked;
+use spec_leaves::answers::FailedCheck;
+use verifier_aggregated::check_relation;
 use verifier_common::equal;
-use workspace;
 ghost use mathlib.Core.Path.{_≡_};
-ghost use Rattle.definitions.specs.Answer.{ofChecked};
-ghost use Rattle.protocol.specs.Parameters.{parameters};
-ghost use Rattle.protocol.specs.Layout.{scratch-need};
-ghost use Rattle.workspace.specs.Ready.{Ready};
-ghost use Rattle.workspace.specs.Holds.{Holds, Unchanged};
-ghost use Rattle.workspace.specs.Aggregated.{φ-words, a″-words};
-ghost use Rattle.relation.specs.Parameters.{parametersOf};
+ghost use Rattle.spec_leaves.specs.Answer.{ofChecked};
+ghost use Rattle.spec_protocol.specs.Parameters.{parameters};
+ghost use Rattle.spec_protocol.specs.Layout.{scratch-need};
+ghost use Rattle.core_workspace.specs.Ready.{Ready};
+ghost use Rattle.core_workspace.specs.Holds.{Holds, Unchanged};
+ghost use Rattle.core_workspace.specs.Aggregated.{φ-words, a″-words};
+ghost use Rattle.relation_env_params.specs.Parameters.{parametersOf};
 ghost use Rattle.verifier_common.specs.Work.{Received, Posed, Sent};
 ghost use Rattle.verifier_relations.specs.Order.{openings, aggregated, relations};
 ghost use Rattle.verifier_relations.specs.Held.{Challenged};
@@ -42,8 +42,8 @@ pub fn check_az(
     let mut k = 0;
     while k < kappa {
         let row = a_at + 64 * (k * n);
-        let left = inner_product::inner_product(job, row, 64, transcript, z_at, 64, n);
-        let right = rq_matrix::column_sum(
+        let left = ring_inner_product::inner_product(job, row, 64, transcript, z_at, 64, n);
+        let right = ring_rq_matrix::column_sum(
             transcript,
             t_at,
             kappa,
@@ -72,7 +72,7 @@ pub fn check_z_inner(
 {
     let z_at = offsets::of_transcript(params, names::Z);
     let g_at = offsets::of_transcript(params, names::G);
-    let left = inner_product::inner_product(
+    let left = ring_inner_product::inner_product(
         transcript,
         z_at,
         64,
@@ -81,7 +81,7 @@ pub fn check_z_inner(
         64,
         params.rank,
     );
-    let right = rq_matrix::sum_of_weighted(
+    let right = ring_rq_matrix::sum_of_weighted(
         transcript,
         g_at,
         scratch,
@@ -108,7 +108,7 @@ pub fn check_phi(
 {
     let z_at = offsets::of_transcript(params, names::Z);
     let h_at = offsets::of_transcript(params, names::H);
-    let lines = rq_matrix::sum_of_lines(
+    let lines = ring_rq_matrix::sum_of_lines(
         scratch,
         regions.phi,
         transcript,
@@ -118,7 +118,7 @@ pub fn check_phi(
         params.multiplicity,
         params.rank,
     );
-    let right = rq_matrix::sum_of_weighted(
+    let right = ring_rq_matrix::sum_of_weighted(
         transcript,
         h_at,
         scratch,
@@ -147,7 +147,7 @@ pub fn check_openings(
     ensures { λ v. ⌜ Unchanged (scratch-need (parameters (now (job .entry)))) (now (scratch .entry)) (now (scratch .exit)) ⌝ }
     ensures { λ v. ⌜ Challenged (now (job .entry)) (now (randomness .entry)) regions (now (scratch .exit)) ⌝ }
 {
-    workspace::generate_challenges(randomness, params, regions, scratch);
+    core_workspace::generate_challenges(randomness, params, regions, scratch);
     let first = check_az(job, transcript, params, regions, scratch);
     let Checked::Passed = first else {
         return first;
@@ -173,7 +173,7 @@ pub fn check_phi_and_relation(
     let Checked::Passed = first else {
         return first;
     };
-    workspace::a(job, randomness, params, regions, scratch);
+    core_workspace::a(job, randomness, params, regions, scratch);
     check_relation(job, randomness, transcript, params, regions, scratch)
 }
 
@@ -190,8 +190,8 @@ pub fn check_aggregated(
     ensures { λ v. ⌜ ofChecked v ≡ aggregated (now (job .entry)) (now (randomness .entry)) (now (transcript .entry)) ⌝ }
     ensures { λ v. ⌜ Unchanged (scratch-need (parameters (now (job .entry)))) (now (scratch .entry)) (now (scratch .exit)) ⌝ }
 {
-    workspace::double_prime(job, randomness, params, regions, scratch);
-    workspace::phi(job, randomness, params, regions, scratch);
+    core_workspace::double_prime(job, randomness, params, regions, scratch);
+    core_workspace::phi(job, randomness, params, regions, scratch);
     check_phi_and_relation(job, randomness, transcript, params, regions, scratch)
 }
 

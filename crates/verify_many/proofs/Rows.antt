@@ -5,31 +5,31 @@ use mathlib.Core.List.{List}
 use Prim.Native.Nat.{ℕ, _≤_, _<_}
 use native.Mathlib.Omega.{arith}
 use lib.ListN.{length, getD, replicate}
-use Rattle.lists.specs.Part.{splice}
-use Rattle.lists.proofs.Splice.{length-splice}
-use Rattle.lists.specs.Table.{table}
-use Rattle.lists.proofs.Table.{getD-table}
-use Rattle.definitions.specs.Answer.{Answer, fine, accepted, refused, failed, is-fine}
-use Rattle.protocol.specs.Parameters.{Parameters, parameters}
-use Rattle.protocol.specs.Layout.{randomness-refusal, transcript-refusal, scratch-need}
-use Rattle.protocol.specs.Unchanged.{Unchanged}
-use Rattle.protocol.specs.Prover.{zeroed}
-use Rattle.protocol.specs.Many as Many
-use Rattle.protocol.specs.Many.{many-need, randomness-part, transcript-part, part-refusal, All-rows-done, row-count}
-use Rattle.protocol.proofs.Fine.{then-fine-right}
-use Rattle.relation.specs.declared.env_params.EnvironmentParameters.{EnvironmentParameters}
-use Rattle.relation.specs.Parameters.{parametersOf}
-use Rattle.admission.specs.declared.answers.SliceChecked.{SliceChecked}
-use Rattle.admission.proofs.Ready.{job-sound, job-laid}
-use Rattle.workspace.proofs.Unchanged.{unchanged-trans, unchanged-clear}
-use Rattle.many_admission.specs.Admitted.{Many-given, TranscriptsFound, found-of, passing}
-use Rattle.many_admission.proofs.Found.{passing-is}
-use Rattle.many_admission.proofs.Passing.{part-laid}
-use Rattle.many_rows.specs.Rows.{Rowable}
-use Rattle.many_phi.specs.AlphaPart.{Alpha-parts, Products-stay}
-use Rattle.many_windows.proofs.Windows.{done-of, of-done}
-use Rattle.rq_matrix.proofs.Place.{rows-within}
-use Rattle.many_verdicts.specs.Windows.{Rows-ready, All-weighed}
+use Rattle.math.specs.lists.Part.{splice}
+use Rattle.math.proofs.lists.Splice.{length-splice}
+use Rattle.math.specs.lists.Table.{table}
+use Rattle.math.proofs.lists.Table.{getD-table}
+use Rattle.spec_leaves.specs.Answer.{Answer, fine, accepted, refused, failed, is-fine}
+use Rattle.spec_protocol.specs.Parameters.{Parameters, parameters}
+use Rattle.spec_protocol.specs.Layout.{randomness-refusal, transcript-refusal, scratch-need}
+use Rattle.spec_protocol.specs.Unchanged.{Unchanged}
+use Rattle.spec_protocol.specs.Prover.{zeroed}
+use Rattle.spec_protocol.specs.Many as Many
+use Rattle.spec_protocol.specs.Many.{many-need, randomness-part, transcript-part, part-refusal, All-rows-done, row-count}
+use Rattle.spec_protocol.proofs.Fine.{then-fine-right}
+use Rattle.relation_env_params.specs.declared.env_params.EnvironmentParameters.{EnvironmentParameters}
+use Rattle.relation_env_params.specs.Parameters.{parametersOf}
+use Rattle.admission_slices.specs.declared.answers.SliceChecked.{SliceChecked}
+use Rattle.admission_slices.proofs.Ready.{job-sound, job-laid}
+use Rattle.core_workspace.proofs.Unchanged.{unchanged-trans, unchanged-clear}
+use Rattle.verify_many_admission.specs.Admitted.{Many-given, TranscriptsFound, found-of, passing}
+use Rattle.verify_many_admission.proofs.Found.{passing-is}
+use Rattle.verify_many_admission.proofs.Passing.{part-laid}
+use Rattle.verify_many_rows.specs.Rows.{Rowable}
+use Rattle.verify_many_phi.specs.AlphaPart.{Alpha-parts, Products-stay}
+use Rattle.verify_many_windows.proofs.WindowLaws.{done-of, of-done}
+use Rattle.ring_rq_matrix.proofs.Place.{rows-within}
+use Rattle.verify_many.specs.Windows.{Rows-ready, All-weighed}
 
 -- an answer that is taken for fine is
 fine-if : (x : Answer) → is-fine x ≡ true → x ≡ fine
@@ -87,7 +87,8 @@ module _ (J R T : List ℕ) (count scratch : ℕ) (params : EnvironmentParameter
     parts-ready all weighed parts t m h pass = parts t m h (takes all m h pass)
 
 -- the rows' products stay where they stand
-pub rows-stay : (J T : List ℕ) (count : ℕ) (passes : ℕ → Bool) (ρ : ℕ) (S S′ : List ℕ) → many-need (parameters J) count ≤ length S → Unchanged (many-need (parameters J) count) S S′ → Products-stay (parameters J) count S S′
+pub rows-stay : (J T : List ℕ) (count : ℕ) (passes : ℕ → Bool) (ρ : ℕ) (S S′ : List ℕ) → many-need (parameters J) count ≤ length S → Unchanged (many-need (parameters J) count) S S′
+    → Products-stay (parameters J) count S S′
     → All-rows-done J count passes T S ρ → All-rows-done J count passes T S′ ρ
 rows-stay J T count passes ρ S S′ room unchanged same done m h pass =
     let X = transcript-part (parameters J) count T m in

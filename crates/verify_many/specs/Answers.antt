@@ -3,11 +3,11 @@ use mathlib.Core.Path.{_≡_}
 use mathlib.Core.List.{List}
 use Prim.Native.Nat.{ℕ}
 use lib.ListN.{length, replicate}
-use Rattle.definitions.specs.Answer.{Answer, number, place, result}
-use Rattle.protocol.specs.Many.{many-refusal, many-scratch}
-use Rattle.call_answers.specs.declared.verdicts.LabradorVerdict.{LabradorVerdict}
-use Rattle.call_answers.specs.Calls.{failedCheck}
-use Rattle.many_verdicts.specs.Windows.{verdicts-of}
+use Rattle.spec_leaves.specs.Answer.{Answer, number, place, result}
+use Rattle.spec_protocol.specs.Many.{many-refusal, many-scratch}
+use Rattle.api_answers.specs.declared.verdicts.LabradorVerdict.{LabradorVerdict}
+use Rattle.api_answers.specs.Calls.{failedCheck}
+use Rattle.verify_many.specs.Windows.{verdicts-of}
 use Rattle.verify_many.specs.declared.answers.LabradorVerdicts.{LabradorVerdicts}
 
 -- a number and a place, with nothing answered of the transcripts

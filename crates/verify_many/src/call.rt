@@ -1,21 +1,21 @@
 // The call for every input.
 use crate::answers;
 use crate::answers::LabradorVerdicts;
-use call_answers::verdicts::LabradorVerdict;
-use many_admission::parts;
-use many_admission::whole;
-use many_admission::whole::ManyAdmitted;
-use many_phi::alpha_parts;
-use many_rows::row_products;
-use many_verdicts::all::verdicts;
-use relation::env_params::EnvironmentParameters;
+use crate::verdicts::all::verdicts;
+use api_answers::verdicts::LabradorVerdict;
+use relation_env_params::env_params::EnvironmentParameters;
+use verify_many_admission::parts;
+use verify_many_admission::whole;
+use verify_many_admission::whole::ManyAdmitted;
+use verify_many_phi::phi::alpha_parts;
+use verify_many_rows::rows::row_products;
 ghost use mathlib.Core.Path.{_≡_};
 ghost use lib.ListN.{length};
-ghost use Rattle.protocol.specs.Parameters.{parameters};
-ghost use Rattle.protocol.specs.Prover.{zeroed};
-ghost use Rattle.protocol.specs.Many.{many-need};
-ghost use Rattle.many_admission.specs.Admitted.{Many-given};
-ghost use Rattle.many_verdicts.specs.Windows.{verdicts-of};
+ghost use Rattle.spec_protocol.specs.Parameters.{parameters};
+ghost use Rattle.spec_protocol.specs.Prover.{zeroed};
+ghost use Rattle.spec_protocol.specs.Many.{many-need};
+ghost use Rattle.verify_many_admission.specs.Admitted.{Many-given};
+ghost use Rattle.verify_many.specs.Windows.{verdicts-of};
 ghost use Rattle.verify_many.specs.Answers.{ManyCall};
 
 // The work of a call that is not refused as a whole: 9 and 10 of each transcript, the rows of A, B, C and D, each once for all that pass these, alpha's part of
@@ -48,7 +48,7 @@ fn work(
         weighed,
     );
     let need = whole::need(params, count);
-    words::clear(scratch, need);
+    ring_words::clear(scratch, need);
     out
 }
 

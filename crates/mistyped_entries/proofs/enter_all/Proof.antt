@@ -3,10 +3,10 @@ use mathlib.Core.Path.{_≡_, sym, subst}
 use Prim.Native.Nat.{_+_, _*_, _-_, _≤_, _<_}
 use native.Mathlib.Omega.{arith}
 use lib.ListN.{length}
-use Rattle.protocol.specs.Layout.{start, randomness-sections}
-use Rattle.relation.specs.Parameters.{parametersOf}
-use Rattle.congruence.specs.Congruence.{Found}
-use Rattle.mistyped_rows.specs.Rows.{Supplies}
+use Rattle.spec_protocol.specs.Layout.{start, randomness-sections}
+use Rattle.relation_env_params.specs.Parameters.{parametersOf}
+use Rattle.mistyped_solve.specs.Congruence.{Found}
+use Rattle.mistyped_solve.specs.Rows.{Supplies}
 use Rattle.verifier_common.proofs.Sent.{reckoned}
 use Rattle.mistyped_entries.specs.Lacking.{all-lacking}
 use Rattle.mistyped_entries.specs.Entered.{entered-count, Entered}
@@ -32,7 +32,8 @@ smallest-for-requires c κs =
     let w = s .pre .0 in
     let l = c .before .loop in (
       (few-rows w, weight-within w _ (l .inv .1) (l .i) (omega arith)),
-      canonical-lacking (s .args .job .now) (s .args .randomness .now) (s .args .transcript .now) (s .args .params .«const_agg_length») (few-rows w) (c .before .before .before .rows-lacking .result) (l .inv .2),
+      canonical-lacking (s .args .job .now) (s .args .randomness .now) (s .args .transcript .now) (s .args .params .«const_agg_length») (few-rows w)
+          (c .before .before .before .rows-lacking .result) (l .inv .2),
     )
 
 -- a turn's index
@@ -55,7 +56,8 @@ loop-again c =
     let f = c .before .before .before .before .smallest-for in
     let e = c .before .before .enter in
     let found = subst (λ r. Found (Supplies (a .randomness .now) (psi + l .i) (a .params .«constraint_l») r (a .params .«const_agg_length»)) (f .result)) (l .inv .2) (f .ensures) in
-    let next = entered-next w psi (l .inv .1) (l .i) (below (c .before .before .before .before .before)) (few-rows w) (a .list .now) (l .count) (l .list) (f .result) (omega (arith, room (c .before .before .before), entered-length (l .inv .3))) found (l .inv .3) in (
+    let next = entered-next w psi (l .inv .1) (l .i) (below (c .before .before .before .before .before)) (few-rows w) (a .list .now) (l .count) (l .list) (f .result)
+    (omega (arith, room (c .before .before .before), entered-length (l .inv .3))) found (l .inv .3) in (
       omega (arith, below (c .before .before .before .before .before)),
       l .inv .1,
       l .inv .2,

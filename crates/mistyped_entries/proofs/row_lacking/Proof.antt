@@ -14,7 +14,8 @@ use Rattle.mistyped_entries.proofs.row_lacking.Tie as tie
 found : (c : tie.After-of-transcript2)
     → let s = c .before .before .before .before .before .before .before .before .args in
     Terms (s .job .now) (s .randomness .now) (s .transcript .now) (s .params .«const_agg_length») (s .params .«constraint_l»)
-    (c .before .before .before .before .of-job .result) (c .before .before .before .of-randomness .result) (c .before .before .of-randomness2 .result) (c .before .of-transcript .result) (c .of-transcript2 .result)
+    (c .before .before .before .before .of-job .result) (c .before .before .before .of-randomness .result) (c .before .before .of-randomness2 .result)
+    (c .before .of-transcript .result) (c .of-transcript2 .result)
 found c =
     row-terms (c .before .before .before .before .before .before .before .before .pre .0) _ _ _ _ _
     (c .before .before .before .before .of-job .ensures)

@@ -2,7 +2,7 @@
 use mathlib.Core.Path.{_≡_, ap, _∙_}
 use Prim.Native.Nat.{_-_, _≤_}
 use native.Mathlib.Omega.{arith}
-use Rattle.lists.proofs.Padded.{padded-none, padded-next}
+use Rattle.math.proofs.lists.Padded.{padded-none, padded-next}
 use Rattle.verifier_common.proofs.Sent.{reckoned}
 use Rattle.mistyped_entries.specs.Lacking.{lacking, all-lacking}
 use Rattle.mistyped_entries.proofs.rows_lacking.Statement.{statement}

@@ -5,13 +5,13 @@ use mathlib.Core.Bool.{cond}
 use mathlib.Core.List.{List}
 use Prim.Native.Nat.{ℕ}
 use lib.ListN.{length}
-use Rattle.lists.proofs.Splice.{length-splice}
-use Rattle.regions.specs.declared.Regions.{Regions}
-use Rattle.relation.specs.declared.env_params.EnvironmentParameters.{EnvironmentParameters}
-use Rattle.workspace.specs.Holds.{Unchanged}
+use Rattle.math.proofs.lists.Splice.{length-splice}
+use Rattle.layout_regions.specs.declared.Regions.{Regions}
+use Rattle.relation_env_params.specs.declared.env_params.EnvironmentParameters.{EnvironmentParameters}
+use Rattle.core_workspace.specs.Holds.{Unchanged}
 use Rattle.prover_commit.specs.Work.{with-h}
 use Rattle.prover_commit.proofs.Commitments.{given-changed, ready-for-h}
-use Rattle.prover_phi_and_b.specs.Stored.{with-φ, with-b″, weighed-scratch}
+use Rattle.prover_fill.specs.Stored.{with-φ, with-b″, weighed-scratch}
 use Rattle.prover_fill.proofs.WithH.{length-weighed}
 use Rattle.prover_fill.proofs.weigh.Statement.{statement}
 use Rattle.prover_fill.proofs.weigh.Tie as tie
@@ -34,7 +34,9 @@ joined c =
 add-h-requires : tie.Need-add-h-requires
 add-h-requires c κs =
     let b = c .before .before .before .before .before .before in
-    ready-for-h _ _ _ _ _ (given-changed _ _ _ _ _ (b .pre .0) _ (ap length (joined (c .before)) ∙ length-weighed (b .args .with-b) (b .args .job .now) (b .args .randomness .now) (b .args .witness .now) (b .args .params) (b .args .regions) (b .args .scratch .now)))
+    ready-for-h _ _ _ _ _ (given-changed _ _ _ _ _ (b .pre .0) _
+    (ap length (joined (c .before)) ∙ length-weighed (b .args .with-b) (b .args .job .now) (b .args .randomness .now) (b .args .witness .now) (b .args .params)
+    (b .args .regions) (b .args .scratch .now)))
 
 -- h after a scratch that is another's equal
 moved : (W : List ℕ) (params : EnvironmentParameters) (regions : Regions) (S S₁ E : List ℕ) → S ≡ S₁ → Unchanged (regions .phi) (with-h W params regions S) E

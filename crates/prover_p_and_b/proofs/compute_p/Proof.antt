@@ -5,13 +5,13 @@ use Prim.Native.Nat.{ℕ, _+_, _*_, _≤_, _<_, _^_}
 use native.Mathlib.Omega.{arith}
 use borrow.Author.Needs.{scaled-fits}
 use lib.ListN.{length}
-use Rattle.lists.specs.Part.{splice}
-use Rattle.lists.proofs.Splice.{length-splice}
-use Rattle.protocol.specs.Layout.{sections}
-use Rattle.relation.specs.Parameters.{parametersOf}
+use Rattle.math.specs.lists.Part.{splice}
+use Rattle.math.proofs.lists.Splice.{length-splice}
+use Rattle.spec_protocol.specs.Layout.{sections}
+use Rattle.relation_env_params.specs.Parameters.{parametersOf}
 use Rattle.prover_p_and_b.specs.Sections.{p-in}
-use Rattle.lists.proofs.Table.{length-table}
-use Rattle.jl.specs.Run as Jl
+use Rattle.math.proofs.lists.Table.{length-table}
+use Rattle.core_jl.specs.Run as Jl
 use Rattle.prover_p_and_b.proofs.TranscriptSections.{next-place, section-stored}
 use Rattle.prover_p_and_b.proofs.SectionRoom.{section-room, count-room, words-room, fits-next, p-room}
 use Rattle.prover_p_and_b.proofs.compute_p.Statement.{statement}
@@ -53,8 +53,10 @@ add-project-run c =
 
 project-run-requires : tie.Need-project-run-requires
 project-run-requires c κs =
-    let i = c .before .before .before .before .before in
-    (p-room (i .args .params) (i .args .randomness .now) (i .args .witness .now) (i .pre .0) (c .before .of-randomness .result) (c .before .of-randomness .ensures), words-room (i .args .at) 256 256 (i .args .output .now) (room i))
+    let i = c .before .before .before .before .before in (
+      p-room (i .args .params) (i .args .randomness .now) (i .args .witness .now) (i .pre .0) (c .before .of-randomness .result) (c .before .of-randomness .ensures),
+      words-room (i .args .at) 256 256 (i .args .output .now) (room i),
+    )
 
 -- the section stands in its place
 stored : (c : tie.After-project-run)
@@ -63,7 +65,8 @@ stored : (c : tie.After-project-run)
     (sections (p-in (parametersOf (i .args .params)) (i .args .randomness .now) (i .args .witness .now) ∷ []))
 stored c =
     let i = c .before .before .before .before .before .before in
-    section-stored (i .args .output .now) (c .project-run .last .1 .1 .1 .1 .1 .1 .1 .0) (i .args .at) 256 (p-in (parametersOf (i .args .params)) (i .args .randomness .now) (i .args .witness .now)) _ (c .project-run .ensures)
+    section-stored (i .args .output .now) (c .project-run .last .1 .1 .1 .1 .1 .1 .1 .0) (i .args .at) 256
+    (p-in (parametersOf (i .args .params)) (i .args .randomness .now) (i .args .witness .now)) _ (c .project-run .ensures)
     (ap (λ a. Jl.run (i .args .randomness .now) a (i .args .witness .now) 1 (i .args .params .rank) 0 (i .args .params .multiplicity)) (c .before .before .of-randomness .ensures)) (size i)
 
 -- the place after the section

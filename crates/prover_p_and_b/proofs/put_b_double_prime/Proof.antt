@@ -4,10 +4,10 @@ use mathlib.Core.List.{[], _∷_}
 use Prim.Native.Nat.{ℕ, _+_, _*_, _≤_, _<_, _^_}
 use native.Mathlib.Omega.{arith}
 use lib.ListN.{length}
-use Rattle.lists.specs.Part.{splice}
-use Rattle.lists.proofs.Splice.{length-splice, length-part}
-use Rattle.protocol.specs.Layout.{sections}
-use Rattle.relation.specs.Parameters.{parametersOf}
+use Rattle.math.specs.lists.Part.{splice}
+use Rattle.math.proofs.lists.Splice.{length-splice, length-part}
+use Rattle.spec_protocol.specs.Layout.{sections}
+use Rattle.relation_env_params.specs.Parameters.{parametersOf}
 use Rattle.prover_p_and_b.specs.Sections.{b″-in}
 use Rattle.prover_p_and_b.proofs.TranscriptSections.{next-place, section-copied}
 use Rattle.prover_p_and_b.proofs.SectionRoom.{few-words, fits-words, section-room, fits-next, fits-end}
@@ -47,7 +47,8 @@ stored : (c : tie.After-put-section)
     c .put-section .last .0 ≡ splice (i .args .output .now) (i .args .at) (sections (b″-in (parametersOf (i .args .params)) (i .args .regions) (i .args .scratch .now) ∷ []))
 stored c =
     let i = c .before .before .before .before .before in
-    section-copied (i .args .output .now) (c .put-section .last .0) (i .args .scratch .now) (i .args .at) (i .args .regions .b2) (64 * i .args .params .«const_agg_length») _ (c .put-section .ensures) refl (size i)
+    section-copied (i .args .output .now) (c .put-section .last .0) (i .args .scratch .now) (i .args .at) (i .args .regions .b2) (64 * i .args .params .«const_agg_length»)
+    _ (c .put-section .ensures) refl (size i)
 
 add-result : tie.Need-add-result
 add-result c =

@@ -5,13 +5,13 @@ use Prim.Native.Nat.{ℕ, _+_, _*_, _≤_, _<_, _^_}
 use native.Mathlib.Omega.{arith}
 use borrow.Author.Needs.{scaled-fits}
 use lib.ListN.{length}
-use Rattle.lists.specs.Part.{splice}
-use Rattle.lists.proofs.Splice.{length-splice}
-use Rattle.protocol.specs.Layout.{sections}
-use Rattle.protocol.proofs.Flat.{length-flat-table}
-use Rattle.relation.specs.Parameters.{parametersOf}
+use Rattle.math.specs.lists.Part.{splice}
+use Rattle.math.proofs.lists.Splice.{length-splice}
+use Rattle.spec_protocol.specs.Layout.{sections}
+use Rattle.spec_protocol.proofs.Flat.{length-flat-table}
+use Rattle.relation_env_params.specs.Parameters.{parametersOf}
 use Rattle.prover_sections.specs.Sections.{u₁-in}
-use Rattle.workspace.proofs.Ready.{ready-sized}
+use Rattle.core_workspace.proofs.Ready.{ready-sized}
 use Rattle.prover_sections.proofs.SectionMade.{u₁-stored}
 use Rattle.prover_p_and_b.proofs.TranscriptSections.{next-place, section-stored}
 use Rattle.prover_commit.proofs.Room.{fits-product, placed, base-room, B-room, C-room, t-cells, g-cells}
@@ -31,7 +31,8 @@ size : (c : tie.Start) → length (u₁-in (parametersOf (c .args .params)) (c .
 size c = length-flat-table (c .args .params .«kappa_1») _
 
 room : (c : tie.Start) → c .args .at + 1 + 64 * c .args .params .«kappa_1» ≤ length (c .args .output .now)
-room c = section-room (c .args .at) (64 * c .args .params .«kappa_1») (u₁-in (parametersOf (c .args .params)) (c .args .regions) (c .args .scratch .now) (c .args .job .now)) (c .args .output .now) (size c) (c .pre .1)
+room c = section-room (c .args .at) (64 * c .args .params .«kappa_1») (u₁-in (parametersOf (c .args .params)) (c .args .regions) (c .args .scratch .now) (c .args .job .now))
+    (c .args .output .now) (size c) (c .pre .1)
 
 few : (c : tie.Start) → c .args .params .«kappa_1» ≤ 1024
 few c = up (c .args .params .«kappa_1») (ready-sized (c .args .job .now) (c .args .params) (c .args .regions) (c .args .scratch .now) (c .pre .0) .within .κ₁ .1)
@@ -42,16 +43,21 @@ few c = up (c .args .params .«kappa_1») (ready-sized (c .args .job .now) (c .a
 -- the section stands in its place
 stored : (c : tie.After-compute-u1)
     → let i = c .before .before .before .before .before .before .before .before .before .before in
-    c .compute-u1 .last .1 .1 .1 .1 .1 .1 .1 .1 .0 ≡ splice (i .args .output .now) (i .args .at) (sections (u₁-in (parametersOf (i .args .params)) (i .args .regions) (i .args .scratch .now) (i .args .job .now) ∷ []))
+    c .compute-u1 .last .1 .1 .1 .1 .1 .1 .1 .1 .0 ≡ splice (i .args .output .now) (i .args .at)
+    (sections (u₁-in (parametersOf (i .args .params)) (i .args .regions) (i .args .scratch .now) (i .args .job .now) ∷ []))
 stored c =
     let i = c .before .before .before .before .before .before .before .before .before .before in
-    section-stored (i .args .output .now) (c .compute-u1 .last .1 .1 .1 .1 .1 .1 .1 .1 .0) (i .args .at) (64 * i .args .params .«kappa_1») (u₁-in (parametersOf (i .args .params)) (i .args .regions) (i .args .scratch .now) (i .args .job .now)) _ (c .compute-u1 .ensures)
-    (u₁-stored (parametersOf (i .args .params)) (i .args .regions) (i .args .scratch .now) (i .args .job .now) _ _ _ (c .before .before .before .before .of-job .ensures) (c .before .before .before .of-job2 .ensures) (c .before .before .before .before .before .triangle .ensures .0)) (size i)
+    section-stored (i .args .output .now) (c .compute-u1 .last .1 .1 .1 .1 .1 .1 .1 .1 .0) (i .args .at) (64 * i .args .params .«kappa_1»)
+    (u₁-in (parametersOf (i .args .params)) (i .args .regions) (i .args .scratch .now) (i .args .job .now)) _ (c .compute-u1 .ensures)
+    (u₁-stored (parametersOf (i .args .params)) (i .args .regions) (i .args .scratch .now) (i .args .job .now) _ _ _ (c .before .before .before .before .of-job .ensures)
+    (c .before .before .before .of-job2 .ensures) (c .before .before .before .before .before .triangle .ensures .0)) (size i)
 
 mul-output : tie.Need-mul-output
 mul-output c =
     let i = c .before .before .before .before in
-    fits-product (i .args .params .multiplicity) (i .args .params .kappa) (ready-sized (i .args .job .now) (i .args .params) (i .args .regions) (i .args .scratch .now) (i .pre .0) .within .r .1) (ready-sized (i .args .job .now) (i .args .params) (i .args .regions) (i .args .scratch .now) (i .pre .0) .within .κ .1)
+    fits-product (i .args .params .multiplicity) (i .args .params .kappa)
+    (ready-sized (i .args .job .now) (i .args .params) (i .args .regions) (i .args .scratch .now) (i .pre .0) .within .r .1)
+    (ready-sized (i .args .job .now) (i .args .params) (i .args .regions) (i .args .scratch .now) (i .pre .0) .within .κ .1)
 
 triangle-requires : tie.Need-triangle-requires
 triangle-requires c κs =
@@ -122,8 +128,12 @@ same-length c = ap length (stored (c .before .before)) ∙ length-splice _ _ _
 
 returns : tie.Need-returns
 returns c =
-    let i = c .before .before .before .before .before .before .before .before .before .before .before .before in
-    (next-place (i .args .at) (64 * i .args .params .«kappa_1») (u₁-in (parametersOf (i .args .params)) (i .args .regions) (i .args .scratch .now) (i .args .job .now)) (size i), stored (c .before .before))
+    let i = c .before .before .before .before .before .before .before .before .before .before .before .before in (
+      next-place (i .args .at) (64 * i .args .params .«kappa_1») (u₁-in (parametersOf (i .args .params)) (i .args .regions) (i .args .scratch .now) (i .args .job .now))
+          (size i),
+      stored (c .before .before),
+    )
 
 pub compute-u1-spec : {M : Type 1} → statement M
-compute-u1-spec = tie.close (tie.spec mul-output triangle-requires of-job-requires of-job-requires-2 mul-count cast-output mul-output-2 slice-write-output add-compute-u1 compute-u1-requires add-result add-result-2 same-length returns)
+compute-u1-spec = tie.close (tie.spec mul-output triangle-requires of-job-requires of-job-requires-2 mul-count cast-output mul-output-2 slice-write-output add-compute-u1
+    compute-u1-requires add-result add-result-2 same-length returns)

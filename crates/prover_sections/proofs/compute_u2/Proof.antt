@@ -5,13 +5,13 @@ use Prim.Native.Nat.{ℕ, _+_, _*_, _≤_, _<_, _^_}
 use native.Mathlib.Omega.{arith}
 use borrow.Author.Needs.{scaled-fits}
 use lib.ListN.{length}
-use Rattle.lists.specs.Part.{splice}
-use Rattle.lists.proofs.Splice.{length-splice}
-use Rattle.protocol.specs.Layout.{sections}
-use Rattle.protocol.proofs.Flat.{length-flat-table}
-use Rattle.relation.specs.Parameters.{parametersOf}
+use Rattle.math.specs.lists.Part.{splice}
+use Rattle.math.proofs.lists.Splice.{length-splice}
+use Rattle.spec_protocol.specs.Layout.{sections}
+use Rattle.spec_protocol.proofs.Flat.{length-flat-table}
+use Rattle.relation_env_params.specs.Parameters.{parametersOf}
 use Rattle.prover_sections.specs.Sections.{u₂-in}
-use Rattle.workspace.proofs.Ready.{ready-sized}
+use Rattle.core_workspace.proofs.Ready.{ready-sized}
 use Rattle.prover_sections.proofs.SectionMade.{u₂-stored}
 use Rattle.prover_p_and_b.proofs.TranscriptSections.{next-place, section-stored}
 use Rattle.prover_commit.proofs.Room.{placed, base-room, D-room, h-cells}
@@ -31,7 +31,8 @@ size : (c : tie.Start) → length (u₂-in (parametersOf (c .args .params)) (c .
 size c = length-flat-table (c .args .params .«kappa_2») _
 
 room : (c : tie.Start) → c .args .at + 1 + 64 * c .args .params .«kappa_2» ≤ length (c .args .output .now)
-room c = section-room (c .args .at) (64 * c .args .params .«kappa_2») (u₂-in (parametersOf (c .args .params)) (c .args .regions) (c .args .scratch .now) (c .args .job .now)) (c .args .output .now) (size c) (c .pre .1)
+room c = section-room (c .args .at) (64 * c .args .params .«kappa_2») (u₂-in (parametersOf (c .args .params)) (c .args .regions) (c .args .scratch .now) (c .args .job .now))
+    (c .args .output .now) (size c) (c .pre .1)
 
 few : (c : tie.Start) → c .args .params .«kappa_2» ≤ 1024
 few c = up (c .args .params .«kappa_2») (ready-sized (c .args .job .now) (c .args .params) (c .args .regions) (c .args .scratch .now) (c .pre .0) .within .κ₂ .1)
@@ -46,8 +47,10 @@ stored : (c : tie.After-compute-u2)
     (sections (u₂-in (parametersOf (i .args .params)) (i .args .regions) (i .args .scratch .now) (i .args .job .now) ∷ []))
 stored c =
     let i = c .before .before .before .before .before .before .before .before in
-    section-stored (i .args .output .now) (c .compute-u2 .last .1 .1 .1 .1 .1 .1 .0) (i .args .at) (64 * i .args .params .«kappa_2») (u₂-in (parametersOf (i .args .params)) (i .args .regions) (i .args .scratch .now) (i .args .job .now)) _ (c .compute-u2 .ensures)
-    (u₂-stored (parametersOf (i .args .params)) (i .args .regions) (i .args .scratch .now) (i .args .job .now) _ _ (c .before .before .before .of-job .ensures) (c .before .before .before .before .triangle .ensures .0)) (size i)
+    section-stored (i .args .output .now) (c .compute-u2 .last .1 .1 .1 .1 .1 .1 .0) (i .args .at) (64 * i .args .params .«kappa_2»)
+    (u₂-in (parametersOf (i .args .params)) (i .args .regions) (i .args .scratch .now) (i .args .job .now)) _ (c .compute-u2 .ensures)
+    (u₂-stored (parametersOf (i .args .params)) (i .args .regions) (i .args .scratch .now) (i .args .job .now) _ _ (c .before .before .before .of-job .ensures)
+    (c .before .before .before .before .triangle .ensures .0)) (size i)
 
 triangle-requires : tie.Need-triangle-requires
 triangle-requires c κs =
@@ -90,7 +93,8 @@ compute-u2-requires c κs =
     let d = c .before .before in (
       D-room (i .args .job .now) (i .args .params) (i .args .regions) (i .args .scratch .now) (i .pre .0) (d .of-job .result) (d .before .triangle .result) (d .of-job .ensures)
           (d .before .triangle .ensures .0),
-      h-cells (i .args .params) (i .args .regions) (i .args .scratch .now) (placed (i .args .job .now) (i .args .params) (i .args .regions) (i .args .scratch .now) (i .pre .0)) (d .before .triangle .result) (d .before .triangle .ensures),
+      h-cells (i .args .params) (i .args .regions) (i .args .scratch .now) (placed (i .args .job .now) (i .args .params) (i .args .regions) (i .args .scratch .now) (i .pre .0))
+          (d .before .triangle .result) (d .before .triangle .ensures),
       base-room (i .args .params) (i .args .regions) (i .args .scratch .now) (placed (i .args .job .now) (i .args .params) (i .args .regions) (i .args .scratch .now) (i .pre .0)),
       words-room (i .args .at) (64 * i .args .params .«kappa_2») (64 * i .args .params .«kappa_2») (i .args .output .now) (room i),
     )
@@ -110,8 +114,12 @@ same-length c = ap length (stored (c .before .before)) ∙ length-splice _ _ _
 
 returns : tie.Need-returns
 returns c =
-    let i = c .before .before .before .before .before .before .before .before .before .before in
-    (next-place (i .args .at) (64 * i .args .params .«kappa_2») (u₂-in (parametersOf (i .args .params)) (i .args .regions) (i .args .scratch .now) (i .args .job .now)) (size i), stored (c .before .before))
+    let i = c .before .before .before .before .before .before .before .before .before .before in (
+      next-place (i .args .at) (64 * i .args .params .«kappa_2») (u₂-in (parametersOf (i .args .params)) (i .args .regions) (i .args .scratch .now) (i .args .job .now))
+          (size i),
+      stored (c .before .before),
+    )
 
 pub compute-u2-spec : {M : Type 1} → statement M
-compute-u2-spec = tie.close (tie.spec triangle-requires of-job-requires mul-count cast-output mul-output slice-write-output add-compute-u2 compute-u2-requires add-result add-result-2 same-length returns)
+compute-u2-spec = tie.close (tie.spec triangle-requires of-job-requires mul-count cast-output mul-output slice-write-output add-compute-u2 compute-u2-requires add-result
+    add-result-2 same-length returns)

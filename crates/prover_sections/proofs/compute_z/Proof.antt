@@ -5,11 +5,11 @@ use Prim.Native.Nat.{ℕ, _+_, _*_, _≤_, _<_, _^_}
 use native.Mathlib.Omega.{arith}
 use borrow.Author.Needs.{scaled-fits}
 use lib.ListN.{length}
-use Rattle.lists.specs.Part.{splice}
-use Rattle.lists.proofs.Splice.{length-splice}
-use Rattle.protocol.specs.Layout.{sections}
-use Rattle.protocol.proofs.Flat.{length-flat-table}
-use Rattle.relation.specs.Parameters.{parametersOf}
+use Rattle.math.specs.lists.Part.{splice}
+use Rattle.math.proofs.lists.Splice.{length-splice}
+use Rattle.spec_protocol.specs.Layout.{sections}
+use Rattle.spec_protocol.proofs.Flat.{length-flat-table}
+use Rattle.relation_env_params.specs.Parameters.{parametersOf}
 use Rattle.prover_sections.specs.Sections.{z-in}
 use Rattle.prover_p_and_b.proofs.TranscriptSections.{next-place, section-stored}
 use Rattle.prover_p_and_b.proofs.SectionRoom.{fits-words, fits-count, section-room, count-room, words-room, fits-next, fits-end}
@@ -41,10 +41,12 @@ few c = up (c .args .params .rank) (c .pre .0 .sized .within .n .1)
 -- the section stands in its place
 stored : (c : tie.After-compute-z)
     → let i = c .before .before .before .before .before .before in
-    c .compute-z .last .1 .1 .1 .1 .1 .1 .0 ≡ splice (i .args .output .now) (i .args .at) (sections (z-in (parametersOf (i .args .params)) (i .args .regions) (i .args .scratch .now) (i .args .witness .now) ∷ []))
+    c .compute-z .last .1 .1 .1 .1 .1 .1 .0 ≡ splice (i .args .output .now) (i .args .at)
+    (sections (z-in (parametersOf (i .args .params)) (i .args .regions) (i .args .scratch .now) (i .args .witness .now) ∷ []))
 stored c =
     let i = c .before .before .before .before .before .before in
-    section-stored (i .args .output .now) (c .compute-z .last .1 .1 .1 .1 .1 .1 .0) (i .args .at) (64 * i .args .params .rank) (z-in (parametersOf (i .args .params)) (i .args .regions) (i .args .scratch .now) (i .args .witness .now)) _ (c .compute-z .ensures)
+    section-stored (i .args .output .now) (c .compute-z .last .1 .1 .1 .1 .1 .1 .0) (i .args .at) (64 * i .args .params .rank)
+    (z-in (parametersOf (i .args .params)) (i .args .regions) (i .args .scratch .now) (i .args .witness .now)) _ (c .compute-z .ensures)
     refl (size i)
 
 mul-count : tie.Need-mul-count
@@ -101,8 +103,11 @@ same-length c = ap length (stored (c .before .before)) ∙ length-splice _ _ _
 
 returns : tie.Need-returns
 returns c =
-    let i = c .before .before .before .before .before .before .before .before in
-    (next-place (i .args .at) (64 * i .args .params .rank) (z-in (parametersOf (i .args .params)) (i .args .regions) (i .args .scratch .now) (i .args .witness .now)) (size i), stored (c .before .before))
+    let i = c .before .before .before .before .before .before .before .before in (
+      next-place (i .args .at) (64 * i .args .params .rank) (z-in (parametersOf (i .args .params)) (i .args .regions) (i .args .scratch .now) (i .args .witness .now))
+          (size i),
+      stored (c .before .before),
+    )
 
 pub compute-z-spec : {M : Type 1} → statement M
 compute-z-spec = tie.close (tie.spec mul-count cast-output mul-output slice-write-output add-compute-z compute-z-requires add-result add-result-2 same-length returns)

@@ -4,11 +4,11 @@ use mathlib.Core.List.{List, [], _∷_}
 use Prim.Native.Nat.{ℕ, _+_, _*_, _≤_, _<_, _^_}
 use native.Mathlib.Omega.{arith}
 use lib.ListN.{length}
-use Rattle.lists.specs.Part.{splice}
-use Rattle.lists.proofs.Splice.{length-splice, length-part}
-use Rattle.protocol.specs.Layout.{sections}
-use Rattle.protocol.specs.Parameters.{T}
-use Rattle.relation.specs.Parameters.{parametersOf}
+use Rattle.math.specs.lists.Part.{splice}
+use Rattle.math.proofs.lists.Splice.{length-splice, length-part}
+use Rattle.spec_protocol.specs.Layout.{sections}
+use Rattle.spec_protocol.specs.Parameters.{T}
+use Rattle.relation_env_params.specs.Parameters.{parametersOf}
 use Rattle.prover_sections.specs.Sections.{t-in, g-in, h-in}
 use Rattle.prover_p_and_b.proofs.TranscriptSections.{next-place, section-copied, section-after, length-one, length-sections-append}
 use Rattle.prover_commit.proofs.Room.{small-product, fits-product}
@@ -38,10 +38,12 @@ few n h = omega arith
 
 -- the words of g and of h
 g-size : (c : tie.After-triangle) → let i = c .before .before .before .before in length (g-in (parametersOf (i .args .params)) (i .args .regions) (i .args .scratch .now)) ≡ 64 * c .triangle .result
-g-size c = let i = c .before .before .before .before in length-part (i .args .scratch .now) (i .args .regions .g) (64 * T (parametersOf (i .args .params))) (i .pre .0 .g) ∙ ap (λ n. 64 * n) (sym (c .triangle .ensures .0))
+g-size c = let i = c .before .before .before .before in length-part (i .args .scratch .now) (i .args .regions .g) (64 * T (parametersOf (i .args .params))) (i .pre .0 .g)
+    ∙ ap (λ n. 64 * n) (sym (c .triangle .ensures .0))
 
 h-size : (c : tie.After-triangle) → let i = c .before .before .before .before in length (h-in (parametersOf (i .args .params)) (i .args .regions) (i .args .scratch .now)) ≡ 64 * c .triangle .result
-h-size c = let i = c .before .before .before .before in length-part (i .args .scratch .now) (i .args .regions .«a_or_h») (64 * T (parametersOf (i .args .params))) (i .pre .0 .h) ∙ ap (λ n. 64 * n) (sym (c .triangle .ensures .0))
+h-size c = let i = c .before .before .before .before in length-part (i .args .scratch .now) (i .args .regions .«a_or_h») (64 * T (parametersOf (i .args .params))) (i .pre .0 .h)
+    ∙ ap (λ n. 64 * n) (sym (c .triangle .ensures .0))
 
 -- the room of the three
 room : (c : tie.After-triangle)
@@ -49,7 +51,9 @@ room : (c : tie.After-triangle)
     i .args .at + 1 + 64 * (i .args .params .multiplicity * i .args .params .kappa) + 1 + 64 * c .triangle .result + 1 + 64 * c .triangle .result ≤ length (i .args .output .now)
 room c =
     let i = c .before .before .before .before in
-    sections-room (i .args .at) (64 * (i .args .params .multiplicity * i .args .params .kappa)) (64 * c .triangle .result) (t-in (parametersOf (i .args .params)) (i .args .regions) (i .args .scratch .now)) (g-in (parametersOf (i .args .params)) (i .args .regions) (i .args .scratch .now)) (h-in (parametersOf (i .args .params)) (i .args .regions) (i .args .scratch .now)) (i .args .output .now) (t-size i) (g-size c) (h-size c) (i .pre .1)
+    sections-room (i .args .at) (64 * (i .args .params .multiplicity * i .args .params .kappa)) (64 * c .triangle .result)
+    (t-in (parametersOf (i .args .params)) (i .args .regions) (i .args .scratch .now)) (g-in (parametersOf (i .args .params)) (i .args .regions) (i .args .scratch .now))
+    (h-in (parametersOf (i .args .params)) (i .args .regions) (i .args .scratch .now)) (i .args .output .now) (t-size i) (g-size c) (h-size c) (i .pre .1)
 
 mul-cells : tie.Need-mul-cells
 mul-cells c =
@@ -75,8 +79,11 @@ mul-count c =
 put-section-requires : tie.Need-put-section-requires
 put-section-requires c κs =
     let d = c .before in
-    let i = d .before .before .before .before in
-    (room-1 (i .args .at) (64 * (i .args .params .multiplicity * i .args .params .kappa)) (64 * d .triangle .result) (length (i .args .output .now)) (room d), i .pre .0 .t, few-words (i .args .params .multiplicity * i .args .params .kappa) (t-few i))
+    let i = d .before .before .before .before in (
+      room-1 (i .args .at) (64 * (i .args .params .multiplicity * i .args .params .kappa)) (64 * d .triangle .result) (length (i .args .output .now)) (room d),
+      i .pre .0 .t,
+      few-words (i .args .params .multiplicity * i .args .params .kappa) (t-few i),
+    )
 
 -- t stands in its place
 first : (c : tie.After-put-section)
@@ -84,7 +91,8 @@ first : (c : tie.After-put-section)
     c .put-section .last .0 ≡ splice (i .args .output .now) (i .args .at) (sections (t-in (parametersOf (i .args .params)) (i .args .regions) (i .args .scratch .now) ∷ []))
 first c =
     let i = c .before .before .before .before .before .before in
-    section-copied (i .args .output .now) (c .put-section .last .0) (i .args .scratch .now) (i .args .at) (i .args .regions .t) (64 * (i .args .params .multiplicity * i .args .params .kappa)) _ (c .put-section .ensures) refl (t-size i)
+    section-copied (i .args .output .now) (c .put-section .last .0) (i .args .scratch .now) (i .args .at) (i .args .regions .t)
+    (64 * (i .args .params .multiplicity * i .args .params .kappa)) _ (c .put-section .ensures) refl (t-size i)
 
 -- a section within what a store left
 within : (o o′ : List ℕ) (at : ℕ) (ws : List ℕ) (n : ℕ) → o′ ≡ splice o at ws → n ≤ length o → n ≤ length o′
@@ -94,7 +102,9 @@ put-section-requires-2 : tie.Need-put-section-requires-2
 put-section-requires-2 c κs =
     let d = c .before .before .before .before .before in
     let i = d .before .before .before .before in (
-      within (i .args .output .now) _ (i .args .at) (sections (t-in (parametersOf (i .args .params)) (i .args .regions) (i .args .scratch .now) ∷ [])) _ (first (c .before .before .before)) (room-2 (i .args .at) (64 * (i .args .params .multiplicity * i .args .params .kappa)) (64 * d .triangle .result) (length (i .args .output .now)) (room d)),
+      within (i .args .output .now) _ (i .args .at) (sections (t-in (parametersOf (i .args .params)) (i .args .regions) (i .args .scratch .now) ∷ [])) _
+          (first (c .before .before .before))
+          (room-2 (i .args .at) (64 * (i .args .params .multiplicity * i .args .params .kappa)) (64 * d .triangle .result) (length (i .args .output .now)) (room d)),
       subst (λ k. i .args .regions .g + 64 * k ≤ length (i .args .scratch .now)) (sym (d .triangle .ensures .0)) (i .pre .0 .g),
       few-words (d .triangle .result) (few (d .triangle .result) (d .triangle .ensures .1)),
     )
@@ -102,20 +112,27 @@ put-section-requires-2 c κs =
 -- g stands after it
 second : (c : tie.After-put-section2)
     → let i = c .before .before .before .before .before .before .before .before .before .before in
-    c .put-section2 .last .0 ≡ splice (i .args .output .now) (i .args .at) (sections (t-in (parametersOf (i .args .params)) (i .args .regions) (i .args .scratch .now) ∷ g-in (parametersOf (i .args .params)) (i .args .regions) (i .args .scratch .now) ∷ []))
+    c .put-section2 .last .0 ≡ splice (i .args .output .now) (i .args .at)
+    (sections (t-in (parametersOf (i .args .params)) (i .args .regions) (i .args .scratch .now) ∷ g-in (parametersOf (i .args .params)) (i .args .regions) (i .args .scratch .now) ∷ []))
 second c =
     let d = c .before .before .before .before .before .before in
     let i = d .before .before .before .before in
-    section-after (i .args .output .now) (c .before .before .before .before .put-section .last .0) (c .put-section2 .last .0) (i .args .at) (i .args .at + 1 + 64 * (i .args .params .multiplicity * i .args .params .kappa)) (t-in (parametersOf (i .args .params)) (i .args .regions) (i .args .scratch .now) ∷ []) (g-in (parametersOf (i .args .params)) (i .args .regions) (i .args .scratch .now) ∷ [])
+    section-after (i .args .output .now) (c .before .before .before .before .put-section .last .0) (c .put-section2 .last .0) (i .args .at)
+    (i .args .at + 1 + 64 * (i .args .params .multiplicity * i .args .params .kappa)) (t-in (parametersOf (i .args .params)) (i .args .regions) (i .args .scratch .now) ∷ [])
+    (g-in (parametersOf (i .args .params)) (i .args .regions) (i .args .scratch .now) ∷ [])
     (first (c .before .before .before .before))
-    (section-copied (c .before .before .before .before .put-section .last .0) (c .put-section2 .last .0) (i .args .scratch .now) (i .args .at + 1 + 64 * (i .args .params .multiplicity * i .args .params .kappa)) (i .args .regions .g) (64 * d .triangle .result) _ (c .put-section2 .ensures) (ap (λ n. 64 * n) (d .triangle .ensures .0)) (g-size d))
+    (section-copied (c .before .before .before .before .put-section .last .0) (c .put-section2 .last .0) (i .args .scratch .now)
+    (i .args .at + 1 + 64 * (i .args .params .multiplicity * i .args .params .kappa)) (i .args .regions .g) (64 * d .triangle .result) _ (c .put-section2 .ensures)
+    (ap (λ n. 64 * n) (d .triangle .ensures .0)) (g-size d))
     (next-place (i .args .at) (64 * (i .args .params .multiplicity * i .args .params .kappa)) (t-in (parametersOf (i .args .params)) (i .args .regions) (i .args .scratch .now)) (t-size i))
 
 put-section-requires-3 : tie.Need-put-section-requires-3
 put-section-requires-3 c κs =
     let d = c .before .before .before .before .before .before .before .before .before in
     let i = d .before .before .before .before in (
-      within (i .args .output .now) _ (i .args .at) (sections (t-in (parametersOf (i .args .params)) (i .args .regions) (i .args .scratch .now) ∷ g-in (parametersOf (i .args .params)) (i .args .regions) (i .args .scratch .now) ∷ [])) _ (second (c .before .before .before)) (room d),
+      within (i .args .output .now) _ (i .args .at)
+          (sections (t-in (parametersOf (i .args .params)) (i .args .regions) (i .args .scratch .now) ∷ g-in (parametersOf (i .args .params)) (i .args .regions)
+          (i .args .scratch .now) ∷ [])) _ (second (c .before .before .before)) (room d),
       subst (λ k. i .args .regions .«a_or_h» + 64 * k ≤ length (i .args .scratch .now)) (sym (d .triangle .ensures .0)) (i .pre .0 .h),
       few-words (d .triangle .result) (few (d .triangle .result) (d .triangle .ensures .1)),
     )
@@ -127,38 +144,50 @@ two at a b us vs e f = omega (arith, e, f, length-sections-append (us ∷ []) (v
 -- h stands after them
 stored : (c : tie.After-put-section3)
     → let i = c .before .before .before .before .before .before .before .before .before .before .before .before .before .before in
-    c .put-section3 .last .0 ≡ splice (i .args .output .now) (i .args .at) (sections (t-in (parametersOf (i .args .params)) (i .args .regions) (i .args .scratch .now) ∷ g-in (parametersOf (i .args .params)) (i .args .regions) (i .args .scratch .now) ∷ h-in (parametersOf (i .args .params)) (i .args .regions) (i .args .scratch .now) ∷ []))
+    c .put-section3 .last .0 ≡ splice (i .args .output .now) (i .args .at)
+    (sections (t-in (parametersOf (i .args .params)) (i .args .regions) (i .args .scratch .now) ∷ g-in (parametersOf (i .args .params)) (i .args .regions)
+    (i .args .scratch .now) ∷ h-in (parametersOf (i .args .params)) (i .args .regions) (i .args .scratch .now) ∷ []))
 stored c =
     let d = c .before .before .before .before .before .before .before .before .before .before in
     let i = d .before .before .before .before in
-    section-after (i .args .output .now) (c .before .before .before .before .put-section2 .last .0) (c .put-section3 .last .0) (i .args .at) (i .args .at + 1 + 64 * (i .args .params .multiplicity * i .args .params .kappa) + 1 + 64 * d .triangle .result) (t-in (parametersOf (i .args .params)) (i .args .regions) (i .args .scratch .now) ∷ g-in (parametersOf (i .args .params)) (i .args .regions) (i .args .scratch .now) ∷ []) (h-in (parametersOf (i .args .params)) (i .args .regions) (i .args .scratch .now) ∷ [])
+    section-after (i .args .output .now) (c .before .before .before .before .put-section2 .last .0) (c .put-section3 .last .0) (i .args .at)
+    (i .args .at + 1 + 64 * (i .args .params .multiplicity * i .args .params .kappa) + 1 + 64 * d .triangle .result)
+    (t-in (parametersOf (i .args .params)) (i .args .regions) (i .args .scratch .now) ∷ g-in (parametersOf (i .args .params)) (i .args .regions) (i .args .scratch .now) ∷ [])
+    (h-in (parametersOf (i .args .params)) (i .args .regions) (i .args .scratch .now) ∷ [])
     (second (c .before .before .before .before))
-    (section-copied (c .before .before .before .before .put-section2 .last .0) (c .put-section3 .last .0) (i .args .scratch .now) (i .args .at + 1 + 64 * (i .args .params .multiplicity * i .args .params .kappa) + 1 + 64 * d .triangle .result) (i .args .regions .«a_or_h») (64 * d .triangle .result) _ (c .put-section3 .ensures) (ap (λ n. 64 * n) (d .triangle .ensures .0)) (h-size d))
-    (two (i .args .at) (64 * (i .args .params .multiplicity * i .args .params .kappa)) (64 * d .triangle .result) (t-in (parametersOf (i .args .params)) (i .args .regions) (i .args .scratch .now)) (g-in (parametersOf (i .args .params)) (i .args .regions) (i .args .scratch .now)) (t-size i) (g-size d))
+    (section-copied (c .before .before .before .before .put-section2 .last .0) (c .put-section3 .last .0) (i .args .scratch .now)
+    (i .args .at + 1 + 64 * (i .args .params .multiplicity * i .args .params .kappa) + 1 + 64 * d .triangle .result) (i .args .regions .«a_or_h») (64 * d .triangle .result)
+    _ (c .put-section3 .ensures) (ap (λ n. 64 * n) (d .triangle .ensures .0)) (h-size d))
+    (two (i .args .at) (64 * (i .args .params .multiplicity * i .args .params .kappa)) (64 * d .triangle .result)
+    (t-in (parametersOf (i .args .params)) (i .args .regions) (i .args .scratch .now)) (g-in (parametersOf (i .args .params)) (i .args .regions) (i .args .scratch .now)) (t-size i) (g-size d))
 
 add-g-at : tie.Need-add-g-at
 add-g-at c =
     let d = c in
     let i = d .before .before .before .before in
-    fits-next (i .args .at) (64 * (i .args .params .multiplicity * i .args .params .kappa)) (length (i .args .output .now)) (room-1 (i .args .at) (64 * (i .args .params .multiplicity * i .args .params .kappa)) (64 * d .triangle .result) (length (i .args .output .now)) (room d)) (long i)
+    fits-next (i .args .at) (64 * (i .args .params .multiplicity * i .args .params .kappa)) (length (i .args .output .now))
+    (room-1 (i .args .at) (64 * (i .args .params .multiplicity * i .args .params .kappa)) (64 * d .triangle .result) (length (i .args .output .now)) (room d)) (long i)
 
 add-g-at-2 : tie.Need-add-g-at-2
 add-g-at-2 c =
     let d = c in
     let i = d .before .before .before .before in
-    fits-end (i .args .at) (64 * (i .args .params .multiplicity * i .args .params .kappa)) (length (i .args .output .now)) (room-1 (i .args .at) (64 * (i .args .params .multiplicity * i .args .params .kappa)) (64 * d .triangle .result) (length (i .args .output .now)) (room d)) (long i)
+    fits-end (i .args .at) (64 * (i .args .params .multiplicity * i .args .params .kappa)) (length (i .args .output .now))
+    (room-1 (i .args .at) (64 * (i .args .params .multiplicity * i .args .params .kappa)) (64 * d .triangle .result) (length (i .args .output .now)) (room d)) (long i)
 
 add-h-at : tie.Need-add-h-at
 add-h-at c =
     let d = c in
     let i = d .before .before .before .before in
-    fits-next (i .args .at + 1 + 64 * (i .args .params .multiplicity * i .args .params .kappa)) (64 * d .triangle .result) (length (i .args .output .now)) (room-2 (i .args .at) (64 * (i .args .params .multiplicity * i .args .params .kappa)) (64 * d .triangle .result) (length (i .args .output .now)) (room d)) (long i)
+    fits-next (i .args .at + 1 + 64 * (i .args .params .multiplicity * i .args .params .kappa)) (64 * d .triangle .result) (length (i .args .output .now))
+    (room-2 (i .args .at) (64 * (i .args .params .multiplicity * i .args .params .kappa)) (64 * d .triangle .result) (length (i .args .output .now)) (room d)) (long i)
 
 add-h-at-2 : tie.Need-add-h-at-2
 add-h-at-2 c =
     let d = c in
     let i = d .before .before .before .before in
-    fits-end (i .args .at + 1 + 64 * (i .args .params .multiplicity * i .args .params .kappa)) (64 * d .triangle .result) (length (i .args .output .now)) (room-2 (i .args .at) (64 * (i .args .params .multiplicity * i .args .params .kappa)) (64 * d .triangle .result) (length (i .args .output .now)) (room d)) (long i)
+    fits-end (i .args .at + 1 + 64 * (i .args .params .multiplicity * i .args .params .kappa)) (64 * d .triangle .result) (length (i .args .output .now))
+    (room-2 (i .args .at) (64 * (i .args .params .multiplicity * i .args .params .kappa)) (64 * d .triangle .result) (length (i .args .output .now)) (room d)) (long i)
 
 add-result : tie.Need-add-result
 add-result c =
@@ -180,10 +209,15 @@ same-length c = ap length (stored (c .before .before)) ∙ length-splice _ _ _
 returns : tie.Need-returns
 returns c =
     let d = c .before .before .before .before .before .before .before .before .before .before .before .before in
-    let i = d .before .before .before .before in
-    (sections-end (i .args .at) (64 * (i .args .params .multiplicity * i .args .params .kappa)) (64 * d .triangle .result) (t-in (parametersOf (i .args .params)) (i .args .regions) (i .args .scratch .now)) (g-in (parametersOf (i .args .params)) (i .args .regions) (i .args .scratch .now)) (h-in (parametersOf (i .args .params)) (i .args .regions) (i .args .scratch .now)) (t-size i) (g-size d) (h-size d), stored (c .before .before))
+    let i = d .before .before .before .before in (
+      sections-end (i .args .at) (64 * (i .args .params .multiplicity * i .args .params .kappa)) (64 * d .triangle .result)
+          (t-in (parametersOf (i .args .params)) (i .args .regions) (i .args .scratch .now)) (g-in (parametersOf (i .args .params)) (i .args .regions) (i .args .scratch .now))
+          (h-in (parametersOf (i .args .params)) (i .args .regions) (i .args .scratch .now)) (t-size i) (g-size d) (h-size d),
+      stored (c .before .before),
+    )
 
 pub put-t-g-h-spec : {M : Type 1} → statement M
 put-t-g-h-spec =
     tie.close
-    (tie.spec mul-cells mul-cells-2 triangle-requires mul-count add-g-at add-g-at-2 add-h-at add-h-at-2 put-section-requires put-section-requires-2 put-section-requires-3 add-result add-result-2 same-length returns)
+    (tie.spec mul-cells mul-cells-2 triangle-requires mul-count add-g-at add-g-at-2 add-h-at add-h-at-2 put-section-requires put-section-requires-2 put-section-requires-3
+    add-result add-result-2 same-length returns)

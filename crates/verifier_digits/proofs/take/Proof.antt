@@ -4,12 +4,12 @@ use Prim.Native.Nat.{ℕ, _+_, _*_, _≤_, _<_, _^_}
 use native.Mathlib.Omega.{arith}
 use lib.Dec.{leb}
 use lib.ListN.{length}
-use Rattle.lists.specs.Table.{table}
-use Rattle.definitions.specs.Answer.{value128}
-use Rattle.definitions.specs.Rq.{Element}
-use Rattle.inner_product.specs.Run.{run}
-use Rattle.protocol.specs.Formulas.{count-left}
-use Rattle.protocol.proofs.CellsLeft.{count-at-most}
+use Rattle.math.specs.lists.Table.{table}
+use Rattle.spec_leaves.specs.Answer.{value128}
+use Rattle.spec_leaves.specs.Rq.{Element}
+use Rattle.ring_inner_product.specs.Run.{run}
+use Rattle.spec_protocol.specs.Formulas.{count-left}
+use Rattle.spec_protocol.proofs.CellsLeft.{count-at-most}
 use Rattle.verifier_common.proofs.Sent.{received-room, product-small}
 use Rattle.verifier_digits.proofs.Digits.{t-norm-is, g-norm-is, h-norm-is, Found, sum-is, cells-left-is}
 use Rattle.verifier_digits.proofs.take.Statement.{statement}

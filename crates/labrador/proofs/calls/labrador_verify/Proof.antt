@@ -1,7 +1,7 @@
 -- `labrador_verify` meets its contract.
 use mathlib.Core.Path.{ap, _∙_}
 use borrow.Author.Needs.{needs}
-use Rattle.call_answers.specs.Calls.{labradorVerdict}
+use Rattle.api_answers.specs.Calls.{labradorVerdict}
 use Rattle.labrador.proofs.calls.labrador_verify.Statement.{statement}
 use Rattle.labrador.proofs.calls.labrador_verify.Tie as tie
 

@@ -3,15 +3,15 @@ use mathlib.Core.Path.{_≡_, sym, _∙_, ap}
 use mathlib.Core.List.{List}
 use Prim.Native.Nat.{ℕ}
 use borrow.Author.Needs.{needs}
-use Rattle.lists.specs.Table.{table}
-use Rattle.definitions.specs.declared.answers.Operands.{Operands}
-use Rattle.definitions.specs.Answer.{Answer, result, ofOperands}
-use Rattle.definitions.specs.Rq.{rzero, leftRow}
-use Rattle.leaf_answers.specs.declared.answers.Status.{Status}
-use Rattle.leaf_answers.specs.declared.answers.ElementAnswer.{ElementAnswer}
-use Rattle.leaf_answers.specs.Answers.{statusOf, elementAnswer}
-use Rattle.leaf_answers.proofs.Result.{is-fine, kept, dropped}
-use Rattle.operands.proofs.Limits.{digit-limits}
+use Rattle.math.specs.lists.Table.{table}
+use Rattle.spec_leaves.specs.declared.answers.Operands.{Operands}
+use Rattle.spec_leaves.specs.Answer.{Answer, result, ofOperands}
+use Rattle.spec_leaves.specs.Rq.{rzero, leftRow}
+use Rattle.api_leaf_answers.specs.declared.answers.Status.{Status}
+use Rattle.api_leaf_answers.specs.declared.answers.ElementAnswer.{ElementAnswer}
+use Rattle.api_leaf_answers.specs.Answers.{statusOf, elementAnswer}
+use Rattle.api_leaf_answers.proofs.Result.{is-fine, kept, dropped}
+use Rattle.api_operands.proofs.Limits.{digit-limits}
 use Rattle.labrador.proofs.digits.labrador_rq_left.Statement.{statement}
 use Rattle.labrador.proofs.digits.labrador_rq_left.Tie as tie
 

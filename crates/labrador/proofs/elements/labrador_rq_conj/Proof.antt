@@ -1,7 +1,7 @@
 -- `labrador_rq_conj` meets its contract.
 use mathlib.Core.Path.{_∙_, ap₂}
 use borrow.Author.Needs.{needs}
-use Rattle.leaf_answers.specs.Answers.{elementAnswer}
+use Rattle.api_leaf_answers.specs.Answers.{elementAnswer}
 use Rattle.labrador.proofs.elements.labrador_rq_conj.Statement.{statement}
 use Rattle.labrador.proofs.elements.labrador_rq_conj.Tie as tie
 

@@ -1,7 +1,7 @@
 -- `labrador_load` meets its contract.
 use mathlib.Core.Path.{ap, _∙_}
 use borrow.Author.Needs.{needs}
-use Rattle.call_answers.specs.Calls.{labradorAnswer}
+use Rattle.api_answers.specs.Calls.{labradorAnswer}
 use Rattle.labrador.proofs.loads.labrador_load.Statement.{statement}
 use Rattle.labrador.proofs.loads.labrador_load.Tie as tie
 

@@ -1,7 +1,7 @@
 -- `labrador_projection_entry` meets its contract.
 use mathlib.Core.Path.{_∙_, ap₂}
 use borrow.Author.Needs.{needs}
-use Rattle.leaf_answers.specs.Answers.{wordAnswer}
+use Rattle.api_leaf_answers.specs.Answers.{wordAnswer}
 use Rattle.labrador.proofs.numbers.labrador_projection_entry.Statement.{statement}
 use Rattle.labrador.proofs.numbers.labrador_projection_entry.Tie as tie
 

@@ -3,7 +3,7 @@ use mathlib.Core.Path.{_∙_, ap₂}
 use borrow.Author.Needs.{needs}
 use mir.Syntax.{w64}
 use mir.ValLaws.{toZ-ofZ}
-use Rattle.leaf_answers.specs.Answers.{centreAnswer}
+use Rattle.api_leaf_answers.specs.Answers.{centreAnswer}
 use Rattle.labrador.proofs.numbers.labrador_zq_centre.Statement.{statement}
 use Rattle.labrador.proofs.numbers.labrador_zq_centre.Tie as tie
 

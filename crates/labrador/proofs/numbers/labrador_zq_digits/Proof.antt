@@ -4,15 +4,15 @@ use mathlib.Core.List.{List}
 use Prim.Native.Nat.{ℕ}
 use lib.ListN.{replicate}
 use borrow.Author.Needs.{needs}
-use Rattle.definitions.specs.declared.answers.Decomposed.{Decomposed}
-use Rattle.definitions.specs.declared.answers.Operands.{Operands}
-use Rattle.definitions.specs.Answer.{Answer, result, ofOperands}
-use Rattle.definitions.specs.Digits.{decomposed}
-use Rattle.leaf_answers.specs.declared.answers.Status.{Status}
-use Rattle.leaf_answers.specs.declared.answers.DigitsAnswer.{DigitsAnswer}
-use Rattle.leaf_answers.specs.Answers.{statusOf, digitsAnswer}
-use Rattle.leaf_answers.proofs.Result.{is-fine, kept, dropped}
-use Rattle.operands.proofs.Limits.{digit-limits}
+use Rattle.spec_leaves.specs.declared.answers.Decomposed.{Decomposed}
+use Rattle.spec_leaves.specs.declared.answers.Operands.{Operands}
+use Rattle.spec_leaves.specs.Answer.{Answer, result, ofOperands}
+use Rattle.spec_leaves.specs.Digits.{decomposed}
+use Rattle.api_leaf_answers.specs.declared.answers.Status.{Status}
+use Rattle.api_leaf_answers.specs.declared.answers.DigitsAnswer.{DigitsAnswer}
+use Rattle.api_leaf_answers.specs.Answers.{statusOf, digitsAnswer}
+use Rattle.api_leaf_answers.proofs.Result.{is-fine, kept, dropped}
+use Rattle.api_operands.proofs.Limits.{digit-limits}
 use Rattle.labrador.proofs.numbers.labrador_zq_digits.Statement.{statement}
 use Rattle.labrador.proofs.numbers.labrador_zq_digits.Tie as tie
 

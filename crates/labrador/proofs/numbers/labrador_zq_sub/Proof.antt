@@ -1,7 +1,7 @@
 -- `labrador_zq_sub` meets its contract.
 use mathlib.Core.Path.{_∙_, ap₂}
 use borrow.Author.Needs.{needs}
-use Rattle.leaf_answers.specs.Answers.{wordAnswer}
+use Rattle.api_leaf_answers.specs.Answers.{wordAnswer}
 use Rattle.labrador.proofs.numbers.labrador_zq_sub.Statement.{statement}
 use Rattle.labrador.proofs.numbers.labrador_zq_sub.Tie as tie
 

@@ -1,7 +1,7 @@
 -- `labrador_parts_needed` meets its contract.
 use mathlib.Core.Path.{_∙_, ap}
 use borrow.Author.Needs.{needs}
-use Rattle.leaf_answers.specs.Answers.{wordAnswer}
+use Rattle.api_leaf_answers.specs.Answers.{wordAnswer}
 use Rattle.labrador.proofs.recomposed.labrador_parts_needed.Statement.{statement}
 use Rattle.labrador.proofs.recomposed.labrador_parts_needed.Tie as tie
 

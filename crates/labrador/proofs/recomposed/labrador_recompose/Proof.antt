@@ -2,13 +2,13 @@
 use mathlib.Core.Path.{_≡_, _∙_, ap}
 use Prim.Native.Nat.{ℕ}
 use borrow.Author.Needs.{needs}
-use Rattle.definitions.specs.declared.answers.Operands.{Operands}
-use Rattle.definitions.specs.Answer.{Answer, result, ofOperands}
-use Rattle.definitions.specs.Recompose.{recompose}
-use Rattle.leaf_answers.specs.declared.answers.Status.{Status}
-use Rattle.leaf_answers.specs.declared.answers.WordAnswer.{WordAnswer}
-use Rattle.leaf_answers.specs.Answers.{statusOf, wordAnswer}
-use Rattle.leaf_answers.proofs.Result.{kept, dropped}
+use Rattle.spec_leaves.specs.declared.answers.Operands.{Operands}
+use Rattle.spec_leaves.specs.Answer.{Answer, result, ofOperands}
+use Rattle.spec_leaves.specs.Recompose.{recompose}
+use Rattle.api_leaf_answers.specs.declared.answers.Status.{Status}
+use Rattle.api_leaf_answers.specs.declared.answers.WordAnswer.{WordAnswer}
+use Rattle.api_leaf_answers.specs.Answers.{statusOf, wordAnswer}
+use Rattle.api_leaf_answers.proofs.Result.{kept, dropped}
 use Rattle.labrador.proofs.recomposed.labrador_recompose.Statement.{statement}
 use Rattle.labrador.proofs.recomposed.labrador_recompose.Tie as tie
 

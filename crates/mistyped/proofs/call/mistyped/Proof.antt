@@ -4,11 +4,11 @@ use Prim.Native.Nat.{_*_}
 use native.Mathlib.Omega.{arith}
 use borrow.Author.Needs.{needs}
 use lib.ListN.{length}
-use Rattle.definitions.specs.Answer.{fine, refused}
-use Rattle.protocol.specs.Parameters.{parameters}
-use Rattle.protocol.specs.Verifier.{verify-refusal}
-use Rattle.protocol.specs.Mistyped.{list-need}
-use Rattle.admission.specs.Admission.{Verifiable, ofAdmitted}
+use Rattle.spec_leaves.specs.Answer.{fine, refused}
+use Rattle.spec_protocol.specs.Parameters.{parameters}
+use Rattle.spec_protocol.specs.Verifier.{verify-refusal}
+use Rattle.spec_protocol.specs.Mistyped.{list-need}
+use Rattle.admission_slices.specs.Admission.{Verifiable, ofAdmitted}
 use Rattle.verifier.proofs.Whole.{admitted}
 use Rattle.mistyped.specs.Told.{mistypedAnswer}
 use Rattle.mistyped.proofs.Verdicts.{numbered}
@@ -18,13 +18,15 @@ use Rattle.mistyped.proofs.call.mistyped.Tie as tie
 
 -- a call that the verifier would not refuse before its work
 module _ (c : tie.After-struct-known) where
-  fit : let s = c .before .before .before .before .before .before .before .before .before .before .args in Verifiable (s .job .now) (s .randomness .now) (s .transcript .now) (length (s .scratch .now)) (c .before .before .params .given .0 .0)
+  fit : let s = c .before .before .before .before .before .before .before .before .before .before .args in Verifiable (s .job .now) (s .randomness .now) (s .transcript .now)
+      (length (s .scratch .now)) (c .before .before .params .given .0 .0)
   fit =
       let s = c .before .before .before .before .before .before .before .before .before .before .args in
       let e = c .before .before .before .before .admit .ensures in
       admitted (s .job .now) (s .randomness .now) (s .transcript .now) (s .scratch .now) _ (e .0) _ (c .before .before .params .given .1) (e .1)
 
-  unrefused : let s = c .before .before .before .before .before .before .before .before .before .before .args in fine ≡ verify-refusal (s .job .now) (s .randomness .now) (s .transcript .now) (length (s .scratch .now))
+  unrefused : let s = c .before .before .before .before .before .before .before .before .before .before .args in fine ≡ verify-refusal (s .job .now) (s .randomness .now)
+      (s .transcript .now) (length (s .scratch .now))
   unrefused = sym (ap ofAdmitted (c .before .before .params .given .1)) ∙ c .before .before .before .before .admit .ensures .0
 
   -- the length that the list needs

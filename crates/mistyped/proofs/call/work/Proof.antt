@@ -4,7 +4,7 @@ use Prim.Native.Nat.{_*_}
 use native.Mathlib.Omega.{arith}
 use borrow.Author.Needs.{needs}
 use lib.ListN.{length, replicate}
-use Rattle.lists.proofs.Splice.{length-splice}
+use Rattle.math.proofs.lists.Splice.{length-splice}
 use Rattle.verifier.proofs.Whole.{sent-of}
 use Rattle.mistyped.proofs.Judged.{worked}
 use Rattle.mistyped.proofs.call.work.Statement.{statement}
@@ -23,7 +23,8 @@ returns c =
     let s = c .before .before .before .before .before .before .before .before .before .before .before .before .before .before .before .before .before .before in
     let v = c .before .before .before .before .before .before .work-and-clear .ensures in (
       worked (s .args .job .now) (s .args .randomness .now) (s .args .transcript .now) (s .args .list .now) _ _ (2 * s .args .params .«constraint_l») (c .before .before .judge .result)
-          (ap (λ P. 2 * P .l) (s .pre .0 .handed .same)) (s .pre .1) (c .before .before .before .before .before .before .before .before .before .before .clear .ensures) (c .before .before .judge .ensures),
+          (ap (λ P. 2 * P .l) (s .pre .0 .handed .same)) (s .pre .1) (c .before .before .before .before .before .before .before .before .before .before .clear .ensures)
+          (c .before .before .judge .ensures),
       v .1,
     )
 

@@ -3,7 +3,7 @@ use mathlib.Core.Path.{_≡_, _∙_, ap, ap₂}
 use Prim.Native.Nat.{_+_, _-_, _*_, _/_, _%_, _≤_}
 use native.Mathlib.Nat.{mul-le-mul}
 use native.Mathlib.Omega.{arith}
-use Rattle.definitions.proofs.Modulo.{mul-mod-both}
+use Rattle.spec_leaves.proofs.Modulo.{mul-mod-both}
 use Rattle.ntt_layers.specs.Fold.{prime, montgomery}
 use Rattle.ntt_layers.proofs.Folds.{montgomery-bound}
 use Rattle.ntt_layers.proofs.fold.montgomery.Statement.{statement}
@@ -14,11 +14,19 @@ mul-multiple c = omega (arith, mul-le-mul {n₁ = c .args .z % 4294967296} {m₁
 
 mul-result : tie.Need-mul-result
 mul-result c =
-    omega (arith, mul-le-mul {n₁ = c .args .z % 4294967296 * (c .args .neginv % 4294967296) % 4294967296} {m₁ = (134217728 - c .args .d) % 4294967296} {n₂ = 4294967295} {m₂ = 134217728} (omega arith) (omega arith))
+    omega (
+      arith,
+      mul-le-mul {n₁ = c .args .z % 4294967296 * (c .args .neginv % 4294967296) % 4294967296} {m₁ = (134217728 - c .args .d) % 4294967296} {n₂ = 4294967295}
+          {m₂ = 134217728} (omega arith) (omega arith),
+    )
 
 add-result : tie.Need-add-result
 add-result c =
-    omega (arith, mul-le-mul {n₁ = c .args .z % 4294967296 * (c .args .neginv % 4294967296) % 4294967296} {m₁ = (134217728 - c .args .d) % 4294967296} {n₂ = 4294967295} {m₂ = 134217728} (omega arith) (omega arith))
+    omega (
+      arith,
+      mul-le-mul {n₁ = c .args .z % 4294967296 * (c .args .neginv % 4294967296) % 4294967296} {m₁ = (134217728 - c .args .d) % 4294967296} {n₂ = 4294967295}
+          {m₂ = 134217728} (omega arith) (omega arith),
+    )
 
 returns : tie.Need-returns
 unfolding montgomery

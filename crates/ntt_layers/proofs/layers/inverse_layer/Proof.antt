@@ -22,7 +22,13 @@ loop-holds : tie.Need-loop-holds Inv-loop μ-loop
 loop-holds c = (omega arith, halves-none (inverseLayerAt _ _ _ _ _))
 
 sub-turned-2 : tie.Need-sub-turned-2 Inv-loop μ-loop
-sub-turned-2 c = omega (arith, c .before .before .before .before .before .before .before .pre .powers .small, c .before .before .before .before .before .before .before .pre .room (2 * c .before .before .before .before .before .loop .t) (omega arith), c .wide3 .ensures .0)
+sub-turned-2 c = omega (
+  arith,
+  c .before .before .before .before .before .before .before .pre .powers .small,
+  c .before .before .before .before .before .before .before .pre .room
+      (2 * c .before .before .before .before .before .loop .t) (omega arith),
+  c .wide3 .ensures .0,
+)
 
 add-turned : tie.Need-add-turned Inv-loop μ-loop
 add-turned c = omega (arith, c .before .before .before .before .before .before .before .pre .powers .small, c .before .wide2 .ensures .1)
@@ -31,20 +37,29 @@ mul-turned-2 : tie.Need-mul-turned-2 Inv-loop μ-loop
 mul-turned-2 c =
     let s = c .before .before .before .before .before .before .before .args in
     let t = c .before .before .before .before .before .loop .t in
-    let p : c .before .before .wide .result < 134217728 = omega (arith, c .before .before .wide .ensures .0, c .before .before .before .before .before .before .before .pre .powers .below t (omega arith)) in
+    let p : c .before .before .wide .result < 134217728 = omega
+    (arith, c .before .before .wide .ensures .0, c .before .before .before .before .before .before .before .pre .powers .below t (omega arith)) in
     let r : (c .before .wide2 .result + (3 * (134217728 - s .d) - c .wide3 .result)) % 4294967296 < 4294967296 = omega arith in
     omega (arith, times-bound (c .before .before .wide .result) ((c .before .wide2 .result + (3 * (134217728 - s .d) - c .wide3 .result)) % 4294967296) p r)
 
 add-fold-word : tie.Need-add-fold-word Inv-loop μ-loop
-add-fold-word c = omega (arith, c .before .before .before .before .before .before .before .pre .room (2 * c .before .before .before .before .before .loop .t) (omega arith), c .before .before .before .before .before .before .before .pre .room (2 * c .before .before .before .before .before .loop .t + 1) (omega arith))
+add-fold-word c = omega (
+  arith,
+  c .before .before .before .before .before .before .before .pre .room (2 * c .before .before .before .before .before .loop .t) (omega arith),
+  c .before .before .before .before .before .before .before .pre .room (2 * c .before .before .before .before .before .loop .t + 1) (omega arith),
+)
 
 montgomery-requires : tie.Need-montgomery-requires Inv-loop μ-loop
 montgomery-requires c κs =
     let s = c .before .before .before .before .before .before .before .before .args in
     let t = c .before .before .before .before .before .before .loop .t in
-    let p : c .before .before .before .wide .result < 134217728 = omega (arith, c .before .before .before .wide .ensures .0, c .before .before .before .before .before .before .before .before .pre .powers .below t (omega arith)) in
-    let r : (c .before .before .wide2 .result + (3 * (134217728 - s .d) - c .before .wide3 .result)) % 4294967296 < 4294967296 = omega arith in
-    (times-bound (c .before .before .before .wide .result) ((c .before .before .wide2 .result + (3 * (134217728 - s .d) - c .before .wide3 .result)) % 4294967296) p r, c .before .before .before .before .before .before .before .before .pre .powers .small, c .before .before .before .before .before .before .before .before .pre .powers .opposite)
+    let p : c .before .before .before .wide .result < 134217728 = omega
+    (arith, c .before .before .before .wide .ensures .0, c .before .before .before .before .before .before .before .before .pre .powers .below t (omega arith)) in
+    let r : (c .before .before .wide2 .result + (3 * (134217728 - s .d) - c .before .wide3 .result)) % 4294967296 < 4294967296 = omega arith in (
+      times-bound (c .before .before .before .wide .result) ((c .before .before .wide2 .result + (3 * (134217728 - s .d) - c .before .wide3 .result)) % 4294967296) p r,
+      c .before .before .before .before .before .before .before .before .pre .powers .small,
+      c .before .before .before .before .before .before .before .before .pre .powers .opposite,
+    )
 
 loop-again : tie.Need-loop-again Inv-loop μ-loop
 unfolding lowerAt upperAt

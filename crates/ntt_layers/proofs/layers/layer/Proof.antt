@@ -4,8 +4,8 @@ use Prim.Native.Nat.{_+_, _-_, _*_, _≤_, _<_}
 use native.Mathlib.Omega.{arith}
 use borrow.Author.Needs.{needs}
 use lib.ListN.{getD}
-use Rattle.lists.specs.Table.{padded}
-use Rattle.lists.proofs.Padded.{padded-none, padded-next, padded-done}
+use Rattle.math.specs.lists.Table.{padded}
+use Rattle.math.proofs.lists.Padded.{padded-none, padded-next, padded-done}
 use Rattle.ntt_layers.specs.Fold.{montgomery}
 use Rattle.ntt_layers.specs.Layer.{turned, layerAt, layerOf}
 use Rattle.ntt_layers.proofs.Layer.{times-bound, layerAt-even, layerAt-odd}
@@ -38,25 +38,70 @@ montgomery-requires c κs =
     (times-bound (c .before .wide2 .result) (c .wide3 .result) p (c .wide3 .ensures .1), h .powers .small, h .powers .opposite)
 
 add-out : tie.Need-add-out Inv-loop μ-loop
-add-out c = omega (arith, c .before .before .before .before .before .before .before .before .pre .powers .small, c .before .before .before .before .before .before .before .before .pre .room (c .before .before .before .before .before .before .loop .t) (omega arith), c .before .before .before .before .wide .ensures .0, c .montgomery .ensures .1)
+add-out c = omega (
+  arith,
+  c .before .before .before .before .before .before .before .before .pre .powers .small,
+  c .before .before .before .before .before .before .before .before .pre .room
+      (c .before .before .before .before .before .before .loop .t) (omega arith),
+  c .before .before .before .before .wide .ensures .0,
+  c .montgomery .ensures .1,
+)
 
 cast-out : tie.Need-cast-out Inv-loop μ-loop
-cast-out c = omega (arith, c .before .before .before .before .before .before .before .before .pre .powers .small, c .before .before .before .before .before .before .before .before .pre .room (c .before .before .before .before .before .before .loop .t) (omega arith), c .before .before .before .before .wide .ensures .0, c .montgomery .ensures .1)
+cast-out c = omega (
+  arith,
+  c .before .before .before .before .before .before .before .before .pre .powers .small,
+  c .before .before .before .before .before .before .before .before .pre .room
+      (c .before .before .before .before .before .before .loop .t) (omega arith),
+  c .before .before .before .before .wide .ensures .0,
+  c .montgomery .ensures .1,
+)
 
 sub-out : tie.Need-sub-out Inv-loop μ-loop
-sub-out c = omega (arith, c .before .before .before .before .before .before .before .before .pre .powers .small, c .before .before .before .before .before .before .before .before .pre .room (c .before .before .before .before .before .before .loop .t) (omega arith), c .before .before .before .before .wide .ensures .0, c .montgomery .ensures .1)
+sub-out c = omega (
+  arith,
+  c .before .before .before .before .before .before .before .before .pre .powers .small,
+  c .before .before .before .before .before .before .before .before .pre .room
+      (c .before .before .before .before .before .before .loop .t) (omega arith),
+  c .before .before .before .before .wide .ensures .0,
+  c .montgomery .ensures .1,
+)
 
 mul-out-3 : tie.Need-mul-out-3 Inv-loop μ-loop
-mul-out-3 c = omega (arith, c .before .before .before .before .before .before .before .before .pre .powers .small, c .before .before .before .before .before .before .before .before .pre .room (c .before .before .before .before .before .before .loop .t) (omega arith), c .before .before .before .before .wide .ensures .0, c .montgomery .ensures .1)
+mul-out-3 c = omega (
+  arith,
+  c .before .before .before .before .before .before .before .before .pre .powers .small,
+  c .before .before .before .before .before .before .before .before .pre .room (c .before .before .before .before .before .before .loop .t) (omega arith),
+  c .before .before .before .before .wide .ensures .0,
+  c .montgomery .ensures .1,
+)
 
 sub-out-2 : tie.Need-sub-out-2 Inv-loop μ-loop
-sub-out-2 c = omega (arith, c .before .before .before .before .before .before .before .before .pre .powers .small, c .before .before .before .before .before .before .before .before .pre .room (c .before .before .before .before .before .before .loop .t) (omega arith), c .before .before .before .before .wide .ensures .0, c .montgomery .ensures .1)
+sub-out-2 c = omega (
+  arith,
+  c .before .before .before .before .before .before .before .before .pre .powers .small,
+  c .before .before .before .before .before .before .before .before .pre .room (c .before .before .before .before .before .before .loop .t) (omega arith),
+  c .before .before .before .before .wide .ensures .0,
+  c .montgomery .ensures .1,
+)
 
 add-out-2 : tie.Need-add-out-2 Inv-loop μ-loop
-add-out-2 c = omega (arith, c .before .before .before .before .before .before .before .before .pre .powers .small, c .before .before .before .before .before .before .before .before .pre .room (c .before .before .before .before .before .before .loop .t) (omega arith), c .before .before .before .before .wide .ensures .0, c .montgomery .ensures .1)
+add-out-2 c = omega (
+  arith,
+  c .before .before .before .before .before .before .before .before .pre .powers .small,
+  c .before .before .before .before .before .before .before .before .pre .room (c .before .before .before .before .before .before .loop .t) (omega arith),
+  c .before .before .before .before .wide .ensures .0,
+  c .montgomery .ensures .1,
+)
 
 cast-out-2 : tie.Need-cast-out-2 Inv-loop μ-loop
-cast-out-2 c = omega (arith, c .before .before .before .before .before .before .before .before .pre .powers .small, c .before .before .before .before .before .before .before .before .pre .room (c .before .before .before .before .before .before .loop .t) (omega arith), c .before .before .before .before .wide .ensures .0, c .montgomery .ensures .1)
+cast-out-2 c = omega (
+  arith,
+  c .before .before .before .before .before .before .before .before .pre .powers .small,
+  c .before .before .before .before .before .before .before .before .pre .room (c .before .before .before .before .before .before .loop .t) (omega arith),
+  c .before .before .before .before .wide .ensures .0,
+  c .montgomery .ensures .1,
+)
 
 loop-again : tie.Need-loop-again Inv-loop μ-loop
 unfolding turned
@@ -64,7 +109,8 @@ loop-again c =
     let s = c .before .before .before .before .before .before .before .before .args in
     let l = c .before .before .before .before .before .before .loop in
     let w = s .w .now in
-    let v : c .montgomery .result ≡ turned (s .d) (s .neginv) w (s .at) (s .t1) (l .t) = c .montgomery .ensures .0 ∙ ap₂ (λ p neginv. montgomery (s .d) (s .neginv) (p * neginv)) (c .before .before .wide2 .ensures .0) (c .before .wide3 .ensures .0) in
+    let v : c .montgomery .result ≡ turned (s .d) (s .neginv) w (s .at) (s .t1) (l .t) = c .montgomery .ensures .0
+    ∙ ap₂ (λ p neginv. montgomery (s .d) (s .neginv) (p * neginv)) (c .before .before .wide2 .ensures .0) (c .before .wide3 .ensures .0) in
     let u : c .before .before .before .before .wide .result ≡ getD (s .t1) (l .t) 0 = c .before .before .before .before .wide .ensures .0 in
     let h : 2 * l .t < 64 = omega arith in
     let h′ : 2 * l .t + 1 < 64 = omega arith in

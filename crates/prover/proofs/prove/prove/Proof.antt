@@ -2,7 +2,7 @@
 use mathlib.Core.Path.{sym, ap, subst, _∙_}
 use borrow.Author.Needs.{needs}
 use lib.ListN.{length}
-use Rattle.admission.specs.Admission.{callOf, ofAdmitted, At, Provable}
+use Rattle.admission_slices.specs.Admission.{callOf, ofAdmitted, At, Provable}
 use Rattle.prover.proofs.Calls.{refused-answer, refused-output, refused-scratch, worked-answer, worked-output, worked-scratch}
 use Rattle.prover.proofs.prove.prove.Statement.{statement}
 use Rattle.prover.proofs.prove.prove.Tie as tie
@@ -11,7 +11,8 @@ work-and-clear-requires : tie.Need-work-and-clear-requires
 work-and-clear-requires c κs =
     let d = c .before .before .before .before .before in
     let a = d .before .before .before .before .before .before .args in
-    subst (λ x. At x (Provable (callOf (a .call)) (a .job .now) (a .randomness .now) (a .witness .now) (length (a .scratch .now)) (length (a .output .now)))) (c .before .before .before .params .given .1) (d .admit .ensures .1)
+    subst (λ x. At x (Provable (callOf (a .call)) (a .job .now) (a .randomness .now) (a .witness .now) (length (a .scratch .now)) (length (a .output .now))))
+    (c .before .before .before .params .given .1) (d .admit .ensures .1)
 
 returns : tie.Need-returns
 returns c =

@@ -5,12 +5,12 @@ use native.Mathlib.Nat.{mul-le-mul, mul-le-mul-right}
 use native.Mathlib.Omega.{arith}
 use borrow.Author.Needs.{needs}
 use lib.ListN.{length}
-use Rattle.definitions.specs.Answer.{Answer, fine, value128}
-use Rattle.protocol.specs.Parameters.{Parameters}
-use Rattle.protocol.specs.Ranges.{pairs-refusal, ranges-count, Answered}
-use Rattle.relation.specs.Parameters.{parametersOf}
-use Rattle.range_vectors.specs.Vectors.{worked}
-use Rattle.range_vectors.proofs.Worked.{worked-holds}
+use Rattle.spec_leaves.specs.Answer.{Answer, fine, value128}
+use Rattle.spec_protocol.specs.Parameters.{Parameters}
+use Rattle.spec_protocol.specs.Ranges.{pairs-refusal, ranges-count, Answered}
+use Rattle.relation_env_params.specs.Parameters.{parametersOf}
+use Rattle.ranges_vectors.specs.Vectors.{worked}
+use Rattle.ranges_vectors.proofs.Worked.{worked-holds}
 use Rattle.ranges.specs.declared.answers.RangesChecked.{RangesChecked}
 use Rattle.ranges.specs.Answers.{ofRangesChecked, lists-refusal, rangesAnswer}
 use Rattle.ranges.proofs.Ready.{Ready, ready}

@@ -1,6 +1,6 @@
 -- `check_all` meets its contract.
 use borrow.Author.Needs.{needs}
-use Rattle.workspace.proofs.Unchanged.{unchanged-refl}
+use Rattle.core_workspace.proofs.Unchanged.{unchanged-refl}
 use Rattle.verifier.proofs.Whole.{stopped-is, goes-on-is}
 use Rattle.verifier.proofs.verify.check_all.Statement.{statement}
 use Rattle.verifier.proofs.verify.check_all.Tie as tie

@@ -1,8 +1,8 @@
 -- `check_commitments` meets its contract.
 use mathlib.Core.Path.{_∙_}
 use borrow.Author.Needs.{needs}
-use Rattle.workspace.proofs.Unchanged.{unchanged-trans}
-use Rattle.workspace.proofs.Ready.{ready-changed}
+use Rattle.core_workspace.proofs.Unchanged.{unchanged-trans}
+use Rattle.core_workspace.proofs.Ready.{ready-changed}
 use Rattle.verifier_commitments.specs.Order.{second-commitment}
 use Rattle.verifier_common.proofs.Verdicts.{goes-on, stops}
 use Rattle.verifier_commitments.proofs.outer_commitments.check_commitments.Statement.{statement}

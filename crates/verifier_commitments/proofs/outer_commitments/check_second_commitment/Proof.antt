@@ -1,10 +1,10 @@
 -- `check_second_commitment` meets its contract.
 use mathlib.Core.Path.{_≡_, ap, _∙_}
 use borrow.Author.Needs.{needs}
-use Rattle.definitions.specs.Answer.{ofChecked}
-use Rattle.protocol.specs.Parameters.{Parameters, parameters}
-use Rattle.relation.specs.Parameters.{parametersOf}
-use Rattle.workspace.proofs.Unchanged.{unchanged-refl}
+use Rattle.spec_leaves.specs.Answer.{ofChecked}
+use Rattle.spec_protocol.specs.Parameters.{Parameters, parameters}
+use Rattle.relation_env_params.specs.Parameters.{parametersOf}
+use Rattle.core_workspace.proofs.Unchanged.{unchanged-refl}
 use Rattle.verifier_common.specs.Answers.{h-bound, u2-differs}
 use Rattle.verifier_common.proofs.Verdicts.{goes-on, stops}
 use Rattle.verifier_digits.proofs.Digits.{h-is}

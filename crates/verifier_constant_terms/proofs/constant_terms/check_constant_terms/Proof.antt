@@ -5,11 +5,11 @@ use Prim.Native.Nat.{ℕ, _+_, _-_, _*_, _≤_, _<_}
 use native.Mathlib.Decide.{ℕ-discrete}
 use native.Mathlib.Omega.{arith}
 use lib.ListN.{length, getD}
-use Rattle.definitions.specs.Answer.{fine, failed}
-use Rattle.protocol.specs.Checks.{first}
-use Rattle.protocol.specs.Parameters.{parameters}
-use Rattle.protocol.proofs.Fine.{require-holds, require-fails}
-use Rattle.protocol.proofs.First.{first-next}
+use Rattle.spec_leaves.specs.Answer.{fine, failed}
+use Rattle.spec_protocol.specs.Checks.{first}
+use Rattle.spec_protocol.specs.Parameters.{parameters}
+use Rattle.spec_protocol.proofs.Fine.{require-holds, require-fails}
+use Rattle.spec_protocol.proofs.First.{first-next}
 use Rattle.verifier_common.proofs.Sent.{reckoned}
 use Rattle.verifier_constant_terms.proofs.Terms.{test, check-22-is, Terms, terms, test-is}
 use Rattle.verifier_common.proofs.Verdicts.{first-failed}
@@ -29,7 +29,8 @@ loop-holds c =
     let w = c .before .before .before .before .before .before .before .before .pre in (
       omega arith,
       refl,
-      terms w (c .before .before .before .before .of-job .result) (c .before .before .before .of-randomness .result) (c .before .before .of-randomness2 .result) (c .before .of-transcript .result) (c .of-transcript2 .result)
+      terms w (c .before .before .before .before .of-job .result) (c .before .before .before .of-randomness .result) (c .before .before .of-randomness2 .result)
+          (c .before .of-transcript .result) (c .of-transcript2 .result)
           (c .before .before .before .before .of-job .ensures)
           (c .before .before .before .of-randomness .ensures)
           (c .before .before .of-randomness2 .ensures)
@@ -39,7 +40,8 @@ loop-holds c =
 
 -- the room for row k
 at-room : (c : tie.Then1 Inv-loop μ-loop)
-    → c .before .before .before .of-transcript2 .result + 64 * c .before .before .loop .k < length (c .before .before .before .before .before .before .before .before .before .before .before .args .transcript .now)
+    → c .before .before .before .of-transcript2 .result + 64 * c .before .before .loop .k < length
+    (c .before .before .before .before .before .before .before .before .before .before .before .args .transcript .now)
 at-room c = let l = c .before .before .loop in l .inv .2 .at-room (l .k) (c .if1 .taken)
 
 psi-room : (c : tie.Then1 Inv-loop μ-loop)
@@ -48,7 +50,8 @@ psi-room : (c : tie.Then1 Inv-loop μ-loop)
 psi-room c = let l = c .before .before .loop in l .inv .2 .psi-room (l .k) (c .if1 .taken)
 
 om-room : (c : tie.Then1 Inv-loop μ-loop)
-    → c .before .before .before .before .before .of-randomness2 .result + c .before .before .loop .k * 256 + 256 ≤ length (c .before .before .before .before .before .before .before .before .before .before .before .args .randomness .now)
+    → c .before .before .before .before .before .of-randomness2 .result + c .before .before .loop .k * 256 + 256 ≤ length
+    (c .before .before .before .before .before .before .before .before .before .before .before .args .randomness .now)
 om-room c = let l = c .before .before .loop in l .inv .2 .om-room (l .k) (c .if1 .taken)
 
 constant-term-requires : tie.Need-constant-term-requires Inv-loop μ-loop

@@ -4,12 +4,12 @@ use Prim.Native.Nat.{ℕ, _+_, _-_, _*_, _/_, _%_, _≤_, _^_}
 use native.Mathlib.Nat.{add-zero, add-assoc}
 use native.Mathlib.Omega.{arith}
 use lib.ListN.{getD}
-use Rattle.lists.specs.Sum.{Σ}
-use Rattle.lists.proofs.Sum.{Σ-suc}
-use Rattle.definitions.specs.Zq.{Q, lackQ}
-use Rattle.definitions.proofs.Fits.{product-max}
-use Rattle.definitions.proofs.Suited.{suited, halves-fit}
-use Rattle.definitions.proofs.Modulo.{add-mod}
+use Rattle.math.specs.lists.Sum.{Σ}
+use Rattle.math.proofs.lists.Sum.{Σ-suc}
+use Rattle.spec_leaves.specs.Zq.{Q, lackQ}
+use Rattle.spec_leaves.proofs.Fits.{product-max}
+use Rattle.spec_leaves.proofs.Suited.{suited, halves-fit}
+use Rattle.spec_leaves.proofs.Modulo.{add-mod}
 use Rattle.verifier_constant_terms.proofs.numbers.add_products.Statement.{statement}
 use Rattle.verifier_constant_terms.proofs.numbers.add_products.Tie as tie
 

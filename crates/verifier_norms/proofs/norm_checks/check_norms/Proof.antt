@@ -1,9 +1,9 @@
 -- `check_norms` meets its contract.
 use mathlib.Core.Path.{_≡_, sym, ap, _∙_}
 use borrow.Author.Needs.{needs}
-use Rattle.definitions.specs.Answer.{ofChecked, _then_}
-use Rattle.protocol.specs.Parameters.{Parameters, parameters}
-use Rattle.relation.specs.Parameters.{parametersOf}
+use Rattle.spec_leaves.specs.Answer.{ofChecked, _then_}
+use Rattle.spec_protocol.specs.Parameters.{Parameters, parameters}
+use Rattle.relation_env_params.specs.Parameters.{parametersOf}
 use Rattle.verifier_common.specs.Answers.{projection-norm, constant-terms, norm-sum}
 use Rattle.verifier_common.proofs.Sent.{received}
 use Rattle.verifier_common.proofs.Verdicts.{goes-on, stops, never-passed}

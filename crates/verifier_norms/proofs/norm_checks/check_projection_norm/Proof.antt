@@ -4,8 +4,8 @@ use mathlib.Core.Bool.{cond}
 use mathlib.Core.List.{[], _∷_}
 use native.Mathlib.Omega.{arith}
 use borrow.Author.Tests.{leb-true, leb-false}
-use Rattle.definitions.specs.Answer.{fine, failed, value128}
-use Rattle.relation.specs.Parameters.{parametersOf}
+use Rattle.spec_leaves.specs.Answer.{fine, failed, value128}
+use Rattle.relation_env_params.specs.Parameters.{parametersOf}
 use Rattle.verifier_common.specs.Answers.{projection-norm}
 use Rattle.verifier_common.proofs.Sent.{received-room}
 use Rattle.verifier_norms.proofs.Norms.{upper, check-21-below, check-21-is}
@@ -38,7 +38,8 @@ found : (c : tie.After-at-most2)
 found c =
     let w = c .before .before .before .before .before .before .before .pre in
     let o = c .before .before .before .before .before .of-transcript in
-    check-21-is (c .before .before .before .before .before .before .before .args .transcript .now) (c .before .before .before .before .before .before .before .args .params) (o .result) (value128 (c .before .before .before .before .norm-of .result)) (value128 (c .before .times-128 .result)) (c .at-most2 .result) (o .ensures)
+    check-21-is (c .before .before .before .before .before .before .before .args .transcript .now) (c .before .before .before .before .before .before .before .args .params)
+    (o .result) (value128 (c .before .before .before .before .norm-of .result)) (value128 (c .before .times-128 .result)) (c .at-most2 .result) (o .ensures)
     (received-room w 1 (o .result) (omega arith) (o .ensures))
     (c .before .before .before .before .norm-of .ensures .0)
     (c .before .times-128 .ensures)

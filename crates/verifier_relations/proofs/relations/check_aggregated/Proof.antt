@@ -1,8 +1,8 @@
 -- `check_aggregated` meets its contract.
 use native.Mathlib.Omega.{arith}
 use borrow.Author.Needs.{needs}
-use Rattle.workspace.proofs.Unchanged.{unchanged-trans}
-use Rattle.workspace.proofs.Ready.{drawn-fewer}
+use Rattle.core_workspace.proofs.Unchanged.{unchanged-trans}
+use Rattle.core_workspace.proofs.Ready.{drawn-fewer}
 use Rattle.verifier_relations.proofs.Scratch.{Summed, double-made, φ″-made, summed}
 use Rattle.verifier_relations.proofs.relations.check_aggregated.Statement.{statement}
 use Rattle.verifier_relations.proofs.relations.check_aggregated.Tie as tie

@@ -5,9 +5,9 @@ use mathlib.Core.List.{[]}
 use Prim.Native.Nat.{_+_, _-_, _*_, _≤_, _^_}
 use native.Mathlib.Omega.{arith}
 use borrow.Author.Tests.{not-true, not-false}
-use Rattle.definitions.specs.Answer.{fine, failed}
-use Rattle.protocol.specs.Checks.{first}
-use Rattle.protocol.proofs.First.{first-next}
+use Rattle.spec_leaves.specs.Answer.{fine, failed}
+use Rattle.spec_protocol.specs.Checks.{first}
+use Rattle.spec_protocol.proofs.First.{first-next}
 use Rattle.verifier_common.proofs.Sent.{reckoned}
 use Rattle.verifier_relations.specs.Weighed.{challenges-in}
 use Rattle.verifier_relations.proofs.Sides.{az-test, row-bounds, row-requires, column-requires, az-tested, az-fails, az-passes}
@@ -54,7 +54,8 @@ add-row c = omega (arith, bounds c .1)
 inner-product-requires : tie.Need-inner-product-requires Inv-loop μ-loop
 inner-product-requires c κs =
     let s = c .before .before .before .before .before .before .before .before in
-    row-requires _ _ _ _ _ (s .pre .0) (s .pre .1) _ _ _ (omega arith) (omega arith) (c .before .before .before .before .of-job .ensures) (c .before .before .before .of-transcript .ensures) (c .loop-test .taken)
+    row-requires _ _ _ _ _ (s .pre .0) (s .pre .1) _ _ _ (omega arith) (omega arith) (c .before .before .before .before .of-job .ensures)
+    (c .before .before .before .of-transcript .ensures) (c .loop-test .taken)
 
 column-sum-requires : tie.Need-column-sum-requires Inv-loop μ-loop
 column-sum-requires c κs =
@@ -80,21 +81,26 @@ add-k c =
 loop-again : tie.Need-loop-again Inv-loop μ-loop
 loop-again c =
     let l = c .before .before .before .before .before in
-    let s = l .before .before .before .before .before .before .before .args in
-    (omega arith, first-next (l .loop .k) (az-test (s .job .now) (s .transcript .now) (challenges-in (s .scratch .now) (s .regions))) (l .loop .inv .1) (tested (c .before) ∙ ap (λ t. cond t fine (failed 24 [])) (not-false (c .before .same .result) (c .if1 .left))))
+    let s = l .before .before .before .before .before .before .before .args in (
+      omega arith,
+      first-next (l .loop .k) (az-test (s .job .now) (s .transcript .now) (challenges-in (s .scratch .now) (s .regions))) (l .loop .inv .1)
+          (tested (c .before) ∙ ap (λ t. cond t fine (failed 24 [])) (not-false (c .before .same .result) (c .if1 .left))),
+    )
 
 returns : tie.Need-returns Inv-loop μ-loop
 returns c =
     let l = c .before .before .before .before .before in
     let s = l .before .before .before .before .before .before .before in
-    az-fails (s .args .job .now) (s .args .transcript .now) (s .args .params) (s .args .regions) (s .args .scratch .now) (s .pre .0) (s .pre .1) (challenges-in (s .args .scratch .now) (s .args .regions)) (l .loop .k) (c .before .before .before .before .loop-test .taken) (l .loop .inv .1)
+    az-fails (s .args .job .now) (s .args .transcript .now) (s .args .params) (s .args .regions) (s .args .scratch .now) (s .pre .0) (s .pre .1)
+    (challenges-in (s .args .scratch .now) (s .args .regions)) (l .loop .k) (c .before .before .before .before .loop-test .taken) (l .loop .inv .1)
     (tested (c .before) ∙ ap (λ t. cond t fine (failed 24 [])) (not-true (c .before .same .result) (c .if1 .taken)))
 
 returns-2 : tie.Need-returns-2 Inv-loop μ-loop
 returns-2 c =
     let l = c .before in
     let s = l .before .before .before .before .before .before .before in
-    az-passes (s .args .job .now) (s .args .transcript .now) (s .args .params) (s .args .regions) (s .args .scratch .now) (s .pre .0) (s .pre .1) (challenges-in (s .args .scratch .now) (s .args .regions)) (l .loop .k) (omega arith) (l .loop .inv .1)
+    az-passes (s .args .job .now) (s .args .transcript .now) (s .args .params) (s .args .regions) (s .args .scratch .now) (s .pre .0) (s .pre .1)
+    (challenges-in (s .args .scratch .now) (s .args .regions)) (l .loop .k) (omega arith) (l .loop .inv .1)
 
 pub check-az-spec : {M : Type 1} → statement M
 check-az-spec =

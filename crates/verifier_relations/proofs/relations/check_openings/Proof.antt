@@ -1,10 +1,10 @@
 -- `check_openings` meets its contract.
 use mathlib.Core.Path.{_≡_, ap, _∙_}
 use borrow.Author.Needs.{needs}
-use Rattle.lists.specs.Part.{splice}
-use Rattle.definitions.specs.Answer.{ofChecked}
-use Rattle.workspace.specs.Aggregated.{c-words}
-use Rattle.workspace.proofs.Ready.{c-requires, c-made}
+use Rattle.math.specs.lists.Part.{splice}
+use Rattle.spec_leaves.specs.Answer.{ofChecked}
+use Rattle.core_workspace.specs.Aggregated.{c-words}
+use Rattle.core_workspace.proofs.Ready.{c-requires, c-made}
 use Rattle.verifier_common.specs.Answers.{az, z-inner}
 use Rattle.verifier_common.proofs.Sent.{received}
 use Rattle.verifier_relations.proofs.Sides.{c-within, az-held, z-inner-held}
@@ -14,7 +14,8 @@ use Rattle.verifier_relations.proofs.relations.check_openings.Statement
 use Rattle.verifier_relations.proofs.relations.check_openings.Tie as tie
 
 generate-challenges-requires : tie.Need-generate-challenges-requires
-generate-challenges-requires c κs = let s = c .before .before .before .before .before in c-requires (s .args .job .now) (s .args .randomness .now) (s .args .scratch .now) (s .args .params) (s .args .regions) (s .pre .1) (s .pre .0 .drawn)
+generate-challenges-requires c κs = let s = c .before .before .before .before .before in c-requires (s .args .job .now) (s .args .randomness .now) (s .args .scratch .now)
+    (s .args .params) (s .args .regions) (s .pre .1) (s .pre .0 .drawn)
 
 -- the challenges are in the scratch
 drawn : (c : tie.After-generate-challenges)
@@ -22,7 +23,10 @@ drawn : (c : tie.After-generate-challenges)
     Made (s .job .now) (s .params) (s .regions) (s .scratch .now) (c .generate-challenges .last .1 .1 .1 .0) (s .regions .challenges) (c-words (s .job .now) (s .randomness .now))
 drawn c =
     let s = c .before .before .before .before .before .before in
-    challenges-made (s .args .job .now) (s .args .randomness .now) (s .args .params) (s .args .regions) (s .args .scratch .now) (s .pre .1) _ (c .generate-challenges .ensures ∙ ap (splice (s .args .scratch .now) (s .args .regions .challenges)) (c-made (s .args .job .now) (s .args .randomness .now) (s .args .scratch .now) (s .args .params) (s .args .regions) (s .pre .1)))
+    challenges-made (s .args .job .now) (s .args .randomness .now) (s .args .params) (s .args .regions) (s .args .scratch .now) (s .pre .1) _
+    (c .generate-challenges .ensures
+    ∙ ap (splice (s .args .scratch .now) (s .args .regions .challenges))
+    (c-made (s .args .job .now) (s .args .randomness .now) (s .args .scratch .now) (s .args .params) (s .args .regions) (s .pre .1)))
 
 check-az-requires : tie.Need-check-az-requires
 check-az-requires c κs =
@@ -41,7 +45,8 @@ az-is : (c : tie.After-check-az)
     ofChecked (c .check-az .result) ≡ az (s .job .now) (s .randomness .now) (s .transcript .now)
 az-is c =
     let s = c .before .before .before .before .before .before .before .before .before .before in
-    c .check-az .ensures ∙ az-held (s .args .job .now) (s .args .randomness .now) (s .args .transcript .now) (s .args .params) (s .args .regions) _ (s .pre .1 .same) (drawn (c .before .before .before .before) .holds)
+    c .check-az .ensures ∙ az-held (s .args .job .now) (s .args .randomness .now) (s .args .transcript .now) (s .args .params) (s .args .regions) _ (s .pre .1 .same)
+    (drawn (c .before .before .before .before) .holds)
 
 returns : tie.Need-returns
 returns c =

@@ -2,10 +2,10 @@
 use mathlib.Core.Path.{_≡_, _∙_}
 use native.Mathlib.Omega.{arith}
 use borrow.Author.Needs.{needs}
-use Rattle.workspace.specs.Aggregated.{a-words}
-use Rattle.workspace.proofs.Unchanged.{unchanged-refl}
-use Rattle.workspace.proofs.Ready.{drawn-fewer}
-use Rattle.definitions.specs.Answer.{ofChecked}
+use Rattle.core_workspace.specs.Aggregated.{a-words}
+use Rattle.core_workspace.proofs.Unchanged.{unchanged-refl}
+use Rattle.core_workspace.proofs.Ready.{drawn-fewer}
+use Rattle.spec_leaves.specs.Answer.{ofChecked}
 use Rattle.verifier_common.specs.Answers.{phi, relation}
 use Rattle.verifier_common.proofs.Sent.{received}
 use Rattle.verifier_common.proofs.Verdicts.{goes-on, stops}
@@ -53,7 +53,8 @@ returns-2 : tie.Need-returns-2
 returns-2 c =
     let k = c .before .before .before .before .before .before .before .before in
     let s = c .before .before .before .before .before .before .before .before .before .before .before .before .before .before .args in (
-      c .check-relation .ensures ∙ goes-on (k .check-phi .result) (phi-is k) (c .before .before .before .before .before .before .enum-told .given .1) (relation (s .job .now) (s .randomness .now) (s .transcript .now)),
+      c .check-relation .ensures ∙ goes-on (k .check-phi .result) (phi-is k) (c .before .before .before .before .before .before .enum-told .given .1)
+          (relation (s .job .now) (s .randomness .now) (s .transcript .now)),
       whole (c .before .before .before .before) .unchanged,
     )
 
@@ -66,6 +67,7 @@ check-phi-and-relation-spec =
     (λ c. search needs)
     returns
     a-requires
-    (λ c κs. let g = c .before .before .before in (c .before .before .before .before .before .before .before .before .before .before .before .before .before .pre .0 .0, whole g .ready, whole g .holds))
+    (λ c κs. let g = c .before .before .before in
+    (c .before .before .before .before .before .before .before .before .before .before .before .before .before .pre .0 .0, whole g .ready, whole g .holds))
     (λ c. search needs)
     returns-2)

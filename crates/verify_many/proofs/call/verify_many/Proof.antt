@@ -3,8 +3,8 @@ use mathlib.Core.Path.{sym, ap, subst, _∙_}
 use borrow.Author.Needs.{needs}
 use lib.ListN.{length}
 use Rattle.verifier.proofs.Whole.{length-zeroed}
-use Rattle.many_admission.specs.Admitted.{ofManyAdmitted, AtMany, Many-given}
-use Rattle.many_verdicts.specs.Windows.{verdicts-of}
+use Rattle.verify_many_admission.specs.Admitted.{ofManyAdmitted, AtMany, Many-given}
+use Rattle.verify_many.specs.Windows.{verdicts-of}
 use Rattle.verify_many.proofs.Whole.{count-answer, count-scratch, refused-answer, refused-scratch, given-answer, given-scratch}
 use Rattle.verify_many.proofs.call.verify_many.Statement.{statement}
 use Rattle.verify_many.proofs.call.verify_many.Tie as tie
@@ -52,7 +52,8 @@ returns-3 c =
 
 -- the scratch keeps its length
 size : tie.Need-same-length
-size c = let a = c .before .before .before .before .before .before .before .before .before .before .before .before .args in length-zeroed _ (a .scratch .now) _ (c .before .before .work .ensures .1) (work-requires (c .before .before .before) (c .before .before .before .before .before .before .before .before .before .before .before .before .κs) .room)
+size c = let a = c .before .before .before .before .before .before .before .before .before .before .before .before .args in length-zeroed _ (a .scratch .now) _
+    (c .before .before .work .ensures .1) (work-requires (c .before .before .before) (c .before .before .before .before .before .before .before .before .before .before .before .before .κs) .room)
 
 pub verify-many-spec : {M : Type 1} → statement M
 verify-many-spec =

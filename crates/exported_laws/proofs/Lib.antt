@@ -1,5 +1,0 @@
-pub mod Demand3
-pub mod Binding
-pub mod Forks
-pub mod Load
-pub mod Ranges

@@ -1,2 +1,0 @@
-pub mod NttProducts
-pub mod Blocks
