@@ -1,5 +1,4 @@
-//! Links the archives of the fast inner products and of the build over the prime, which KEPT_CALLS_ARCHIVE and PRIME_CALLS_ARCHIVE name; where one is not named its
-//! rows are left out.
+//! Links the archive of the build over the prime, which PRIME_CALLS_ARCHIVE names; where it is not named its rows are left out.
 
 use std::path::Path;
 
@@ -19,6 +18,5 @@ fn link(variable: &str, word: &str) {
 }
 
 fn main() {
-    link("KEPT_CALLS_ARCHIVE", "kept_calls");
     link("PRIME_CALLS_ARCHIVE", "prime");
 }

@@ -200,7 +200,7 @@ labrador_element_answer labrador_rq_sub(labrador_element a, labrador_element b);
 labrador_element_answer labrador_rq_mul(labrador_element a, labrador_element b);
 
 /* The same product and the same refusals, by transforms of length 64 modulo three primes. One product alone takes 3.4 times labrador_rq_mul's time
-   (bench/RESULTS.md), since transforms pay only where they are kept, as the calls on whole slices keep them: for a product of two elements take labrador_rq_mul. */
+   (bench/RESULTS.md), since a transform pays only where the NTT form is used again, as in the calls on whole slices: for a product of two elements take labrador_rq_mul. */
 labrador_element_answer labrador_rq_mul_fast(labrador_element a, labrador_element b);
 
 /* a * c; c is place 64. */

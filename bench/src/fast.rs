@@ -6,13 +6,12 @@ use harness::rust;
 use library::ffi::{self, Element};
 use std::hint::black_box;
 
-#[cfg(kept_calls)]
 extern "C" {
-    fn kept_inner_product(a: Element, b: Element, n: u32) -> Element;
+    fn ntt_inner_product(a: Element, b: Element, n: u32) -> Element;
     fn fast_inner_product(a: Element, b: Element, n: u32) -> Element;
 }
 
-/// Terms of an inner product, and inputs of a batch.
+/// Terms of an inner product, and inputs of a series.
 const TERMS: usize = 64;
 
 fn element(random: &mut Random) -> Element {
@@ -46,16 +45,14 @@ pub fn product(random: &mut Random) -> Kernel {
     })
 }
 
-#[cfg(kept_calls)]
-pub fn nothing_kept(random: &mut Random) -> Kernel {
+pub fn nothing_in_ntt_form(random: &mut Random) -> Kernel {
     against_products(random, TERMS, |a, b| {
         black_box(unsafe { fast_inner_product(*a, *b, TERMS as u32) });
     })
 }
 
-#[cfg(kept_calls)]
-pub fn both_kept(random: &mut Random) -> Kernel {
+pub fn both_in_ntt_form(random: &mut Random) -> Kernel {
     against_products(random, TERMS, |a, b| {
-        black_box(unsafe { kept_inner_product(*a, *b, TERMS as u32) });
+        black_box(unsafe { ntt_inner_product(*a, *b, TERMS as u32) });
     })
 }

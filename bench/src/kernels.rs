@@ -1,4 +1,4 @@
-//! What is timed: for each kernel a batch of calls of the proved library and the same batch of the published Rust.
+//! What is timed: for each kernel a series of calls of the proved library and the same series of the published Rust.
 
 use crate::fast;
 use crate::loads;
@@ -23,20 +23,20 @@ use model::Call;
 use std::hint::black_box;
 
 pub struct Kernel {
-    /// Calls in a batch, and rounds of timing.
+    /// Calls in a series, and rounds of timing.
     pub calls: usize,
     pub rounds: usize,
     pub ours: Box<dyn FnMut()>,
-    /// What the Rust's batch takes that is not timed.
+    /// What the Rust's series takes that is not timed.
     pub prepare: Box<dyn FnMut()>,
     pub theirs: Box<dyn FnMut()>,
 }
 
-/// Inputs of a batch.
-const BATCH: usize = 64;
+/// Inputs of a series.
+const SERIES: usize = 64;
 
 fn elements(random: &mut Random) -> Vec<Element> {
-    (0..BATCH).map(|_| Element { coeffs: random.numbers(64).try_into().expect("64 words") }).collect()
+    (0..SERIES).map(|_| Element { coeffs: random.numbers(64).try_into().expect("64 words") }).collect()
 }
 
 fn of(element: &Element) -> Rq {
@@ -48,7 +48,7 @@ fn all(elements: &[Element]) -> Vec<Rq> {
 }
 
 fn leaf(ours: impl FnMut() + 'static, theirs: impl FnMut() + 'static) -> Kernel {
-    Kernel { calls: BATCH, rounds: 2000, ours: Box::new(ours), prepare: Box::new(|| {}), theirs: Box::new(theirs) }
+    Kernel { calls: SERIES, rounds: 2000, ours: Box::new(ours), prepare: Box::new(|| {}), theirs: Box::new(theirs) }
 }
 
 pub fn product(random: &mut Random) -> Kernel {
@@ -70,7 +70,7 @@ pub fn product(random: &mut Random) -> Kernel {
 
 pub fn multiply_add(random: &mut Random) -> Kernel {
     let a = elements(random);
-    let numbers = random.numbers(BATCH);
+    let numbers = random.numbers(SERIES);
     let x = all(&a);
     let y: Vec<Zq> = numbers.iter().map(|&c| Zq::new(c)).collect();
     leaf(
@@ -113,8 +113,8 @@ fn digits(random: &mut Random, base: u32, parts: u32) -> Kernel {
 }
 
 fn challenge(random: &mut Random) -> Kernel {
-    let signs: Vec<u32> = (0..41 * BATCH).map(|_| random.word() & 1).collect();
-    let shuffles: Vec<u32> = (0..63 * BATCH).map(|_| random.word()).collect();
+    let signs: Vec<u32> = (0..41 * SERIES).map(|_| random.word() & 1).collect();
+    let shuffles: Vec<u32> = (0..63 * SERIES).map(|_| random.word()).collect();
     let words: Vec<ChallengeWords> = signs
         .chunks(41)
         .zip(shuffles.chunks(63))
@@ -129,7 +129,7 @@ fn challenge(random: &mut Random) -> Kernel {
         },
         move || {
             let mut transcript = LabradorTranscript::new(Playback);
-            for _ in 0..BATCH {
+            for _ in 0..SERIES {
                 black_box(transcript.challenge());
             }
         },
@@ -312,10 +312,8 @@ pub type Entry = (&'static str, fn(&mut Random) -> Kernel);
 pub const KERNELS: &[Entry] = &[
     ("element product", product),
     ("fast product", fast::product),
-    #[cfg(kept_calls)]
-    ("fast inner product of 64, nothing kept, a term", fast::nothing_kept),
-    #[cfg(kept_calls)]
-    ("fast inner product of 64, both sides kept, a term", fast::both_kept),
+    ("fast inner product of 64, nothing in NTT form, a term", fast::nothing_in_ntt_form),
+    ("fast inner product of 64, both sides in NTT form, a term", fast::both_in_ntt_form),
     ("product with a number, added to an accumulator", multiply_add),
     ("digits of an element, base 16, 8 parts", |random| digits(random, 16, 8)),
     ("digits of an element, base 65536, 2 parts", |random| digits(random, 65536, 2)),

@@ -1,7 +1,7 @@
 //! Times the proved calls against the published Rust, in one process, alternating, counts their instructions, and prints a table.
 //!
 //! `bench` takes every kernel, `bench only START` those whose names start so.
-//! `bench count KERNEL SIDE` runs a batch of one side of a kernel, for callgrind.
+//! `bench count KERNEL SIDE` runs a series of one side of a kernel, for callgrind.
 
 mod fast;
 mod kernels;
@@ -18,7 +18,7 @@ fn main() {
     match words[..] {
         [] => table::print(""),
         ["only", start] => table::print(start),
-        ["count", kernel, side] => table::run_batch(kernel, side),
+        ["count", kernel, side] => table::run_series(kernel, side),
         _ => panic!("usage: bench [only START | count KERNEL SIDE]"),
     }
 }

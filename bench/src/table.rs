@@ -5,7 +5,7 @@ use harness::random::Random;
 use std::process::Command;
 use std::time::Instant;
 
-/// The least time of a call in nanoseconds: ours and the Rust's, batch after batch in turn.
+/// The least time of a call in nanoseconds: ours and the Rust's, series after series in turn.
 fn time(kernel: &mut Kernel) -> (f64, f64) {
     let mut least = (f64::MAX, f64::MAX);
     let calls = kernel.calls as f64;
@@ -28,8 +28,8 @@ fn bench_counted(work: &mut dyn FnMut()) {
     work();
 }
 
-/// Runs one batch of a side, for callgrind.
-pub fn run_batch(name: &str, side: &str) {
+/// Runs one series of a side, for callgrind.
+pub fn run_series(name: &str, side: &str) {
     let (_, make) = KERNELS.iter().find(|entry| entry.0 == name).expect("a kernel");
     let mut kernel = make(&mut Random::new(1));
     if side == "ours" {
@@ -40,7 +40,7 @@ pub fn run_batch(name: &str, side: &str) {
     }
 }
 
-/// The instructions of a batch of a side.
+/// The instructions of a series of a side.
 fn instructions(name: &str, side: &str) -> f64 {
     let me = std::env::current_exe().expect("a path");
     let run = Command::new("valgrind")

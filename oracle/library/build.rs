@@ -1,4 +1,4 @@
-//! Links the archives of proved calls that LABRADOR_ARCHIVE and SLICE_CALLS_ARCHIVE name.
+//! Links the archives of proved calls that LABRADOR_ARCHIVE and BENCH_CALLS_ARCHIVE name.
 
 use std::path::Path;
 
@@ -17,5 +17,5 @@ fn link(variable: &str) {
 
 fn main() {
     link("LABRADOR_ARCHIVE");
-    link("SLICE_CALLS_ARCHIVE");
+    link("BENCH_CALLS_ARCHIVE");
 }

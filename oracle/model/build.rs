@@ -6,7 +6,7 @@ const BEFORE: &str = "pub const Q: u32 = ";
 
 fn main() {
     let folder = PathBuf::from(std::env::var("CARGO_MANIFEST_DIR").expect("cargo names the package's folder"));
-    let file = folder.join("../../crates/definitions/src/modulus.rt");
+    let file = folder.join("../../crates/spec_leaves/src/modulus.rt");
     println!("cargo:rerun-if-changed={}", file.display());
     let text = std::fs::read_to_string(&file).unwrap_or_else(|error| panic!("{}: {error}", file.display()));
     let found: Vec<&str> = text.lines().filter_map(|line| line.strip_prefix(BEFORE)?.strip_suffix(';')).collect();

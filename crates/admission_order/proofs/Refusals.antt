@@ -2,14 +2,14 @@
 use mathlib.Core.Path.{_≡_, ap, _∙_}
 use mathlib.Core.List.{List}
 use Prim.Native.Nat.{ℕ}
-use Rattle.definitions.specs.declared.answers.Refusal.{Refusal}
-use Rattle.definitions.specs.Answer.{Answer, fine, ofRefusal, _then_}
-use Rattle.protocol.specs.Parameters.{Parameters, parameters}
-use Rattle.protocol.specs.Layout.{job-refusal, randomness-refusal, witness-refusal, transcript-refusal, scratch-refusal, output-refusal}
-use Rattle.protocol.specs.Prover.{Call, made-sections, prove-refusal}
-use Rattle.protocol.specs.Verifier.{verify-refusal}
-use Rattle.layout.proofs.Then.{goes-on}
-use Rattle.admission.proofs.Stages.{stops-at, stage₁, stage₂, stage₃, stage₄}
+use Rattle.spec_leaves.specs.declared.answers.Refusal.{Refusal}
+use Rattle.spec_leaves.specs.Answer.{Answer, fine, ofRefusal, _then_}
+use Rattle.spec_protocol.specs.Parameters.{Parameters, parameters}
+use Rattle.spec_protocol.specs.Layout.{job-refusal, randomness-refusal, witness-refusal, transcript-refusal, scratch-refusal, output-refusal}
+use Rattle.spec_protocol.specs.Prover.{Call, made-sections, prove-refusal}
+use Rattle.spec_protocol.specs.Verifier.{verify-refusal}
+use Rattle.layout_sections.proofs.Then.{goes-on}
+use Rattle.admission_slices.proofs.Stages.{stops-at, stage₁, stage₂, stage₃, stage₄}
 
 -- a call of the prover
 module _ (call : Call) (J R W : List ℕ) (scratch output : ℕ) where

@@ -1,15 +1,15 @@
 // The order of refusals before the work of the prover's calls, as one answer.
-use admission::answers::Admitted;
-use admission::answers::SliceChecked;
-use admission::calls::Call;
-use admission::job;
-use admission::randomness;
-use admission::witness;
-use lent_buffers::output;
-use lent_buffers::scratch;
+use admission_buffers::output;
+use admission_buffers::scratch;
+use admission_slices::answers::Admitted;
+use admission_slices::answers::SliceChecked;
+use admission_slices::calls::Call;
+use admission_slices::job;
+use admission_slices::randomness;
+use admission_slices::witness;
 ghost use mathlib.Core.Path.{_≡_};
-ghost use Rattle.protocol.specs.Prover.{prove-refusal};
-ghost use Rattle.admission.specs.Admission.{callOf, ofAdmitted, At, Provable};
+ghost use Rattle.spec_protocol.specs.Prover.{prove-refusal};
+ghost use Rattle.admission_slices.specs.Admission.{callOf, ofAdmitted, At, Provable};
 
 // "section one by 3, then 4, 5; other job sections 3, 6; 7, 8; 11, 12 […]; 1, 2; then the work"
 pub fn admit(
@@ -25,15 +25,15 @@ pub fn admit(
 {
     match job::check(job) {
         Admitted::Refused(refusal) => Admitted::Refused(refusal),
-        Admitted::Fit(p) => match randomness::check(randomness, p, call) {
+        Admitted::Fit(params) => match randomness::check(randomness, params, call) {
             SliceChecked::Refused(refusal) => Admitted::Refused(refusal),
-            SliceChecked::Fine => match witness::check(witness, p) {
+            SliceChecked::Fine => match witness::check(witness, params) {
                 SliceChecked::Refused(refusal) => Admitted::Refused(refusal),
-                SliceChecked::Fine => match scratch::check(scratch, p) {
+                SliceChecked::Fine => match scratch::check(scratch, params) {
                     SliceChecked::Refused(refusal) => Admitted::Refused(refusal),
-                    SliceChecked::Fine => match output::check(output, p, call) {
+                    SliceChecked::Fine => match output::check(output, params, call) {
                         SliceChecked::Refused(refusal) => Admitted::Refused(refusal),
-                        SliceChecked::Fine => Admitted::Fit(p),
+                        SliceChecked::Fine => Admitted::Fit(params),
                     },
                 },
             },

@@ -1,22 +1,25 @@
 // The exported calls on ring elements.
-use leaf_answers::answers::ElementAnswer;
-use leaf_answers::answers::NormAnswer;
-use leaf_answers::challenge::challenge_of;
-use leaf_calls::elements;
-use rq::rq::Rq;
+use api_leaf_answers::answers;
+use api_leaf_answers::answers::ElementAnswer;
+use api_leaf_answers::answers::NormAnswer;
+use api_leaf_answers::challenge::challenge_of;
+use api_operands::leaf;
+use ntt_product::product;
+use ring_rq::rq::Rq;
+use ring_zq::zq::Zq;
 ghost use mathlib.Core.Path.{_≡_};
 ghost use mathlib.Core.List.{[], _∷_, _++_};
-ghost use Rattle.definitions.specs.Rq.{radd, rsub, rmul, rscale, rconj};
-ghost use Rattle.definitions.specs.Norm.{norm};
-ghost use Rattle.definitions.specs.Leaf.{canonicalWords};
-ghost use Rattle.leaf_answers.specs.Answers.{elementAnswer, normAnswer, challengeAnswer};
+ghost use Rattle.spec_leaves.specs.Rq.{radd, rsub, rmul, rscale, rconj};
+ghost use Rattle.spec_leaves.specs.Norm.{norm};
+ghost use Rattle.spec_leaves.specs.Leaf.{canonicalWords};
+ghost use Rattle.api_leaf_answers.specs.Answers.{elementAnswer, normAnswer, challengeAnswer};
 
 // The sum of two elements.
 #[no_mangle]
 pub extern "C" fn labrador_rq_add(a: Rq, b: Rq) -> ElementAnswer
     ensures { λ r. ⌜ r ≡ elementAnswer (canonicalWords (a .coeffs ++ b .coeffs)) (radd (a .coeffs) (b .coeffs)) ⌝ }
 {
-    elements::rq_add(a, b)
+    answers::element_of(leaf::elements(a, b), a.add(b))
 }
 
 // The difference of two elements.
@@ -24,7 +27,7 @@ pub extern "C" fn labrador_rq_add(a: Rq, b: Rq) -> ElementAnswer
 pub extern "C" fn labrador_rq_sub(a: Rq, b: Rq) -> ElementAnswer
     ensures { λ r. ⌜ r ≡ elementAnswer (canonicalWords (a .coeffs ++ b .coeffs)) (rsub (a .coeffs) (b .coeffs)) ⌝ }
 {
-    elements::rq_sub(a, b)
+    answers::element_of(leaf::elements(a, b), a.sub(b))
 }
 
 // The product of two elements.
@@ -32,7 +35,7 @@ pub extern "C" fn labrador_rq_sub(a: Rq, b: Rq) -> ElementAnswer
 pub extern "C" fn labrador_rq_mul(a: Rq, b: Rq) -> ElementAnswer
     ensures { λ r. ⌜ r ≡ elementAnswer (canonicalWords (a .coeffs ++ b .coeffs)) (rmul (a .coeffs) (b .coeffs)) ⌝ }
 {
-    elements::rq_mul(a, b)
+    answers::element_of(leaf::elements(a, b), a.mul(b))
 }
 
 // The product of two elements, by transforms.
@@ -40,7 +43,7 @@ pub extern "C" fn labrador_rq_mul(a: Rq, b: Rq) -> ElementAnswer
 pub extern "C" fn labrador_rq_mul_fast(a: Rq, b: Rq) -> ElementAnswer
     ensures { λ r. ⌜ r ≡ elementAnswer (canonicalWords (a .coeffs ++ b .coeffs)) (rmul (a .coeffs) (b .coeffs)) ⌝ }
 {
-    elements::rq_mul_fast(a, b)
+    answers::element_of(leaf::elements(a, b), product::mul(a, b))
 }
 
 // The product of an element with a number.
@@ -48,7 +51,7 @@ pub extern "C" fn labrador_rq_mul_fast(a: Rq, b: Rq) -> ElementAnswer
 pub extern "C" fn labrador_rq_scale(a: Rq, c: u32) -> ElementAnswer
     ensures { λ r. ⌜ r ≡ elementAnswer (canonicalWords (a .coeffs ++ (c ∷ []))) (rscale (a .coeffs) c) ⌝ }
 {
-    elements::rq_scale(a, c)
+    answers::element_of(leaf::element_and_number(a, c), a.scale(Zq(c)))
 }
 
 // The conjugate of an element.
@@ -56,7 +59,7 @@ pub extern "C" fn labrador_rq_scale(a: Rq, c: u32) -> ElementAnswer
 pub extern "C" fn labrador_rq_conj(a: Rq) -> ElementAnswer
     ensures { λ r. ⌜ r ≡ elementAnswer (canonicalWords (a .coeffs)) (rconj (a .coeffs)) ⌝ }
 {
-    elements::rq_conj(a)
+    answers::element_of(leaf::element(a), a.conjugate_automorphism())
 }
 
 // The squared norm of an element.
@@ -64,7 +67,7 @@ pub extern "C" fn labrador_rq_conj(a: Rq) -> ElementAnswer
 pub extern "C" fn labrador_rq_norm(a: Rq) -> NormAnswer
     ensures { λ r. ⌜ r ≡ normAnswer (canonicalWords (a .coeffs)) (norm (a .coeffs)) ⌝ }
 {
-    elements::rq_norm(a)
+    answers::norm_of(leaf::element(a), a.l2_norm_squared())
 }
 
 // 41 sign words, then 63 shuffle words.

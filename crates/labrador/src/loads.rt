@@ -1,15 +1,22 @@
 // The exported calls that make a test load (document 02, Item 1).
-use call_answers::verdicts::LabradorAnswer;
+use api_answers::verdicts;
+use api_answers::verdicts::LabradorAnswer;
+use layout_section_one::SectionOne;
 use load_needs::LabradorParameters;
-use whole_calls::loads;
-use whole_calls::loads::LabradorLoadNeed;
 ghost use mathlib.Core.Path.{_≡_};
-ghost use lib.ListN.{length};
-ghost use Rattle.protocol.specs.Load.{load-refusal};
 ghost use Rattle.load_needs.specs.Given.{given};
-ghost use Rattle.load.specs.Exit.{job-exit, witness-exit, randomness-exit};
-ghost use Rattle.call_answers.specs.Calls.{labradorAnswer};
-ghost use Rattle.whole_calls.specs.LoadNeeds.{labradorLoadNeed};
+ghost use Rattle.load.specs.Call.{LoadCall};
+ghost use Rattle.labrador.specs.LoadNeeds.{labradorLoadNeed};
+
+// The lengths that a load needs, or the refusal of its parameters with zeros.
+#[repr(C)]
+pub struct LabradorLoadNeed {
+    pub number: u32,
+    pub place: u64,
+    pub job: u64,
+    pub witness: u64,
+    pub randomness: u64,
+}
 
 // Job, witness and randomness of twelve parameters and a seed, as they are drawn.
 #[no_mangle]
@@ -20,12 +27,9 @@ pub extern "C" fn labrador_load(
     witness: &mut [u32],
     randomness: &mut [u32],
 ) -> LabradorAnswer
-    ensures { λ r. ⌜ r ≡ labradorAnswer (load-refusal (given parameters) (length (now (job .entry))) (length (now (witness .entry))) (length (now (randomness .entry)))) ⌝ }
-    ensures { λ r. ⌜ now (job .exit) ≡ job-exit (given parameters) seed (now (job .entry)) (now (witness .entry)) (now (randomness .entry)) ⌝ }
-    ensures { λ r. ⌜ now (witness .exit) ≡ witness-exit (given parameters) seed (now (job .entry)) (now (witness .entry)) (now (randomness .entry)) ⌝ }
-    ensures { λ r. ⌜ now (randomness .exit) ≡ randomness-exit (given parameters) seed (now (job .entry)) (now (witness .entry)) (now (randomness .entry)) ⌝ }
+    ensures { λ r. ⌜ LoadCall (given parameters) seed (now (job .entry)) (now (witness .entry)) (now (randomness .entry)) (now (job .exit)) (now (witness .exit)) (now (randomness .exit)) r ⌝ }
 {
-    loads::load(parameters, seed, job, witness, randomness)
+    verdicts::answer_of(load::load(parameters, seed, job, witness, randomness))
 }
 
 // The three lengths.
@@ -33,5 +37,26 @@ pub extern "C" fn labrador_load(
 pub extern "C" fn labrador_load_needs(parameters: LabradorParameters) -> LabradorLoadNeed
     ensures { λ r. ⌜ r ≡ labradorLoadNeed (given parameters) ⌝ }
 {
-    loads::load_needs(parameters)
+    match load_needs::read(parameters) {
+        SectionOne::Refused(refusal) => {
+            let answer = verdicts::refusal_of(refusal);
+            LabradorLoadNeed {
+                number: answer.number,
+                place: answer.place,
+                job: 0,
+                witness: 0,
+                randomness: 0,
+            }
+        }
+        SectionOne::Read(params) => {
+            let needs = load_needs::lengths(params);
+            LabradorLoadNeed {
+                number: 0,
+                place: 0,
+                job: needs.job as u64,
+                witness: needs.witness as u64,
+                randomness: needs.randomness as u64,
+            }
+        }
+    }
 }

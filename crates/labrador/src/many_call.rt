@@ -1,10 +1,7 @@
 // The exported call on many transcripts (document 02, Item 11).
 use verify_many::answers::LabradorVerdicts;
 use verify_many::call;
-ghost use mathlib.Core.Path.{_≡_};
-ghost use lib.ListN.{length};
-ghost use Rattle.protocol.specs.Many.{many-scratch};
-ghost use Rattle.verify_many.specs.Answers.{manyVerdicts};
+ghost use Rattle.verify_many.specs.Answers.{ManyCall};
 
 // The verdicts on up to eight transcripts, which lie end to end, with their randomness; the job is read once.
 #[no_mangle]
@@ -15,8 +12,7 @@ pub extern "C" fn labrador_verify_many(
     transcripts: &[u32],
     scratch: &mut [u32],
 ) -> LabradorVerdicts
-    ensures { λ r. ⌜ r ≡ manyVerdicts (now (job .entry)) count (now (randomness .entry)) (now (transcripts .entry)) (length (now (scratch .entry))) ⌝ }
-    ensures { λ r. ⌜ now (scratch .exit) ≡ many-scratch (now (job .entry)) count (now (scratch .entry)) ⌝ }
+    ensures { λ r. ⌜ ManyCall (now (job .entry)) count (now (randomness .entry)) (now (transcripts .entry)) (now (scratch .entry)) (now (scratch .exit)) r ⌝ }
 {
     call::verify_many(job, count, randomness, transcripts, scratch)
 }

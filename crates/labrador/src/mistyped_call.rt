@@ -1,10 +1,7 @@
 // The exported call that lists the constants which may be mistyped (document 02, Item 8).
 use mistyped::answers::MistypedAnswer;
 use mistyped::call;
-ghost use mathlib.Core.Path.{_≡_};
-ghost use lib.ListN.{length};
-ghost use Rattle.protocol.specs.Mistyped.{mistyped-scratch};
-ghost use Rattle.mistyped.specs.Told.{Mistyped};
+ghost use Rattle.mistyped.specs.Told.{MistypedCall};
 
 // After a failed check 22, each index of b0 at which adding one number mends it, with the number of smallest centred size.
 #[no_mangle]
@@ -15,8 +12,7 @@ pub extern "C" fn labrador_mistyped(
     scratch: &mut [u32],
     list: &mut [u32],
 ) -> MistypedAnswer
-    ensures { λ r. ⌜ Mistyped (now (job .entry)) (now (randomness .entry)) (now (transcript .entry)) (length (now (scratch .entry))) (now (list .entry)) (now (list .exit)) r ⌝ }
-    ensures { λ r. ⌜ now (scratch .exit) ≡ mistyped-scratch (now (job .entry)) (now (randomness .entry)) (now (transcript .entry)) (now (scratch .entry)) (length (now (list .entry))) ⌝ }
+    ensures { λ r. ⌜ MistypedCall (now (job .entry)) (now (randomness .entry)) (now (transcript .entry)) (now (scratch .entry)) (now (list .entry)) (now (scratch .exit)) (now (list .exit)) r ⌝ }
 {
     call::mistyped(job, randomness, transcript, scratch, list)
 }

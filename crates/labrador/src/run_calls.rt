@@ -1,9 +1,8 @@
 // The exported calls on runs of witness vectors (document 02, Item 10).
-use call_answers::verdicts::LabradorAnswer;
-ghost use mathlib.Core.Path.{_≡_};
-ghost use lib.ListN.{length};
-ghost use Rattle.call_answers.specs.Calls.{labradorAnswer};
-ghost use Rattle.runs.specs.Runs.{run, project-answer, project-output, project-scratch, commit-rows, rows-output, rows-scratch, add-refusal, add-output};
+use api_answers::verdicts::LabradorAnswer;
+ghost use Rattle.shed_projection.specs.Call.{PCall};
+ghost use Rattle.shed_rows.specs.Call.{RowsCall};
+ghost use Rattle.shed_sums.specs.Call.{AddCall};
 
 // The p of the witness vectors from `first` up to `end`, from their projection words.
 #[no_mangle]
@@ -16,11 +15,9 @@ pub extern "C" fn labrador_shed_projection(
     scratch: &mut [u32],
     output: &mut [u32],
 ) -> LabradorAnswer
-    ensures { λ r. ⌜ r ≡ labradorAnswer (project-answer (now (job .entry)) (run first end) (now (projection .entry)) (now (vectors .entry)) (now (scratch .entry)) (now (output .entry))) ⌝ }
-    ensures { λ r. ⌜ now (output .exit) ≡ project-output (now (job .entry)) (run first end) (now (projection .entry)) (now (vectors .entry)) (now (scratch .entry)) (now (output .entry)) ⌝ }
-    ensures { λ r. ⌜ now (scratch .exit) ≡ project-scratch (now (job .entry)) (run first end) (now (projection .entry)) (now (vectors .entry)) (now (scratch .entry)) (now (output .entry)) ⌝ }
+    ensures { λ r. ⌜ PCall (now (job .entry)) first end (now (projection .entry)) (now (vectors .entry)) (now (scratch .entry)) (now (output .entry)) (now (scratch .exit)) (now (output .exit)) r ⌝ }
 {
-    run_projection::project(
+    shed_projection::project(
         job,
         first as usize,
         end as usize,
@@ -41,11 +38,9 @@ pub extern "C" fn labrador_shed_rows(
     scratch: &mut [u32],
     output: &mut [u32],
 ) -> LabradorAnswer
-    ensures { λ r. ⌜ r ≡ labradorAnswer (commit-rows (now (job .entry)) (run first end) (now (vectors .entry)) (length (now (scratch .entry))) (length (now (output .entry)))) ⌝ }
-    ensures { λ r. ⌜ now (output .exit) ≡ rows-output (now (job .entry)) (run first end) (now (vectors .entry)) (now (scratch .entry)) (now (output .entry)) ⌝ }
-    ensures { λ r. ⌜ now (scratch .exit) ≡ rows-scratch (now (job .entry)) (run first end) (now (vectors .entry)) (now (scratch .entry)) (now (output .entry)) ⌝ }
+    ensures { λ r. ⌜ RowsCall (now (job .entry)) first end (now (vectors .entry)) (now (scratch .entry)) (now (output .entry)) (now (scratch .exit)) (now (output .exit)) r ⌝ }
 {
-    run_rows::rows(job, first as usize, end as usize, vectors, scratch, output)
+    shed_rows::rows(job, first as usize, end as usize, vectors, scratch, output)
 }
 
 // Two p added.
@@ -55,8 +50,7 @@ pub extern "C" fn labrador_add_projections(
     other: &[u32],
     output: &mut [u32],
 ) -> LabradorAnswer
-    ensures { λ r. ⌜ r ≡ labradorAnswer (add-refusal (now (p .entry)) (now (other .entry)) (length (now (output .entry)))) ⌝ }
-    ensures { λ r. ⌜ now (output .exit) ≡ add-output (now (p .entry)) (now (other .entry)) (now (output .entry)) ⌝ }
+    ensures { λ r. ⌜ AddCall (now (p .entry)) (now (other .entry)) (now (output .entry)) (now (output .exit)) r ⌝ }
 {
-    run_sums::add(p, other, output)
+    shed_sums::add(p, other, output)
 }

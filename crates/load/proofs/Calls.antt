@@ -3,11 +3,11 @@ use mathlib.Core.Path.{_≡_, sym, ap, _∙_}
 use mathlib.Core.List.{List, _++_}
 use Prim.Native.Nat.{ℕ, _≤_}
 use lib.ListN.{length, drop}
-use Rattle.lists.specs.Part.{splice}
-use Rattle.definitions.specs.declared.answers.Refusal.{Refusal}
-use Rattle.definitions.specs.Answer.{Answer, fine, ofRefusal}
-use Rattle.protocol.specs.Load.{loaded}
-use Rattle.admission.proofs.Fit.{refusal-none}
+use Rattle.math.specs.lists.Part.{splice}
+use Rattle.spec_leaves.specs.declared.answers.Refusal.{Refusal}
+use Rattle.spec_leaves.specs.Answer.{Answer, fine, ofRefusal}
+use Rattle.spec_protocol.specs.Load.{loaded}
+use Rattle.admission_slices.proofs.Fit.{refusal-none}
 use Rattle.load.proofs.Replace.{splice-front}
 
 pub untouched : (r : Refusal) (a : Answer) (made buffer : List ℕ) → ofRefusal r ≡ a → buffer ≡ loaded a made buffer

@@ -5,27 +5,28 @@ use Prim.Native.Nat.{ℕ, _+_, _*_, _%_, _≤_, _<_, _^_}
 use native.Mathlib.Nat.{mul-le-mul-right}
 use native.Mathlib.Omega.{arith}
 use lib.ListN.{length, getD, set, replicate, length-replicate}
-use Rattle.lists.specs.Table.{table}
-use Rattle.lists.specs.Part.{part, splice}
-use Rattle.lists.proofs.Table.{length-table, getD-table, table-ext}
-use Rattle.lists.proofs.Splice.{length-splice, getD-part}
-use Rattle.algebra.proofs.Form.{form-ext}
-use Rattle.algebra.proofs.Ring.{nil-add}
-use Rattle.definitions.specs.Zq.{Q, zadd}
-use Rattle.definitions.specs.Rq.{Element, coeff, rzero}
-use Rattle.definitions.specs.Ring.{RqOps, words, element}
-use Rattle.definitions.proofs.RqRing.{rq-ring, words-path}
-use Rattle.definitions.proofs.Bridge.{coeff-canonical, words-nil}
-use Rattle.protocol.specs.Parameters.{Parameters, T, triangular}
-use Rattle.protocol.specs.Layout.{canonical, span, start, sections, first-section, job-sections, witness-sections}
-use Rattle.protocol.specs.Views.{public, witness, element-at, cell}
-use Rattle.protocol.specs.Formulas.{_⊕_, left, flat}
-use Rattle.protocol.specs.Load.{Given, section-one, load-parameters, load-job-sections, job-drawn, drawn, after-job, witness-rules, load-witness, load-vectors, blank-job, blank, b₀-words, b-words, load-job}
-use Rattle.protocol.proofs.Sections.{Filled, length-sections, section-word}
-use Rattle.protocol.proofs.LoadSections.{getD-zeros}
-use Rattle.protocol.proofs.LoadJob.{whole-filled, job-drawn-filled, witness-filled, job-half-filled, length-b₀, length-b, cell-inside, line-inside}
-use Rattle.load_sums.specs.declared.Target.{Target}
-use Rattle.load_sums.specs.Sums.{plus}
+use Rattle.math.specs.lists.Table.{table}
+use Rattle.math.specs.lists.Part.{part, splice}
+use Rattle.math.proofs.lists.Table.{length-table, getD-table, table-ext}
+use Rattle.math.proofs.lists.Splice.{length-splice, getD-part}
+use Rattle.math.proofs.algebra.Form.{form-ext}
+use Rattle.math.proofs.algebra.Ring.{nil-add}
+use Rattle.spec_leaves.specs.Zq.{Q, zadd}
+use Rattle.spec_leaves.specs.Rq.{Element, coeff, rzero}
+use Rattle.spec_leaves.specs.Ring.{RqOps, words, element}
+use Rattle.spec_leaves.proofs.RqRing.{rq-ring, words-path}
+use Rattle.spec_leaves.proofs.Bridge.{coeff-canonical, words-nil}
+use Rattle.spec_protocol.specs.Parameters.{Parameters, T, triangular}
+use Rattle.spec_protocol.specs.Layout.{canonical, span, start, sections, first-section, job-sections, witness-sections}
+use Rattle.spec_protocol.specs.Views.{public, witness, element-at, cell}
+use Rattle.spec_protocol.specs.Formulas.{_⊕_, left, flat}
+use Rattle.spec_protocol.specs.Load.{Given, section-one, load-parameters, load-job-sections, job-drawn, drawn, after-job, witness-rules, load-witness, load-vectors}
+use Rattle.spec_protocol.specs.Load.{blank-job, blank, b₀-words, b-words, load-job}
+use Rattle.spec_protocol.proofs.Sections.{Filled, length-sections, section-word}
+use Rattle.spec_protocol.proofs.LoadSections.{getD-zeros}
+use Rattle.spec_protocol.proofs.LoadJob.{whole-filled, job-drawn-filled, witness-filled, job-half-filled, length-b₀, length-b, cell-inside, line-inside}
+use Rattle.load_constraints.specs.declared.sums.Target.{Target}
+use Rattle.load_constraints.specs.Sums.{plus}
 use Rattle.load_constraints.specs.Terms.{left-of}
 use Rattle.load.specs.Sums.{Blank, constant-left, sums-of}
 use Rattle.load.proofs.Replace.{section-replaced, section-within, splice-inside, part-front, getD-front}
@@ -40,7 +41,8 @@ zeros-are-nil J at zeros =
 -- what is added to zeros is what stands there
 pub sums-from-zero : (P : Parameters) (J W : List ℕ) (t : Target) → Blank P J
     → t .«b0_at» ≡ 31 + start (job-sections P) 2 → t .l ≡ P .l → t .«b_at» ≡ 31 + start (job-sections P) 5 → t .k ≡ P .K
-    → plus J t (left-of J (31 + start (job-sections P) 0) (31 + start (job-sections P) 1) W 1 (P .r) (P .n)) (left-of J (31 + start (job-sections P) 3) (31 + start (job-sections P) 4) W 1 (P .r) (P .n)) ≡ sums-of P J W
+    → plus J t (left-of J (31 + start (job-sections P) 0) (31 + start (job-sections P) 1) W 1 (P .r) (P .n))
+    (left-of J (31 + start (job-sections P) 3) (31 + start (job-sections P) 4) W 1 (P .r) (P .n)) ≡ sums-of P J W
 unfolding plus sums-of start
 sums-from-zero P J W t zeros e₀ el e ek =
     let F : ℕ → Element = left-of J (31 + start (job-sections P) 0) (31 + start (job-sections P) 1) W 1 (P .r) (P .n) in
@@ -52,7 +54,8 @@ sums-from-zero P J W t zeros e₀ el e ek =
     ∙ ap₂ (λ u v. splice (splice J b₀ u) b (flat v))
     (table-ext (P .l) (λ y. zadd (getD J (b₀ + y) 0) (coeff (words (F y)) 0)) (constant-left P J W)
     (λ y h. ap (λ w. zadd w (coeff (words (F y)) 0)) (zeros .b₀ y h) ∙ from-zero (coeff (words (F y)) 0) (coeff-canonical (F y) 0)))
-    (table-ext (P .K) (λ k. element-at J b k ⊕ G k) G (λ k h. ap (λ x. x ⊕ G k) (zeros-are-nil J (b + 64 * k) (λ i l. ap (λ q. getD J q 0) (deeper b k i) ∙ zeros .b (64 * k + i) (omega arith))) ∙ nil-add RqOps rq-ring (G k)))
+    (table-ext (P .K) (λ k. element-at J b k ⊕ G k) G
+    (λ k h. ap (λ x. x ⊕ G k) (zeros-are-nil J (b + 64 * k) (λ i l. ap (λ q. getD J q 0) (deeper b k i) ∙ zeros .b (64 * k + i) (omega arith))) ∙ nil-add RqOps rq-ring (G k)))
   where
     from-zero : (c : ℕ) → c < Q → zadd 0 c ≡ c
     from-zero c h = omega arith
@@ -60,7 +63,8 @@ sums-from-zero P J W t zeros e₀ el e ek =
     deeper : (b k i : ℕ) → b + 64 * k + i ≡ b + (64 * k + i)
     deeper b k i = omega arith
 
-module _ (G : Given) (seed : ℕ) (fits : seed < 2 ^ 32) (job wit : List ℕ) (room : span (load-job-sections G) ≤ length job) (witness-room : span (witness-sections (load-parameters G)) ≤ length wit) where
+module _ (G : Given) (seed : ℕ) (fits : seed < 2 ^ 32) (job wit : List ℕ) (room : span (load-job-sections G) ≤ length job)
+    (witness-room : span (witness-sections (load-parameters G)) ≤ length wit) where
   bare : Filled (load-job-sections G) (section-one G ∷ job-drawn G seed)
   bare = whole-filled G (job-drawn G seed) (job-drawn-filled G seed fits)
 
@@ -101,9 +105,12 @@ module _ (G : Given) (seed : ℕ) (fits : seed < 2 ^ 32) (job wit : List ℕ) (r
   vectors-same i m hi hm = witness-element (i * G .n + m) (omega (arith, mul-le-mul-right (G .n) hi))
 
   -- the left side of constraint x of a kind whose triangles and vectors are two sections
-  left-same : (a φ count x : ℕ) → a < 11 → φ < 11 → getD (load-job-sections G) a (canonical 0) .count ≡ 64 * (count * T (load-parameters G)) → getD (load-job-sections G) φ (canonical 0) .count ≡ 64 * (count * G .r * G .n) → x < count
-      → left (load-parameters G) (λ i j. element-at (splice job 0 (blank-job G seed)) (start (load-job-sections G) a) (x * T (load-parameters G) + cell i j)) (λ i m. element-at (splice job 0 (blank-job G seed)) (start (load-job-sections G) φ) ((x * G .r + i) * G .n + m)) (witness (load-parameters G) (splice wit 0 (load-witness G seed)))
-      ≡ left (load-parameters G) (λ i j. element-at (blank-job G seed) (start (load-job-sections G) a) (x * T (load-parameters G) + cell i j)) (λ i m. element-at (blank-job G seed) (start (load-job-sections G) φ) ((x * G .r + i) * G .n + m)) (load-vectors G seed)
+  left-same : (a φ count x : ℕ) → a < 11 → φ < 11 → getD (load-job-sections G) a (canonical 0) .count ≡ 64 * (count * T (load-parameters G))
+      → getD (load-job-sections G) φ (canonical 0) .count ≡ 64 * (count * G .r * G .n) → x < count
+      → left (load-parameters G) (λ i j. element-at (splice job 0 (blank-job G seed)) (start (load-job-sections G) a) (x * T (load-parameters G) + cell i j))
+      (λ i m. element-at (splice job 0 (blank-job G seed)) (start (load-job-sections G) φ) ((x * G .r + i) * G .n + m)) (witness (load-parameters G) (splice wit 0 (load-witness G seed)))
+      ≡ left (load-parameters G) (λ i j. element-at (blank-job G seed) (start (load-job-sections G) a) (x * T (load-parameters G) + cell i j))
+      (λ i m. element-at (blank-job G seed) (start (load-job-sections G) φ) ((x * G .r + i) * G .n + m)) (load-vectors G seed)
   left-same a φ count x ha hφ sa sφ h =
       form-ext RqOps (G .r) (G .n) _ _ _ _ _ _
       (λ i j hi hj. job-element a (count * T (load-parameters G)) (x * T (load-parameters G) + cell i j) ha sa (cell-inside G seed fits x count i j h hi hj))
@@ -114,7 +121,10 @@ module _ (G : Given) (seed : ℕ) (fits : seed < 2 ^ 32) (job wit : List ℕ) (r
   unfolding b₀-words start blank-job sections
   b₀-same = table-ext (G .l) _ _ (λ x h. ap (λ e. coeff (words e) 0) (left-same 1 2 (G .l) x (omega arith) (omega arith) refl refl h))
 
-  b-same : flat (table (G .K) (λ k. left (load-parameters G) (λ i j. element-at (splice job 0 (blank-job G seed)) (31 + start (job-sections (load-parameters G)) 3) (k * T (load-parameters G) + cell i j)) (λ i m. element-at (splice job 0 (blank-job G seed)) (31 + start (job-sections (load-parameters G)) 4) ((k * G .r + i) * G .n + m)) (witness (load-parameters G) (splice wit 0 (load-witness G seed))))) ≡ b-words G seed
+  b-same : flat (table (G .K) (λ k. left (load-parameters G)
+      (λ i j. element-at (splice job 0 (blank-job G seed)) (31 + start (job-sections (load-parameters G)) 3) (k * T (load-parameters G) + cell i j))
+      (λ i m. element-at (splice job 0 (blank-job G seed)) (31 + start (job-sections (load-parameters G)) 4) ((k * G .r + i) * G .n + m))
+      (witness (load-parameters G) (splice wit 0 (load-witness G seed))))) ≡ b-words G seed
   unfolding b-words start blank-job sections
   b-same = ap flat (table-ext (G .K) _ _ (λ k h. left-same 4 5 (G .K) k (omega arith) (omega arith) refl refl h))
 
@@ -141,7 +151,9 @@ module _ (G : Given) (seed : ℕ) (fits : seed < 2 ^ 32) (job wit : List ℕ) (r
       let P = load-parameters G in
       let short : length (blank-job G seed) ≤ length job = omega (arith, blank-length, room) in
       ap₂ (λ u v. splice (splice (splice job 0 (blank-job G seed)) (31 + start (job-sections P) 2) u) (31 + start (job-sections P) 5) v) b₀-same b-same
-      ∙ ap (λ l. splice l (31 + start (job-sections P) 5) (b-words G seed)) (splice-inside job (blank-job G seed) short (31 + start (job-sections P) 2) (b₀-words G seed) (omega (arith, within₀, length-b₀ G seed fits)))
-      ∙ splice-inside job (splice (blank-job G seed) (31 + start (job-sections P) 2) (b₀-words G seed)) (omega (arith, length-splice (blank-job G seed) (31 + start (job-sections P) 2) (b₀-words G seed)))
+      ∙ ap (λ l. splice l (31 + start (job-sections P) 5) (b-words G seed))
+      (splice-inside job (blank-job G seed) short (31 + start (job-sections P) 2) (b₀-words G seed) (omega (arith, within₀, length-b₀ G seed fits)))
+      ∙ splice-inside job (splice (blank-job G seed) (31 + start (job-sections P) 2) (b₀-words G seed))
+      (omega (arith, length-splice (blank-job G seed) (31 + start (job-sections P) 2) (b₀-words G seed)))
       (31 + start (job-sections P) 5) (b-words G seed) (omega (arith, within, length-b G seed fits, length-splice (blank-job G seed) (31 + start (job-sections P) 2) (b₀-words G seed)))
       ∙ ap (splice job 0) replaced

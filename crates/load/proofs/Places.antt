@@ -5,23 +5,23 @@ use Prim.Native.Nat.{ℕ, _+_, _*_, _≤_, _<_, _^_}
 use native.Mathlib.Nat.{mul-le-mul}
 use native.Mathlib.Omega.{arith}
 use lib.ListN.{length, getD}
-use Rattle.lists.specs.Table.{table}
-use Rattle.lists.specs.Part.{part, splice}
-use Rattle.lists.proofs.Splice.{splice-append}
-use Rattle.definitions.specs.Zq.{Q}
-use Rattle.protocol.specs.Parameters.{Parameters, triangular}
-use Rattle.protocol.specs.Layout.{Section, span, start, sections, job-sections}
-use Rattle.protocol.specs.Load as S
-use Rattle.protocol.specs.Load.{Given, load-parameters, drawn, after, job-rules, blank-job, after-job}
-use Rattle.layout.specs.declared.sections.Sections.{Sections}
-use Rattle.layout.specs.Sections.{listed}
-use Rattle.relation.specs.SectionOne.{Within}
-use Rattle.sizes.specs.Sizes.{Sized, IsTable}
+use Rattle.math.specs.lists.Table.{table}
+use Rattle.math.specs.lists.Part.{part, splice}
+use Rattle.math.proofs.lists.Splice.{splice-append}
+use Rattle.spec_leaves.specs.Zq.{Q}
+use Rattle.spec_protocol.specs.Parameters.{Parameters, triangular}
+use Rattle.spec_protocol.specs.Layout.{Section, span, start, sections, job-sections}
+use Rattle.spec_protocol.specs.Load as S
+use Rattle.spec_protocol.specs.Load.{Given, load-parameters, drawn, after, job-rules, blank-job, after-job}
+use Rattle.layout_sections.specs.declared.sections.Sections.{Sections}
+use Rattle.layout_sections.specs.Sections.{listed}
+use Rattle.relation_env_params.specs.SectionOne.{Within}
+use Rattle.layout_sizes.specs.Sizes.{Sized, IsTable}
 use Rattle.load_draw.specs.declared.Rule.{Rule}
 use Rattle.load_draw.specs.Rules.{rules-of}
 use Rattle.load_needs.specs.Given.{one-of}
-use Rattle.load_sums.specs.declared.Target.{Target}
-use Rattle.load_sums.specs.Sums.{Placed, Reduced}
+use Rattle.load_constraints.specs.declared.sums.Target.{Target}
+use Rattle.load_constraints.specs.Sums.{Placed, Reduced}
 use Rattle.load.specs.Sums.{Blank}
 
 triangular-small : (r : ℕ) → r ≤ 16 → triangular r ≤ 136

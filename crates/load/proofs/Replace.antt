@@ -6,10 +6,10 @@ use native.Mathlib.Nat.{zero-add}
 use native.Mathlib.Omega.{arith}
 use lib.ListN.{length, getD, set, drop, length-append, length-set}
 use lib.Seq.{sets, set-append-left, length-sets}
-use Rattle.lists.specs.Part.{part, splice}
-use Rattle.lists.proofs.Splice.{splice-eq, part-splice-within, getD-splice-within}
-use Rattle.protocol.specs.Layout.{Section, canonical, start, sections}
-use Rattle.protocol.proofs.Sections.{Filled, none, more}
+use Rattle.math.specs.lists.Part.{part, splice}
+use Rattle.math.proofs.lists.Splice.{splice-eq, part-splice-within, getD-splice-within}
+use Rattle.spec_protocol.specs.Layout.{Section, canonical, start, sections}
+use Rattle.spec_protocol.proofs.Sections.{Filled, none, more}
 
 -- a run of stores in the first of two lists
 sets-first : (new a b : List ℕ) (at : ℕ) → at + length new ≤ length a → sets (a ++ b) at new ≡ sets a at new ++ b

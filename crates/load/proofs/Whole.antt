@@ -3,26 +3,28 @@ use mathlib.Core.Path.{_≡_, sym, ap, ap₂, subst, _∙_}
 use mathlib.Core.List.{List, _∷_}
 use Prim.Native.Nat.{ℕ, _≤_, _<_, _^_}
 use lib.ListN.{length}
-use Rattle.lists.specs.Part.{splice}
-use Rattle.lists.proofs.Splice.{length-splice}
-use Rattle.protocol.specs.Parameters.{Parameters}
-use Rattle.protocol.specs.Layout.{span, sections, witness-sections, randomness-sections}
-use Rattle.protocol.specs.Load.{Given, section-one, load-parameters, load-job-sections, drawn, after, witness-rules, randomness-rules, after-job, load-job, load-witness, load-randomness, blank-job, job-need, witness-need, randomness-need}
-use Rattle.protocol.proofs.Sections.{length-sections}
-use Rattle.protocol.proofs.LoadJob.{whole-filled, job-made, job-made-filled, witness-filled, randomness-filled}
+use Rattle.math.specs.lists.Part.{splice}
+use Rattle.math.proofs.lists.Splice.{length-splice}
+use Rattle.spec_protocol.specs.Parameters.{Parameters}
+use Rattle.spec_protocol.specs.Layout.{span, sections, witness-sections, randomness-sections}
+use Rattle.spec_protocol.specs.Load.{Given, section-one, load-parameters, load-job-sections, drawn, after, witness-rules, randomness-rules, after-job, load-job}
+use Rattle.spec_protocol.specs.Load.{load-witness, load-randomness, blank-job, job-need, witness-need, randomness-need}
+use Rattle.spec_protocol.proofs.Sections.{length-sections}
+use Rattle.spec_protocol.proofs.LoadJob.{whole-filled, job-made, job-made-filled, witness-filled, randomness-filled}
 use Rattle.load.specs.Sums.{Blank, sums-of}
 use Rattle.load.proofs.Finish.{finished}
 
 -- room for the witness, of a buffer that was written
-pub room-kept : (P Q : Parameters) (l now new : List ℕ) (at : ℕ) → P ≡ Q → now ≡ splice l at new → span (witness-sections Q) ≤ length l → span (witness-sections P) ≤ length now
-room-kept P Q l now new at same e h = subst (λ P. span (witness-sections P) ≤ length now) (sym same) (subst (λ n. span (witness-sections Q) ≤ n) (sym (ap length e ∙ length-splice l at new)) h)
+pub room-unchanged : (P Q : Parameters) (l now new : List ℕ) (at : ℕ) → P ≡ Q → now ≡ splice l at new → span (witness-sections Q) ≤ length l → span (witness-sections P) ≤ length now
+room-unchanged P Q l now new at same e h = subst (λ P. span (witness-sections P) ≤ length now) (sym same) (subst (λ n. span (witness-sections Q) ≤ n) (sym (ap length e ∙ length-splice l at new)) h)
 
 -- zeros where b0 and b will stand, of parameters and words that are the same
-pub blank-kept : (P Q : Parameters) (J K : List ℕ) → P ≡ Q → J ≡ K → Blank Q K → Blank P J
-blank-kept P Q J K same e h = subst (λ P. Blank P J) (sym same) (subst (Blank Q) (sym e) h)
+pub blank-unchanged : (P Q : Parameters) (J K : List ℕ) → P ≡ Q → J ≡ K → Blank Q K → Blank P J
+blank-unchanged P Q J K same e h = subst (λ P. Blank P J) (sym same) (subst (Blank Q) (sym e) h)
 
 module _ (G : Given) (seed : ℕ) (P : Parameters) where
-  pub witness-is : (x : ℕ) (l now : List ℕ) → P ≡ load-parameters G → x ≡ after-job G seed → now ≡ splice l 0 (sections (drawn x witness-rules (witness-sections P))) → now ≡ splice l 0 (load-witness G seed)
+  pub witness-is : (x : ℕ) (l now : List ℕ) → P ≡ load-parameters G → x ≡ after-job G seed → now ≡ splice l 0 (sections (drawn x witness-rules (witness-sections P)))
+      → now ≡ splice l 0 (load-witness G seed)
   unfolding load-witness
   witness-is x l now same e h = h ∙ ap₂ (λ y Q. splice l 0 (sections (drawn y witness-rules (witness-sections Q)))) e same
 

@@ -2,9 +2,9 @@
 use mathlib.Core.List.{List}
 use Prim.Native.Nat.{ℕ}
 use lib.ListN.{length}
-use Rattle.protocol.specs.Load.{Given, load-refusal, load-job, load-witness, load-randomness, loaded, drawn, witness-rules}
-use Rattle.protocol.specs.Parameters.{Parameters}
-use Rattle.protocol.specs.Layout.{sections, witness-sections}
+use Rattle.spec_protocol.specs.Load.{Given, load-refusal, load-job, load-witness, load-randomness, loaded, drawn, witness-rules}
+use Rattle.spec_protocol.specs.Parameters.{Parameters}
+use Rattle.spec_protocol.specs.Layout.{sections, witness-sections}
 
 unfoldable pub job-exit : Given → ℕ → (job witness randomness : List ℕ) → List ℕ
 job-exit G seed job witness randomness = loaded (load-refusal G (length job) (length witness) (length randomness)) (load-job G seed) job

@@ -3,14 +3,14 @@ use mathlib.Core.Path.{_≡_}
 use mathlib.Core.List.{List}
 use Prim.Native.Nat.{ℕ, _+_, _*_, _≤_, _<_}
 use lib.ListN.{length, getD}
-use Rattle.lists.specs.Table.{table}
-use Rattle.lists.specs.Part.{splice}
-use Rattle.definitions.specs.Rq.{coeff}
-use Rattle.definitions.specs.Ring.{words}
-use Rattle.protocol.specs.Parameters.{Parameters, T}
-use Rattle.protocol.specs.Layout.{span, start, first-section, job-sections}
-use Rattle.protocol.specs.Views.{element-at, cell, witness}
-use Rattle.protocol.specs.Formulas.{left, flat}
+use Rattle.math.specs.lists.Table.{table}
+use Rattle.math.specs.lists.Part.{splice}
+use Rattle.spec_leaves.specs.Rq.{coeff}
+use Rattle.spec_leaves.specs.Ring.{words}
+use Rattle.spec_protocol.specs.Parameters.{Parameters, T}
+use Rattle.spec_protocol.specs.Layout.{span, start, first-section, job-sections}
+use Rattle.spec_protocol.specs.Views.{element-at, cell, witness}
+use Rattle.spec_protocol.specs.Formulas.{left, flat}
 
 -- room for the job, and zeros where b0 and b will stand
 pub record Blank (P : Parameters) (J : List ℕ) : Type 0 where
@@ -29,4 +29,5 @@ sums-of P J W =
     splice
     (splice J (31 + start (job-sections P) 2) (table (P .l) (constant-left P J W)))
     (31 + start (job-sections P) 5)
-    (flat (table (P .K) (λ k. left P (λ i j. element-at J (31 + start (job-sections P) 3) (k * T P + cell i j)) (λ i m. element-at J (31 + start (job-sections P) 4) ((k * P .r + i) * P .n + m)) (witness P W))))
+    (flat (table (P .K) (λ k. left P (λ i j. element-at J (31 + start (job-sections P) 3) (k * T P + cell i j))
+    (λ i m. element-at J (31 + start (job-sections P) 4) ((k * P .r + i) * P .n + m)) (witness P W))))

@@ -4,20 +4,20 @@ use mathlib.Core.List.{List, flatMap}
 use Prim.Native.Nat.{ℕ, _+_, _*_, _≤_, _<_}
 use native.Mathlib.Omega.{arith}
 use lib.ListN.{length, getD}
-use Rattle.lists.specs.Table.{table}
-use Rattle.lists.specs.Part.{splice}
-use Rattle.lists.proofs.Table.{length-table, table-ext}
-use Rattle.lists.proofs.Splice.{length-splice, getD-splice-after, part-splice-after}
-use Rattle.algebra.proofs.Sum.{sum-ext}
-use Rattle.definitions.specs.Zq.{Q, zadd}
-use Rattle.definitions.specs.Rq.{Element, coeff}
-use Rattle.definitions.specs.Ring.{RqOps, words, element}
-use Rattle.protocol.specs.Views.{element-at}
-use Rattle.protocol.specs.Formulas.{_⊕_, _⊗_, flat}
-use Rattle.rq_matrix.proofs.Place.{rows-within}
-use Rattle.load_sums.specs.declared.Target.{Target}
-use Rattle.load_sums.specs.Sums.{terms, plus, Placed, Reduced}
-use Rattle.load_products.specs.Products.{Before, Canonical, with-terms}
+use Rattle.math.specs.lists.Table.{table}
+use Rattle.math.specs.lists.Part.{splice}
+use Rattle.math.proofs.lists.Table.{length-table, table-ext}
+use Rattle.math.proofs.lists.Splice.{length-splice, getD-splice-after, part-splice-after}
+use Rattle.math.proofs.algebra.Sum.{sum-ext}
+use Rattle.spec_leaves.specs.Zq.{Q, zadd}
+use Rattle.spec_leaves.specs.Rq.{Element, coeff}
+use Rattle.spec_leaves.specs.Ring.{RqOps, words, element}
+use Rattle.spec_protocol.specs.Views.{element-at}
+use Rattle.spec_protocol.specs.Formulas.{_⊕_, _⊗_, flat}
+use Rattle.ring_rq_matrix.proofs.Place.{rows-within}
+use Rattle.load_constraints.specs.declared.sums.Target.{Target}
+use Rattle.load_constraints.specs.Sums.{terms, plus, Placed, Reduced}
+use Rattle.load_constraints.specs.Products.{Before, Canonical, with-terms}
 
 -- the sums of b0 alone
 abbrev pub numbers : Target → Target

@@ -7,21 +7,21 @@ use native.Mathlib.Nat.{zero-add}
 use native.Mathlib.Omega.{arith}
 use borrow.Author.Tests.{lt-ltb, le-ltb}
 use lib.Dec.{ltb}
-use Rattle.algebra.specs.Ops as Ops
-use Rattle.algebra.proofs.Sum.{sum-suc, sum-ext, sum-rows}
-use Rattle.algebra.proofs.Dot.{dot-comm, dot-add-right}
-use Rattle.definitions.specs.Rq.{Element}
-use Rattle.definitions.specs.Ring.{RqOps, element}
-use Rattle.definitions.proofs.RqRing.{rq-ring}
-use Rattle.protocol.specs.Parameters.{triangular}
-use Rattle.protocol.specs.Views.{element-at, cell}
-use Rattle.protocol.specs.Formulas.{_⊕_, _⊗_, sum, dot, pairs}
-use Rattle.rq_matrix.specs.Region.{vector, gram}
-use Rattle.rq_matrix.proofs.Place.{rows-within, triangle-within}
-use Rattle.rq_matrix.proofs.Mirror.{triangle-by-rows}
-use Rattle.load_sums.specs.declared.Target.{Target}
-use Rattle.load_sums.specs.Sums.{term, terms, plus, Placed, Reduced}
-use Rattle.load_sums.proofs.Plus.{plus-plus, plus-ext, plus-none, read-before, read-between}
+use Rattle.math.specs.algebra.Ops as Ops
+use Rattle.math.proofs.algebra.Sum.{sum-suc, sum-ext, sum-rows}
+use Rattle.math.proofs.algebra.Dot.{dot-comm, dot-add-right}
+use Rattle.spec_leaves.specs.Rq.{Element}
+use Rattle.spec_leaves.specs.Ring.{RqOps, element}
+use Rattle.spec_leaves.proofs.RqRing.{rq-ring}
+use Rattle.spec_protocol.specs.Parameters.{triangular}
+use Rattle.spec_protocol.specs.Views.{element-at, cell}
+use Rattle.spec_protocol.specs.Formulas.{_⊕_, _⊗_, sum, dot, pairs}
+use Rattle.ring_rq_matrix.specs.Region.{vector, gram}
+use Rattle.ring_rq_matrix.proofs.Place.{rows-within, triangle-within}
+use Rattle.ring_rq_matrix.proofs.Mirror.{triangle-by-rows}
+use Rattle.load_constraints.specs.declared.sums.Target.{Target}
+use Rattle.load_constraints.specs.Sums.{term, terms, plus, Placed, Reduced}
+use Rattle.load_constraints.proofs.Plus.{plus-plus, plus-ext, plus-none, read-before, read-between}
 use Rattle.load_constraints.specs.Terms.{weight-of, rows-of, left-of}
 
 -- element of constraint x, of count constraints of m elements each
@@ -50,7 +50,8 @@ module _ (J : List ℕ) (t : Target) (base₀ base m : ℕ) (placed : Placed J t
       added
       ∙ ap (λ l. plus l t (term l base₀ m (row + j) w) (term l base m (row + j) w)) now
       ∙ plus-plus J t base₀ base m placed F G (term (plus J t F G) base₀ m (row + j) w) (term (plus J t F G) base m (row + j) w)
-      ∙ plus-ext J t base₀ base m placed (λ x. F x ⊕ term (plus J t F G) base₀ m (row + j) w x) (λ x. G x ⊕ term (plus J t F G) base m (row + j) w x) (terms J base₀ m row (j + 1) ω) (terms J base m row (j + 1) ω)
+      ∙ plus-ext J t base₀ base m placed (λ x. F x ⊕ term (plus J t F G) base₀ m (row + j) w x) (λ x. G x ⊕ term (plus J t F G) base m (row + j) w x)
+      (terms J base₀ m row (j + 1) ω) (terms J base m row (j + 1) ω)
       (λ x l. ap (λ y. F x ⊕ y) (ap₂ _⊗_ (read-before J t base₀ base m placed F G (x * m + (row + j)) (inside x (t .l) m (row + j) l h)) e)
       ∙ sym (sum-suc RqOps j (λ j. element-at J base₀ (x * m + (row + j)) ⊗ ω j)))
       (λ x l. ap (λ y. G x ⊕ y) (ap₂ _⊗_ (read-between J t base₀ base m placed F G (x * m + (row + j)) (inside x (t .k) m (row + j) l h)) e)
@@ -68,7 +69,8 @@ module _ (J : List ℕ) (t : Target) (base₀ base m : ℕ) (placed : Placed J t
       added
       ∙ ap₂ (λ l q. plus l t (terms l base₀ m q (i + 1) ω) (terms l base m q (i + 1) ω)) now there
       ∙ plus-plus J t base₀ base m placed F G (terms (plus J t F G) base₀ m (triangular i) (i + 1) ω) (terms (plus J t F G) base m (triangular i) (i + 1) ω)
-      ∙ plus-ext J t base₀ base m placed (λ x. F x ⊕ terms (plus J t F G) base₀ m (triangular i) (i + 1) ω x) (λ x. G x ⊕ terms (plus J t F G) base m (triangular i) (i + 1) ω x) (rows-of J base₀ m s at n (i + 1)) (rows-of J base m s at n (i + 1))
+      ∙ plus-ext J t base₀ base m placed (λ x. F x ⊕ terms (plus J t F G) base₀ m (triangular i) (i + 1) ω x) (λ x. G x ⊕ terms (plus J t F G) base m (triangular i) (i + 1) ω x)
+      (rows-of J base₀ m s at n (i + 1)) (rows-of J base m s at n (i + 1))
       (λ x l. ap (λ y. F x ⊕ y)
       (sum-ext RqOps (i + 1) (λ j. element-at (plus J t F G) base₀ (x * m + (triangular i + j)) ⊗ ω j) (λ j. element-at J base₀ (x * m + (triangular i + j)) ⊗ ω j)
       (λ j k. ap (λ y. y ⊗ ω j) (read-before J t base₀ base m placed F G (x * m + (triangular i + j)) (inside x (t .l) m (triangular i + j) l (omega arith)))))
@@ -92,16 +94,19 @@ row-is i a y =
 pub rows-are-pairs : (J : List ℕ) (base m : ℕ) (s : List ℕ) (at n r x : ℕ) → rows-of J base m s at n r x ≡ pairs r (λ i j. element-at J base (x * m + cell i j) ⊗ gram s at n i j)
 rows-are-pairs J base m s at n r x =
     let a : ℕ → Element = λ q. element-at J base (x * m + q) in
-    sum-ext RqOps r (λ i. terms J base m (triangular i) (i + 1) (weight-of s at n i) x) (λ i. dot i (λ j. a (triangular i + j)) (gram s at n i) ⊕ dot i (λ j. a (triangular i + j)) (gram s at n i) ⊕ a (triangular i + i) ⊗ gram s at n i i)
+    sum-ext RqOps r (λ i. terms J base m (triangular i) (i + 1) (weight-of s at n i) x)
+    (λ i. dot i (λ j. a (triangular i + j)) (gram s at n i) ⊕ dot i (λ j. a (triangular i + j)) (gram s at n i) ⊕ a (triangular i + i) ⊗ gram s at n i i)
     (λ i h. row-is i (λ j. a (triangular i + j)) (gram s at n i))
     ∙ sym (triangle-by-rows RqOps rq-ring r a (gram s at n) (λ i j. dot-comm RqOps rq-ring n (vector s at n i) (vector s at n j)))
 
 -- all elements of the vectors are the sum of the vectors' inner products
-pub line-is-dots : (J : List ℕ) (base : ℕ) (s : List ℕ) (at n r x : ℕ) → terms J base (r * n) 0 (r * n) (element-at s at) x ≡ sum r (λ i. dot n (λ m. element-at J base ((x * r + i) * n + m)) (vector s at n i))
+pub line-is-dots : (J : List ℕ) (base : ℕ) (s : List ℕ) (at n r x : ℕ)
+    → terms J base (r * n) 0 (r * n) (element-at s at) x ≡ sum r (λ i. dot n (λ m. element-at J base ((x * r + i) * n + m)) (vector s at n i))
 unfolding Ops.dot
 line-is-dots J base s at n r x =
     sum-rows RqOps rq-ring r n (λ j. element-at J base (x * (r * n) + (0 + j)) ⊗ element-at s at j)
-    ∙ sum-ext RqOps r (λ i. sum n (λ m. element-at J base (x * (r * n) + (0 + (i * n + m))) ⊗ element-at s at (i * n + m))) (λ i. sum n (λ m. element-at J base ((x * r + i) * n + m) ⊗ element-at s at (i * n + m)))
+    ∙ sum-ext RqOps r (λ i. sum n (λ m. element-at J base (x * (r * n) + (0 + (i * n + m))) ⊗ element-at s at (i * n + m)))
+    (λ i. sum n (λ m. element-at J base ((x * r + i) * n + m) ⊗ element-at s at (i * n + m)))
     (λ i h. sum-ext RqOps n (λ m. element-at J base (x * (r * n) + (0 + (i * n + m))) ⊗ element-at s at (i * n + m)) (λ m. element-at J base ((x * r + i) * n + m) ⊗ element-at s at (i * n + m))
     (λ m k. ap (λ q. element-at J base q ⊗ element-at s at (i * n + m)) (index i m)))
   where

@@ -3,15 +3,15 @@ use mathlib.Core.Bool.{cond}
 use mathlib.Core.List.{List}
 use Prim.Native.Nat.{ℕ, _+_, _*_}
 use lib.Dec.{ltb}
-use Rattle.algebra.specs.Ops.{form}
-use Rattle.definitions.specs.Rq.{Element}
-use Rattle.definitions.specs.Ring.{RqOps}
-use Rattle.protocol.specs.Parameters.{triangular}
-use Rattle.protocol.specs.Views.{element-at, cell}
-use Rattle.protocol.specs.Formulas.{_⊕_, sum}
-use Rattle.rq_matrix.specs.Region.{vector, gram}
-use Rattle.load_sums.specs.declared.Target.{Target}
-use Rattle.load_sums.specs.Sums.{terms, plus}
+use Rattle.math.specs.algebra.Ops.{form}
+use Rattle.spec_leaves.specs.Rq.{Element}
+use Rattle.spec_leaves.specs.Ring.{RqOps}
+use Rattle.spec_protocol.specs.Parameters.{triangular}
+use Rattle.spec_protocol.specs.Views.{element-at, cell}
+use Rattle.spec_protocol.specs.Formulas.{_⊕_, sum}
+use Rattle.ring_rq_matrix.specs.Region.{vector, gram}
+use Rattle.load_constraints.specs.declared.sums.Target.{Target}
+use Rattle.load_constraints.specs.Sums.{terms, plus}
 
 -- ⟨s_i, s_j⟩, twice left of the diagonal
 abbrev pub weight-of : List ℕ → ℕ → ℕ → ℕ → ℕ → Element

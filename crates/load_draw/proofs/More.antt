@@ -6,17 +6,17 @@ use native.Mathlib.Nat.{zero-add}
 use native.Mathlib.Numerals.{add-one}
 use native.Mathlib.Omega.{arith}
 use lib.ListN.{length, getD, set, replicate, length-append, length-replicate}
-use Rattle.lists.specs.Sum.{Σ}
-use Rattle.lists.proofs.Table.{length-table, table-suc}
-use Rattle.lists.specs.Table.{table}
-use Rattle.lists.specs.Part.{splice}
-use Rattle.lists.proofs.Splice.{splice-nil, splice-append, splice-replicate-next}
-use Rattle.lists.proofs.Fill.{splice-table-next}
-use Rattle.protocol.specs.Layout.{Section, span, sections}
-use Rattle.protocol.specs.Load.{Rule, by, later, state, words-by, state-by, drawn, after}
-use Rattle.layout.specs.declared.sections.Sections.{Sections}
-use Rattle.layout.specs.Sections.{listed}
-use Rattle.layout.proofs.Spans.{span-next}
+use Rattle.math.specs.lists.Sum.{Σ}
+use Rattle.math.proofs.lists.Table.{length-table, table-suc}
+use Rattle.math.specs.lists.Table.{table}
+use Rattle.math.specs.lists.Part.{splice}
+use Rattle.math.proofs.lists.Splice.{splice-nil, splice-append, splice-replicate-next}
+use Rattle.math.proofs.lists.Fill.{splice-table-next}
+use Rattle.spec_protocol.specs.Layout.{Section, span, sections}
+use Rattle.spec_protocol.specs.Load.{Rule, by, later, state, words-by, state-by, drawn, after}
+use Rattle.layout_sections.specs.declared.sections.Sections.{Sections}
+use Rattle.layout_sections.specs.Sections.{listed}
+use Rattle.layout_sections.proofs.Spans.{span-next}
 use Rattle.load_draw.specs.Rules.{step, value-by}
 
 -- no words

@@ -2,9 +2,9 @@
 use mathlib.Core.List.{List}
 use Prim.Native.Nat.{ℕ}
 use lib.ListN.{getD}
-use Rattle.lists.specs.Table.{table}
-use Rattle.protocol.specs.Load as S
-use Rattle.protocol.specs.Load.{by, later, word, sign, ternary, next}
+use Rattle.math.specs.lists.Table.{table}
+use Rattle.spec_protocol.specs.Load as S
+use Rattle.spec_protocol.specs.Load.{by, later, word, sign, ternary, next}
 use Rattle.load_draw.specs.declared.Rule.{Rule}
 use Rattle.load_draw.specs.declared.Rule.the-variants as R
 

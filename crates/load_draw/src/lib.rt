@@ -1,15 +1,15 @@
 // The words of a test load, drawn one after the other (document 02, Item 1).
-use layout::sections::Sections;
-use zq::zq::Zq;
+use layout_sections::sections::Sections;
+use ring_zq::zq::Zq;
 ghost use mathlib.Core.Path.{_≡_};
 ghost use mathlib.Core.List.{_∷_};
 ghost use Prim.Native.Nat.{_+_, _≤_, _<_, _^_};
 ghost use lib.ListN.{length};
-ghost use Rattle.lists.specs.Part.{splice};
-ghost use Rattle.protocol.specs.Layout as L;
-ghost use Rattle.protocol.specs.Load.{words-by, state-by, drawn, after};
-ghost use Rattle.protocol.specs.Load as S;
-ghost use Rattle.layout.specs.Sections.{listed};
+ghost use Rattle.math.specs.lists.Part.{splice};
+ghost use Rattle.spec_protocol.specs.Layout as L;
+ghost use Rattle.spec_protocol.specs.Load.{words-by, state-by, drawn, after};
+ghost use Rattle.spec_protocol.specs.Load as S;
+ghost use Rattle.layout_sections.specs.Sections.{listed};
 ghost use Rattle.load_draw.specs.Rules.{ruleOf, step, value-by, rules-of};
 
 // How the words of a section come about.

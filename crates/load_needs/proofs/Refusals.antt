@@ -1,34 +1,27 @@
 -- What is refused of the parameters and of the buffers' lengths.
 use mathlib.Core.Path.{_≡_, refl, sym, ap, subst, _∙_}
 use mathlib.Core.List.{List, _++_}
-use Prim.Native.Nat.{ℕ, _≤_, _<_, _^_}
+use Prim.Native.Nat.{ℕ, _≤_, _<_}
 use native.Mathlib.Decide.{decLe}
 use native.Mathlib.Omega.{arith}
-use lib.ListN.{length}
-use Rattle.definitions.specs.Answer.{Answer, fine, accepted, refused, failed, _then_}
-use Rattle.protocol.specs.Checks.{require}
-use Rattle.protocol.specs.Parameters.{Parameters, parameters, limits, enough-aggregations}
-use Rattle.protocol.specs.Layout.{Section, span, counted, first-section, job-sections, witness-sections, randomness-sections, output-refusal}
-use Rattle.protocol.specs.Load.{Given, load-parameters, needs-refusal, load-refusal, job-need, witness-need, randomness-need}
-use Rattle.protocol.proofs.Fine.{require-holds, require-fails, required, refused-not-fine, then-fine-left, then-fine-right}
-use Rattle.relation.specs.declared.env_params.EnvironmentParameters.{EnvironmentParameters}
-use Rattle.section_one.specs.declared.SectionOne.{SectionOne}
-use Rattle.section_one.specs.declared.SectionOne.the-variants as S
-use Rattle.relation.specs.Parameters.{parametersOf}
-use Rattle.section_one.specs.SectionOne.{section-one, ofSectionOne, Reads}
-use Rattle.section_one.proofs.Limits.{sound}
-use Rattle.layout.specs.declared.sections.Sections.{Sections}
-use Rattle.layout.specs.Sections.{listed}
-use Rattle.sizes.specs.Sizes.{Sized, IsTable}
-use Rattle.sizes.proofs.Sized.{sized}
-use Rattle.admission.specs.declared.answers.Admitted.{Admitted}
-use Rattle.admission.specs.declared.answers.Admitted.the-variants as A
-use Rattle.admission.specs.Admission.{ofAdmitted, At}
-use Rattle.load_needs.specs.Given.{one-of, fits-refusal, Ready, Kept}
-
--- a table's own words are few
-pub table-spans : {ss : List Section} {s : Sections} → IsTable ss s → span (listed s) < 2 ^ 64
-table-spans t = omega (arith, ap span (t .lists), t .spans)
+use Rattle.spec_leaves.specs.Answer.{fine, refused, _then_}
+use Rattle.spec_protocol.specs.Checks.{require}
+use Rattle.spec_protocol.specs.Parameters.{parameters, limits}
+use Rattle.spec_protocol.specs.Layout.{counted, first-section, job-sections, witness-sections, randomness-sections, output-refusal}
+use Rattle.spec_protocol.specs.Load.{Given, load-parameters, needs-refusal, load-refusal, job-need, witness-need, randomness-need}
+use Rattle.spec_protocol.proofs.Fine.{require-holds, require-fails, required, refused-not-fine, then-fine-left, then-fine-right}
+use Rattle.spec_protocol.proofs.Then.{then-assoc}
+use Rattle.relation_env_params.specs.declared.env_params.EnvironmentParameters.{EnvironmentParameters}
+use Rattle.layout_section_one.specs.declared.SectionOne.{SectionOne}
+use Rattle.layout_section_one.specs.declared.SectionOne.the-variants as S
+use Rattle.relation_env_params.specs.Parameters.{parametersOf}
+use Rattle.layout_section_one.specs.SectionOne.{section-one, ofSectionOne, Reads}
+use Rattle.layout_section_one.proofs.Limits.{sound}
+use Rattle.layout_sizes.proofs.Sized.{sized}
+use Rattle.admission_slices.specs.declared.answers.Admitted.{Admitted}
+use Rattle.admission_slices.specs.declared.answers.Admitted.the-variants as A
+use Rattle.admission_slices.specs.Admission.{At}
+use Rattle.load_needs.specs.Given.{one-of, fits-refusal, Ready, Unchanged}
 
 module _ (lent need : ℕ) {needed : ℕ} (e : need ≡ needed) where
   -- a buffer that is too short
@@ -48,27 +41,26 @@ pub read-as : (words : List ℕ) (G : Given) (r : SectionOne) → words ≡ one-
 read-as words G r e h = (h .0 ∙ ap section-one e ∙ only-limits G, subst (λ w. Reads w r) e (h .1))
 
 -- parameters that are read are the load's, and within their limits
-pub ready : (G : Given) (p : EnvironmentParameters) (r : SectionOne) → r ≡ S.Read p → (ofSectionOne r ≡ needs-refusal G) × Reads (one-of G) r → Ready G p
-ready G p r is h =
-    let same : parametersOf p ≡ load-parameters G = subst (Reads (one-of G)) is (h .1) in
+pub ready : (G : Given) (params : EnvironmentParameters) (r : SectionOne) → r ≡ S.Read params → (ofSectionOne r ≡ needs-refusal G) × Reads (one-of G) r → Ready G params
+ready G params r is h =
+    let same : parametersOf params ≡ load-parameters G = subst (Reads (one-of G)) is (h .1) in
     let no : fine ≡ needs-refusal G = sym (ap ofSectionOne is) ∙ h .0 in
-    record { same = same; sized = sized (one-of G) (parametersOf p) (sound (one-of G) (only-limits G ∙ sym no)) same }
+    record { same = same; sized = sized (one-of G) (parametersOf params) (sound (one-of G) (only-limits G ∙ sym no)) same }
 
 -- the refusals of a load: of the parameters, then of the buffers
 pub all-refusals : (G : Given) (job witness randomness : ℕ) → load-refusal G job witness randomness ≡ needs-refusal G then fits-refusal (load-parameters G) job witness randomness
 unfolding load-refusal
-all-refusals G job witness randomness = regroup (needs-refusal G) (output-refusal (first-section ++ job-sections (load-parameters G)) job) (output-refusal (witness-sections (load-parameters G)) witness) (output-refusal (randomness-sections (load-parameters G)) randomness)
-  where
-    regroup : (a b c d : Answer) → a then b then c then d ≡ a then (b then c then d)
-    regroup fine b c d = refl
-    regroup (accepted cells) b c d = refl
-    regroup (refused n p) b c d = refl
-    regroup (failed n vs) b c d = refl
+all-refusals G job witness randomness =
+    let P = load-parameters G in
+    let job-room = output-refusal (first-section ++ job-sections P) job in
+    let witness-room = output-refusal (witness-sections P) witness in
+    let randomness-room = output-refusal (randomness-sections P) randomness in
+    ap (λ a. a then randomness-room) (then-assoc (needs-refusal G) job-room witness-room) ∙ then-assoc (needs-refusal G) (job-room then witness-room) randomness-room
 
 -- what was kept is what was read
-pub kept-ready : (G : Given) (p : EnvironmentParameters) (r : Admitted) → Ready G p → At r (Kept p) → At r (Ready G)
-kept-ready G p (A.Refused x) ready h = tt
-kept-ready G p (A.Fit q) ready h = subst (Ready G) (sym h) ready
+pub unchanged-ready : (G : Given) (params : EnvironmentParameters) (r : Admitted) → Ready G params → At r (Unchanged params) → At r (Ready G)
+unchanged-ready G params (A.Refused x) ready h = tt
+unchanged-ready G params (A.Fit q) ready h = subst (Ready G) (sym h) ready
 
 -- buffers of a load that is refused nothing are long enough
 pub record LongEnough (G : Given) (job witness randomness : ℕ) : Type 0 where

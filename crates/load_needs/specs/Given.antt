@@ -2,13 +2,13 @@
 use mathlib.Core.Path.{_≡_}
 use mathlib.Core.List.{List, _∷_, _++_}
 use Prim.Native.Nat.{ℕ}
-use Rattle.definitions.specs.Answer.{Answer, _then_}
-use Rattle.protocol.specs.Parameters.{Parameters}
-use Rattle.protocol.specs.Layout.{span, first-section, job-sections, witness-sections, randomness-sections, output-refusal}
-use Rattle.protocol.specs.Load.{Given, section-one, load-parameters}
-use Rattle.relation.specs.declared.env_params.EnvironmentParameters.{EnvironmentParameters}
-use Rattle.relation.specs.Parameters.{parametersOf}
-use Rattle.sizes.specs.Sizes.{Sized}
+use Rattle.spec_leaves.specs.Answer.{Answer, _then_}
+use Rattle.spec_protocol.specs.Parameters.{Parameters}
+use Rattle.spec_protocol.specs.Layout.{span, first-section, job-sections, witness-sections, randomness-sections, output-refusal}
+use Rattle.spec_protocol.specs.Load.{Given, section-one, load-parameters}
+use Rattle.relation_env_params.specs.declared.env_params.EnvironmentParameters.{EnvironmentParameters}
+use Rattle.relation_env_params.specs.Parameters.{parametersOf}
+use Rattle.layout_sizes.specs.Sizes.{Sized}
 use Rattle.load_needs.specs.declared.LabradorParameters.{LabradorParameters}
 use Rattle.load_needs.specs.declared.Needs.{Needs}
 
@@ -47,10 +47,10 @@ fits-refusal P job witness randomness =
     then output-refusal (randomness-sections P) randomness
 
 -- the parameters handed on are those that were read
-abbrev pub Kept : EnvironmentParameters → EnvironmentParameters → Type 0
-Kept p q = q ≡ p
+abbrev pub Unchanged : EnvironmentParameters → EnvironmentParameters → Type 0
+Unchanged params q = q ≡ params
 
 -- what the work needs of the parameters
-pub record Ready (G : Given) (p : EnvironmentParameters) : Type 0 where
-  pub same : parametersOf p ≡ load-parameters G
-  pub sized : Sized (parametersOf p)
+pub record Ready (G : Given) (params : EnvironmentParameters) : Type 0 where
+  pub same : parametersOf params ≡ load-parameters G
+  pub sized : Sized (parametersOf params)

@@ -1,19 +1,19 @@
 // The parameters of a test load, what is refused of them, and the lengths that the three buffers need (document 02, Item 1).
-use admission::answers::Admitted;
-use definitions::answers::Refusal;
-use layout::sections;
-use relation::env_params::EnvironmentParameters;
-use section_one::SectionOne;
-use sizes::slices;
+use admission_slices::answers::Admitted;
+use layout_section_one::SectionOne;
+use layout_sections::sections;
+use layout_sizes::slices;
+use relation_env_params::env_params::EnvironmentParameters;
+use spec_leaves::answers::Refusal;
 ghost use mathlib.Core.Path.{_≡_};
 ghost use mathlib.Core.List.{_∷_};
 ghost use Prim.Native.Nat.{_<_, _^_};
-ghost use Rattle.protocol.specs.Load.{load-refusal, needs-refusal};
-ghost use Rattle.relation.specs.Parameters.{parametersOf};
-ghost use Rattle.section_one.specs.SectionOne.{ofSectionOne, Reads};
-ghost use Rattle.sizes.specs.Sizes.{Sized};
-ghost use Rattle.admission.specs.Admission.{ofAdmitted, At};
-ghost use Rattle.load_needs.specs.Given.{given, one-of, Lengths, fits-refusal, Ready, Kept};
+ghost use Rattle.spec_protocol.specs.Load.{load-refusal, needs-refusal};
+ghost use Rattle.relation_env_params.specs.Parameters.{parametersOf};
+ghost use Rattle.layout_section_one.specs.SectionOne.{ofSectionOne, Reads};
+ghost use Rattle.layout_sizes.specs.Sizes.{Sized};
+ghost use Rattle.admission_slices.specs.Admission.{ofAdmitted, At};
+ghost use Rattle.load_needs.specs.Given.{given, one-of, Lengths, fits-refusal, Ready, Unchanged};
 
 // "From eleven parameters", with L the twelfth: in section one's order.
 #[repr(C)]
@@ -84,27 +84,27 @@ pub fn read(g: LabradorParameters) -> SectionOne
     ensures { λ r. ⌜ (ofSectionOne r ≡ needs-refusal (given g)) × Reads (one-of (given g)) r ⌝ }
 {
     let words = section_one_words(g);
-    section_one::read(&words)
+    layout_section_one::read(&words)
 }
 
-pub fn lengths(p: EnvironmentParameters) -> Needs
-    requires { ⌜ Sized (parametersOf p) ⌝ }
-    ensures { λ r. ⌜ Lengths (parametersOf p) r ⌝ }
+pub fn lengths(params: EnvironmentParameters) -> Needs
+    requires { ⌜ Sized (parametersOf params) ⌝ }
+    ensures { λ r. ⌜ Lengths (parametersOf params) r ⌝ }
 {
     Needs {
-        job: 31 + sections::span(slices::job_sections(p), 0, 10),
-        witness: sections::span(slices::witness_sections(p), 0, 1),
-        randomness: sections::span(slices::randomness_sections(p, 7), 0, 7),
+        job: 31 + sections::span(slices::job_sections(params), 0, 10),
+        witness: sections::span(slices::witness_sections(params), 0, 1),
+        randomness: sections::span(slices::randomness_sections(params, 7), 0, 7),
     }
 }
 
 // "then the first output too short by 2, in the order job, witness, randomness"
-fn fits(p: EnvironmentParameters, job: usize, witness: usize, randomness: usize) -> Admitted
-    requires { ⌜ Sized (parametersOf p) ⌝ }
-    ensures { λ r. ⌜ ofAdmitted r ≡ fits-refusal (parametersOf p) job witness randomness ⌝ }
-    ensures { λ r. ⌜ At r (Kept p) ⌝ }
+fn fits(params: EnvironmentParameters, job: usize, witness: usize, randomness: usize) -> Admitted
+    requires { ⌜ Sized (parametersOf params) ⌝ }
+    ensures { λ r. ⌜ ofAdmitted r ≡ fits-refusal (parametersOf params) job witness randomness ⌝ }
+    ensures { λ r. ⌜ At r (Unchanged params) ⌝ }
 {
-    let needs = lengths(p);
+    let needs = lengths(params);
     if job < needs.job {
         return Admitted::Refused(Refusal::OutputTooShort(needs.job));
     }
@@ -114,7 +114,7 @@ fn fits(p: EnvironmentParameters, job: usize, witness: usize, randomness: usize)
     if randomness < needs.randomness {
         return Admitted::Refused(Refusal::OutputTooShort(needs.randomness));
     }
-    Admitted::Fit(p)
+    Admitted::Fit(params)
 }
 
 // All refusals of a load.
@@ -124,6 +124,6 @@ pub fn admit(g: LabradorParameters, job: usize, witness: usize, randomness: usiz
 {
     match read(g) {
         SectionOne::Refused(refusal) => Admitted::Refused(refusal),
-        SectionOne::Read(p) => fits(p, job, witness, randomness),
+        SectionOne::Read(params) => fits(params, job, witness, randomness),
     }
 }

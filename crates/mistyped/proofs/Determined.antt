@@ -7,11 +7,11 @@ use native.Mathlib.Omega.{arith}
 use borrow.Author.Tests.{eqb-true}
 use lib.Dec.{eqb}
 use lib.ListN.{length}
-use Rattle.definitions.specs.Answer.{Answer, fine, accepted, refused, failed, number, result, _then_}
-use Rattle.protocol.specs.Parameters.{parameters}
-use Rattle.protocol.specs.Views.{public, message}
-use Rattle.protocol.specs.Mistyped.{Entry, judged, some-entry, mistyped, mistyped-list, mistyped-refusal, verdict-of, written, list-need}
-use Rattle.protocol.proofs.MistypedList.{listed-unique}
+use Rattle.spec_leaves.specs.Answer.{Answer, fine, accepted, refused, failed, number, result, _then_}
+use Rattle.spec_protocol.specs.Parameters.{parameters}
+use Rattle.spec_protocol.specs.Views.{public, message}
+use Rattle.spec_protocol.specs.Mistyped.{Entry, judged, some-entry, mistyped, mistyped-list, mistyped-refusal, verdict-of, written, list-need}
+use Rattle.spec_protocol.proofs.MistypedList.{listed-unique}
 use Rattle.mistyped.specs.declared.answers.MistypedAnswer.{MistypedAnswer}
 use Rattle.mistyped.specs.Told.{mistypedAnswer, Mistyped}
 

@@ -6,15 +6,15 @@ use native.Mathlib.Nat.{zero-add}
 use native.Mathlib.Omega.{arith}
 use lib.ListN.{length, drop, replicate, length-replicate, replicate-append-replicate}
 use lib.Seq.{drop-at, drop-append-le}
-use Rattle.lists.specs.Part.{splice}
-use Rattle.lists.proofs.Splice.{splice-eq, splice-nil, length-splice}
-use Rattle.definitions.specs.Answer.{Answer, fine, accepted, refused, failed, number, result}
-use Rattle.protocol.specs.Parameters.{parameters}
-use Rattle.protocol.specs.Views.{public, message}
-use Rattle.protocol.specs.Mistyped.{Entry, Listed, judged, some-entry, verdict-of, entry-words, written, list-need}
-use Rattle.relation.specs.declared.env_params.EnvironmentParameters.{EnvironmentParameters}
+use Rattle.math.specs.lists.Part.{splice}
+use Rattle.math.proofs.lists.Splice.{splice-eq, splice-nil, length-splice}
+use Rattle.spec_leaves.specs.Answer.{Answer, fine, accepted, refused, failed, number, result}
+use Rattle.spec_protocol.specs.Parameters.{parameters}
+use Rattle.spec_protocol.specs.Views.{public, message}
+use Rattle.spec_protocol.specs.Mistyped.{Entry, Listed, judged, some-entry, verdict-of, entry-words, written, list-need}
+use Rattle.relation_env_params.specs.declared.env_params.EnvironmentParameters.{EnvironmentParameters}
 use Rattle.verifier_common.specs.Work.{Sent}
-use Rattle.mistyped_list.proofs.Words.{length-words}
+use Rattle.mistyped_solve.proofs.Words.{length-words}
 use Rattle.mistyped_entries.specs.Entered.{Entered}
 use Rattle.mistyped.specs.declared.answers.MistypedAnswer.{MistypedAnswer}
 use Rattle.mistyped.specs.Told.{mistypedAnswer, countedAnswer, kept, Judged, Worked}
@@ -24,7 +24,7 @@ use Rattle.mistyped.proofs.Verdicts.{Without}
 result-same {ℓ} : {A : Type ℓ} (a : Answer) (x : A) → result a x x ≡ x
 result-same fine x = refl
 result-same (accepted cells) x = refl
-result-same (refused n p) x = refl
+result-same (refused n params) x = refl
 result-same (failed n vs) x = refl
 
 -- what is answered of entries by their number
@@ -52,10 +52,10 @@ module _ (J R T : List ℕ) (list : List ℕ) where
       }
 
   -- a failed 22 with the entries found
-  pub judged-with : {p : EnvironmentParameters} {count : ℕ} {list′ : List ℕ} {vs : List ℕ} → Sent J R T p → failed 22 vs ≡ verdict-of J R T
-      → Entered J R T (p .«constraint_l») list count list′ → (r : MistypedAnswer) → r ≡ countedAnswer count → Judged J R T list list′ r
-  judged-with {p} {count} {list′} {vs} w v e r is =
-      let l : p .«constraint_l» ≡ parameters J .l = ap (λ P. P .l) (w .posed .same) in
+  pub judged-with : {params : EnvironmentParameters} {count : ℕ} {list′ : List ℕ} {vs : List ℕ} → Sent J R T params → failed 22 vs ≡ verdict-of J R T
+      → Entered J R T (params .«constraint_l») list count list′ → (r : MistypedAnswer) → r ≡ countedAnswer count → Judged J R T list list′ r
+  judged-with {params} {count} {list′} {vs} w v e r is =
+      let l : params .«constraint_l» ≡ parameters J .l = ap (λ P. P .l) (w .posed .same) in
       let same : judged (verdict-of J R T) (e .found) ≡ some-entry (e .found) = ap (λ u. judged u (e .found)) (sym v) in
       let all : kept J R T (e .found) ≡ e .found = ap (λ a. result a (e .found) []) same ∙ some-kept (e .found) in
       record {

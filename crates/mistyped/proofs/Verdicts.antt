@@ -6,13 +6,13 @@ use Prim.Native.Nat.{ℕ, _<_}
 use native.Mathlib.Omega.{arith}
 use denote.Enum.Declared.{tagOf}
 use types.Run.{OneOf}
-use Rattle.definitions.proofs.answers.FailedCheck.{the-type}
-use Rattle.definitions.specs.Answer.{Answer, accepted, refused, failed, number, result, ofRefusal, ofFailed}
-use Rattle.definitions.specs.declared.answers.Refusal.{Refusal}
-use Rattle.definitions.specs.declared.answers.Refusal.the-variants as R
-use Rattle.definitions.specs.declared.answers.FailedCheck.{FailedCheck}
-use Rattle.definitions.specs.declared.answers.FailedCheck.the-variants as F
-use Rattle.protocol.specs.Mistyped.{Entry, judged}
+use Rattle.spec_leaves.proofs.answers.FailedCheck.{the-type}
+use Rattle.spec_leaves.specs.Answer.{Answer, accepted, refused, failed, number, result, ofRefusal, ofFailed}
+use Rattle.spec_leaves.specs.declared.answers.Refusal.{Refusal}
+use Rattle.spec_leaves.specs.declared.answers.Refusal.the-variants as R
+use Rattle.spec_leaves.specs.declared.answers.FailedCheck.{FailedCheck}
+use Rattle.spec_leaves.specs.declared.answers.FailedCheck.the-variants as F
+use Rattle.spec_protocol.specs.Mistyped.{Entry, judged}
 
 -- a refusal's number and place
 pub record Numbered (r : Refusal) : Type 0 where

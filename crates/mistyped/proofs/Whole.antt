@@ -5,15 +5,15 @@ use Prim.Native.Nat.{ℕ, _*_, _≤_, _<_}
 use native.Mathlib.Decide.{decLe}
 use native.Mathlib.Omega.{arith}
 use lib.ListN.{length}
-use Rattle.definitions.specs.Answer.{Answer, fine, refused, result, ofRefusal, _then_}
-use Rattle.definitions.specs.declared.answers.Refusal.{Refusal}
-use Rattle.protocol.specs.Checks.{require}
-use Rattle.protocol.specs.Parameters.{parameters}
-use Rattle.protocol.specs.Layout.{scratch-need}
-use Rattle.protocol.specs.Prover.{zeroed}
-use Rattle.protocol.specs.Verifier.{verify-refusal}
-use Rattle.protocol.specs.Mistyped.{list-need, mistyped-refusal, mistyped, mistyped-list, mistyped-scratch, judged, verdict-of, written}
-use Rattle.protocol.proofs.Fine.{require-holds, require-fails, refused-not-fine}
+use Rattle.spec_leaves.specs.Answer.{Answer, fine, refused, result, ofRefusal, _then_}
+use Rattle.spec_leaves.specs.declared.answers.Refusal.{Refusal}
+use Rattle.spec_protocol.specs.Checks.{require}
+use Rattle.spec_protocol.specs.Parameters.{parameters}
+use Rattle.spec_protocol.specs.Layout.{scratch-need}
+use Rattle.spec_protocol.specs.Prover.{zeroed}
+use Rattle.spec_protocol.specs.Verifier.{verify-refusal}
+use Rattle.spec_protocol.specs.Mistyped.{list-need, mistyped-refusal, mistyped, mistyped-list, mistyped-scratch, judged, verdict-of, written}
+use Rattle.spec_protocol.proofs.Fine.{require-holds, require-fails, refused-not-fine}
 use Rattle.mistyped.specs.declared.answers.MistypedAnswer.{MistypedAnswer}
 use Rattle.mistyped.specs.Told.{mistypedAnswer, kept, Worked, Mistyped}
 use Rattle.mistyped.proofs.Verdicts.{numbered}

@@ -3,12 +3,12 @@ use mathlib.Core.Path.{_≡_}
 use mathlib.Core.List.{List, []}
 use Prim.Native.Nat.{ℕ, zero, suc, _≤_}
 use lib.ListN.{length}
-use Rattle.lists.specs.Part.{splice}
-use Rattle.definitions.specs.Answer.{Answer, fine, refused, number, place, result}
-use Rattle.protocol.specs.Parameters.{parameters}
-use Rattle.protocol.specs.Views.{public, message}
-use Rattle.protocol.specs.Mistyped as M
-use Rattle.protocol.specs.Mistyped.{Entry, Listed, mistyped-refusal, mistyped-list, verdict-of, judged, written, entry-words, list-need}
+use Rattle.math.specs.lists.Part.{splice}
+use Rattle.spec_leaves.specs.Answer.{Answer, fine, refused, number, place, result}
+use Rattle.spec_protocol.specs.Parameters.{parameters}
+use Rattle.spec_protocol.specs.Views.{public, message}
+use Rattle.spec_protocol.specs.Mistyped as M
+use Rattle.spec_protocol.specs.Mistyped.{Entry, Listed, mistyped-refusal, mistyped-list, mistyped-scratch, verdict-of, judged, written, entry-words, list-need}
 use Rattle.mistyped.specs.declared.answers.MistypedAnswer.{MistypedAnswer}
 
 -- a refusal's number and place, or how many entries there are: "the answer gives how many entries there are"
@@ -50,3 +50,10 @@ pub record Mistyped (J R T : List ℕ) (scratch : ℕ) (list list′ : List ℕ)
   pub asked : mistyped-refusal J R T scratch (length list) ≡ fine → Asked J R T found
   pub answer : r ≡ mistypedAnswer (M.mistyped J R T scratch (length list) found) (length found)
   pub words : list′ ≡ mistyped-list J R T scratch list found
+
+-- `labrador_mistyped`; names that end in ′ are buffers at exit
+pub record MistypedCall (J R T scratch list scratch′ list′ : List ℕ) (r : MistypedAnswer) : Type 0 where
+  -- what is answered, and the list at exit
+  pub told : Mistyped J R T (length scratch) list list′ r
+  -- the scratch at exit
+  pub scratch-left : scratch′ ≡ mistyped-scratch J R T scratch (length list)

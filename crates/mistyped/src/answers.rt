@@ -1,8 +1,8 @@
 // What the call answers.
-use call_answers::numbers::number_of;
-use definitions::answers::Refusal;
+use api_answers::numbers::number_of;
+use spec_leaves::answers::Refusal;
 ghost use mathlib.Core.Path.{_≡_};
-ghost use Rattle.definitions.specs.Answer.{refused as refusal, ofRefusal};
+ghost use Rattle.spec_leaves.specs.Answer.{refused as refusal, ofRefusal};
 ghost use Rattle.mistyped.specs.Told.{mistypedAnswer, countedAnswer};
 
 // A refusal's number and place, or 0 and 0 with the number of entries in the list.

@@ -7,26 +7,26 @@ use native.Mathlib.Nat.{eq-or-lt-of-le, le-of-suc-le-suc}
 use native.Mathlib.Numerals.{add-one}
 use native.Mathlib.Omega.{arith}
 use lib.ListN.{length, getD}
-use Rattle.lists.specs.Part.{splice}
-use Rattle.lists.proofs.Splice.{length-splice, splice-nil}
-use Rattle.lists.proofs.Padded.{padded-below}
-use Rattle.definitions.specs.Zq.{Q}
-use Rattle.protocol.specs.Parameters.{parameters}
-use Rattle.protocol.specs.Layout.{start, randomness-sections}
-use Rattle.protocol.specs.Views.{Public, Message, public, message}
-use Rattle.protocol.specs.Mistyped.{Entry, Ordered, Listed, Mends, Smallest, entry-words}
-use Rattle.protocol.proofs.Mistyped as Mistyped
-use Rattle.protocol.proofs.Mistyped.{passes-supplies, supplies-passes}
-use Rattle.protocol.proofs.MistypedList.{before-other}
-use Rattle.relation.specs.declared.env_params.EnvironmentParameters.{EnvironmentParameters}
-use Rattle.relation.specs.Parameters.{parametersOf}
-use Rattle.congruence.specs.declared.Solution.{Solution}
-use Rattle.congruence.specs.declared.Solution.the-variants as S
-use Rattle.congruence.specs.Congruence.{Found}
-use Rattle.mistyped_rows.specs.Rows.{Supplies}
-use Rattle.mistyped_list.specs.Insert.{entry, insert}
-use Rattle.mistyped_list.proofs.Inserted.{length-insert, insert-from, insert-to, insert-ordered}
-use Rattle.mistyped_list.proofs.Words.{insert-stored}
+use Rattle.math.specs.lists.Part.{splice}
+use Rattle.math.proofs.lists.Splice.{length-splice, splice-nil}
+use Rattle.math.proofs.lists.Padded.{padded-below}
+use Rattle.spec_leaves.specs.Zq.{Q}
+use Rattle.spec_protocol.specs.Parameters.{parameters}
+use Rattle.spec_protocol.specs.Layout.{start, randomness-sections}
+use Rattle.spec_protocol.specs.Views.{Public, Message, public, message}
+use Rattle.spec_protocol.specs.Mistyped.{Entry, Ordered, Listed, Mends, Smallest, entry-words}
+use Rattle.spec_protocol.proofs.Mistyped as Mistyped
+use Rattle.spec_protocol.proofs.Mistyped.{passes-supplies, supplies-passes}
+use Rattle.spec_protocol.proofs.MistypedList.{before-other}
+use Rattle.relation_env_params.specs.declared.env_params.EnvironmentParameters.{EnvironmentParameters}
+use Rattle.relation_env_params.specs.Parameters.{parametersOf}
+use Rattle.mistyped_solve.specs.declared.congruence.Solution.{Solution}
+use Rattle.mistyped_solve.specs.declared.congruence.Solution.the-variants as S
+use Rattle.mistyped_solve.specs.Congruence.{Found}
+use Rattle.mistyped_solve.specs.Rows.{Supplies}
+use Rattle.mistyped_solve.specs.Insert.{entry, insert}
+use Rattle.mistyped_solve.proofs.Inserted.{length-insert, insert-from, insert-to, insert-ordered}
+use Rattle.mistyped_solve.proofs.Words.{insert-stored}
 use Rattle.verifier_common.specs.Work.{Sent}
 use Rattle.mistyped_entries.specs.Lacking.{all-lacking}
 use Rattle.mistyped_entries.specs.Entered.{entered-count, entered-list, Entered}
@@ -95,8 +95,8 @@ module _ (X : Public) (M : Message) where
             go (inr l) = let a = p .all j y l m in (a .0, insert-to (entry i x) es (entry j (a .0)) (inr (a .1)))
 
 -- what is found of the rows is found of what mends
-module _ {J R T : List ℕ} {p : EnvironmentParameters} (w : Sent J R T p) (psi : ℕ) (at : psi ≡ start (randomness-sections (parametersOf p)) 1)
-    (i : ℕ) (h : i < p .«constraint_l») where
+module _ {J R T : List ℕ} {params : EnvironmentParameters} (w : Sent J R T params) (psi : ℕ) (at : psi ≡ start (randomness-sections (parametersOf params)) 1)
+    (i : ℕ) (h : i < params .«constraint_l») where
   -- the public values and the message
   abbrev X : Public
   X = public J R
@@ -110,10 +110,10 @@ module _ {J R T : List ℕ} {p : EnvironmentParameters} (w : Sent J R T p) (psi 
 
   -- the rows' words and what they lack
   abbrev RowsGive : ℕ → Type 0
-  RowsGive = Supplies R (psi + i) (p .«constraint_l») (all-lacking J R T (p .«const_agg_length»)) (p .«const_agg_length»)
+  RowsGive = Supplies R (psi + i) (params .«constraint_l») (all-lacking J R T (params .«const_agg_length»)) (params .«const_agg_length»)
 
   -- a weight of row k at its place
-  weight : (k : ℕ) → getD R (psi + i + k * p .«constraint_l») 0 ≡ X .psi k i
+  weight : (k : ℕ) → getD R (psi + i + k * params .«constraint_l») 0 ≡ X .psi k i
   weight k =
       ap₂ (λ a l. getD R (a + i + k * l) 0) (at ∙ ap (λ P. start (randomness-sections P) 1) (w .posed .same)) (ap (λ P. P .l) (w .posed .same))
       ∙ ap (λ n. getD R n 0) (order (start (randomness-sections (parameters J)) 1) i (k * parameters J .l))
@@ -122,13 +122,13 @@ module _ {J R T : List ℕ} {p : EnvironmentParameters} (w : Sent J R T p) (psi 
       order a i m = omega arith
 
   -- what row k lacks, in its place
-  lack : (k : ℕ) → k < p .«const_agg_length» → p .«const_agg_length» ≤ 32 → getD (all-lacking J R T (p .«const_agg_length»)) k 0 ≡ Mistyped.lacking X M k
-  lack k g few = padded-below 32 0 (Mistyped.lacking X M) (p .«const_agg_length») k (omega arith) g
+  lack : (k : ℕ) → k < params .«const_agg_length» → params .«const_agg_length» ≤ 32 → getD (all-lacking J R T (params .«const_agg_length»)) k 0 ≡ Mistyped.lacking X M k
+  lack k g few = padded-below 32 0 (Mistyped.lacking X M) (params .«const_agg_length») k (omega arith) g
 
-  module _ (few : p .«const_agg_length» ≤ 32) where
+  module _ (few : params .«const_agg_length» ≤ 32) where
     give-supplies : (x : ℕ) → RowsGive x → Mistyped.Supplies X M i x
     give-supplies x f k g =
-        let m : k < p .«const_agg_length» = subst (λ n. k < n) (sym (rows-are w)) g in
+        let m : k < params .«const_agg_length» = subst (λ n. k < n) (sym (rows-are w)) g in
         ap (λ v. (v * x) % Q) (sym (weight k)) ∙ f k m ∙ lack k m few
 
     supplies-give : (x : ℕ) → Mistyped.Supplies X M i x → RowsGive x

@@ -3,13 +3,13 @@ use mathlib.Core.Path.{_≡_}
 use mathlib.Core.List.{List}
 use Prim.Native.Nat.{ℕ, suc, _≤_}
 use lib.ListN.{length}
-use Rattle.lists.specs.Part.{splice}
-use Rattle.protocol.specs.Parameters.{parameters}
-use Rattle.protocol.specs.Views.{public, message}
-use Rattle.protocol.specs.Mistyped.{Entry, Listed, entry-words}
-use Rattle.congruence.specs.declared.Solution.{Solution}
-use Rattle.congruence.specs.declared.Solution.the-variants as S
-use Rattle.mistyped_list.specs.Insert.{entry, entries, insert}
+use Rattle.math.specs.lists.Part.{splice}
+use Rattle.spec_protocol.specs.Parameters.{parameters}
+use Rattle.spec_protocol.specs.Views.{public, message}
+use Rattle.spec_protocol.specs.Mistyped.{Entry, Listed, entry-words}
+use Rattle.mistyped_solve.specs.declared.congruence.Solution.{Solution}
+use Rattle.mistyped_solve.specs.declared.congruence.Solution.the-variants as S
+use Rattle.mistyped_solve.specs.Insert.{entry, entries, insert}
 
 -- how many entries there are after an index
 abbrev pub entered-count : Solution → ℕ → ℕ

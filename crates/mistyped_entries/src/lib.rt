@@ -1,9 +1,12 @@
 // The entries of the list of indexes at which check 22 can be mended (document 02, Item 8).
-use congruence::Solution;
-use relation::env_params::EnvironmentParameters;
-use sizes::offsets;
+use layout_sizes::names;
+use layout_sizes::offsets;
+use mistyped_solve::congruence::Solution;
+use mistyped_solve::list;
+use mistyped_solve::rows;
+use relation_env_params::env_params::EnvironmentParameters;
+use ring_zq::zq::Zq;
 use verifier_constant_terms::constant_terms;
-use zq::zq::Zq;
 ghost use mathlib.Core.Path.{_≡_};
 ghost use Prim.Native.Nat.{_+_, _*_, _≤_, _<_};
 ghost use lib.ListN.{length};
@@ -16,18 +19,18 @@ fn row_lacking(
     job: &[u32],
     randomness: &[u32],
     transcript: &[u32],
-    p: EnvironmentParameters,
+    params: EnvironmentParameters,
     k: usize,
 ) -> u32
-    requires { ⌜ Sent (now job) (now randomness) (now transcript) p × (k < p .«const_agg_length») ⌝ }
+    requires { ⌜ Sent (now job) (now randomness) (now transcript) params × (k < params .«const_agg_length») ⌝ }
     ensures { λ r. ⌜ r ≡ lacking (now (job .entry)) (now (randomness .entry)) (now (transcript .entry)) k ⌝ }
 {
-    let l = p.constraint_l;
-    let b0 = offsets::of_job(p, 2);
-    let psi = offsets::of_randomness(p, 1);
-    let omega = offsets::of_randomness(p, 2);
-    let projection = offsets::of_transcript(p, 1);
-    let at = offsets::of_transcript(p, 2);
+    let l = params.constraint_l;
+    let b0 = offsets::of_job(params, names::CONSTANT_B);
+    let psi = offsets::of_randomness(params, names::PSI);
+    let omega = offsets::of_randomness(params, names::OMEGA);
+    let projection = offsets::of_transcript(params, names::P);
+    let at = offsets::of_transcript(params, names::B_DOUBLE_PRIME);
     let sent = transcript[at + 64 * k];
     let computed = constant_terms::constant_term(
         job,
@@ -47,15 +50,15 @@ fn rows_lacking(
     job: &[u32],
     randomness: &[u32],
     transcript: &[u32],
-    p: EnvironmentParameters,
+    params: EnvironmentParameters,
 ) -> [u32; 32]
-    requires { ⌜ Sent (now job) (now randomness) (now transcript) p ⌝ }
-    ensures { λ r. ⌜ r ≡ all-lacking (now (job .entry)) (now (randomness .entry)) (now (transcript .entry)) (p .«const_agg_length») ⌝ }
+    requires { ⌜ Sent (now job) (now randomness) (now transcript) params ⌝ }
+    ensures { λ r. ⌜ r ≡ all-lacking (now (job .entry)) (now (randomness .entry)) (now (transcript .entry)) (params .«const_agg_length») ⌝ }
 {
     let mut rows = [0u32; 32];
     let mut k = 0;
-    while k < p.const_agg_length {
-        rows[k] = row_lacking(job, randomness, transcript, p, k);
+    while k < params.const_agg_length {
+        rows[k] = row_lacking(job, randomness, transcript, params, k);
         k += 1;
     }
     rows
@@ -69,7 +72,7 @@ fn enter(list: &mut [u32], count: usize, index: u32, found: Solution) -> usize
 {
     match found {
         Solution::Number(number) => {
-            mistyped_list::insert(list, count, index, number);
+            list::insert(list, count, index, number);
             count + 1
         }
         Solution::None => count,
@@ -81,19 +84,19 @@ pub fn enter_all(
     job: &[u32],
     randomness: &[u32],
     transcript: &[u32],
-    p: EnvironmentParameters,
+    params: EnvironmentParameters,
     list: &mut [u32],
 ) -> usize
-    requires { ⌜ Sent (now job) (now randomness) (now transcript) p × (2 * p .«constraint_l» ≤ length (now list)) ⌝ }
-    ensures { λ r. ⌜ Entered (now (job .entry)) (now (randomness .entry)) (now (transcript .entry)) (p .«constraint_l») (now (list .entry)) r (now (list .exit)) ⌝ }
+    requires { ⌜ Sent (now job) (now randomness) (now transcript) params × (2 * params .«constraint_l» ≤ length (now list)) ⌝ }
+    ensures { λ r. ⌜ Entered (now (job .entry)) (now (randomness .entry)) (now (transcript .entry)) (params .«constraint_l») (now (list .entry)) r (now (list .exit)) ⌝ }
 {
-    let rows = rows_lacking(job, randomness, transcript, p);
-    let psi = offsets::of_randomness(p, 1);
-    let l = p.constraint_l;
+    let rows = rows_lacking(job, randomness, transcript, params);
+    let psi = offsets::of_randomness(params, names::PSI);
+    let l = params.constraint_l;
     let mut count = 0;
     let mut i = 0;
     while i < l {
-        let found = mistyped_rows::smallest_for(randomness, psi + i, l, rows, p.const_agg_length);
+        let found = rows::smallest_for(randomness, psi + i, l, rows, params.const_agg_length);
         count = enter(list, count, i as u32, found);
         i += 1;
     }

@@ -3,7 +3,7 @@ use mathlib.Core.Path.{_≡_, sym, ap, _∙_}
 use Prim.Native.Nat.{ℕ, _+_, _-_, _*_, _/_, _%_, _≤_, _<_, _^_}
 use native.Mathlib.Nat.{mul-le-mul, mul-assoc, mul-comm, mul-zero, add-mul, add-mod-mod, div-add-mod', mod-eq-of-lt, add-mul-mod-self-right}
 use native.Mathlib.Omega.{arith}
-use Rattle.definitions.proofs.Modulo.{mul-mod-first, mul-mod-second}
+use Rattle.spec_leaves.proofs.Modulo.{mul-mod-first, mul-mod-second}
 use Rattle.ntt_layers.specs.Fold.{prime, fold, reduced, montgomery, Opposite, inverse32}
 use Rattle.ntt_layers.specs.Words.{reducedSum}
 use Rattle.ntt_layers.proofs.Residues.{Below, res, res-less}
@@ -13,8 +13,8 @@ pub prime-pos : (d : ℕ) → d ≤ 2175 → 0 < prime d
 prime-pos d h = omega arith
 
 -- a factor of at most h and d of at most 2175
-pub product-bound : (q h d : ℕ) → q ≤ h → d ≤ 2175 → q * d ≤ h * 2175
-product-bound q h d l s = mul-le-mul l s
+pub product-bound : (neginv h d : ℕ) → neginv ≤ h → d ≤ 2175 → neginv * d ≤ h * 2175
+product-bound neginv h d l s = mul-le-mul l s
 
 -- a number with at most h above bit 27
 pub fold-bound : (d z h : ℕ) → d ≤ 2175 → z / 134217728 ≤ h → fold d z ≤ h * 2175 + 134217727
@@ -43,8 +43,8 @@ module _ (d : ℕ) (small : d ≤ 2175) (pos : 0 < prime d) where
   unfolding fold
   fold-taken z = let e : prime d + d ≡ 134217728 = omega arith in sums (z / 134217728) (z % 134217728) (prime d) e ∙ div-add-mod' z 134217728
     where
-      sums : (q r p : ℕ) → p + d ≡ 134217728 → q * d + r + q * p ≡ q * 134217728 + r
-      sums q r p e = omega (arith, ap (λ x. q * x) e)
+      sums : (neginv r p : ℕ) → p + d ≡ 134217728 → neginv * d + r + neginv * p ≡ neginv * 134217728 + r
+      sums neginv r p e = omega (arith, ap (λ x. neginv * x) e)
 
   pub res-fold : (z : ℕ) → res (prime d) pos (fold d z) ≡ res (prime d) pos z
   res-fold z = res-less (prime d) pos (fold d z) z (z / 134217728) (fold-taken z)
@@ -61,65 +61,67 @@ module _ (d : ℕ) (small : d ≤ 2175) (pos : 0 < prime d) where
       res-reduced-is (s / 4294967296 * (32 * d) + s % 4294967296)
       ∙ res-less (prime d) pos (s / 4294967296 * (32 * d) + s % 4294967296) s (s / 4294967296 * 32) (sums (s / 4294967296) (s % 4294967296) (prime d) e ∙ div-add-mod' s 4294967296)
     where
-      sums : (q r p : ℕ) → p + d ≡ 134217728 → q * (32 * d) + r + q * 32 * p ≡ q * 4294967296 + r
-      sums q r p e = omega (arith, ap (λ x. q * x) e)
+      sums : (neginv r p : ℕ) → p + d ≡ 134217728 → neginv * (32 * d) + r + neginv * 32 * p ≡ neginv * 4294967296 + r
+      sums neginv r p e = omega (arith, ap (λ x. neginv * x) e)
 
 -- the bound of a sum reduced
 pub sum-bound : (d s : ℕ) → d ≤ 2175 → s < 2 ^ 64 → reducedSum d s ≤ 285600000
 unfolding reducedSum
 sum-bound d s h l =
-    let q : s / 4294967296 ≤ 4294967295 = omega arith in
-    reduced-bound d (s / 4294967296 * (32 * d) + s % 4294967296) h (omega (arith, product-bound (s / 4294967296) 4294967295 d q h))
+    let neginv : s / 4294967296 ≤ 4294967295 = omega arith in
+    reduced-bound d (s / 4294967296 * (32 * d) + s % 4294967296) h (omega (arith, product-bound (s / 4294967296) 4294967295 d neginv h))
 
 -- what is left once multiples of p are taken off is the remainder
-pub rest-is : (r p rest q : ℕ) → rest + q * p ≡ r → rest < p → rest ≡ r % p
-rest-is r p rest q t l = sym (mod-eq-of-lt l) ∙ sym (add-mul-mod-self-right rest q p) ∙ ap (λ x. x % p) t
+pub rest-is : (r p rest neginv : ℕ) → rest + neginv * p ≡ r → rest < p → rest ≡ r % p
+rest-is r p rest neginv t l = sym (mod-eq-of-lt l) ∙ sym (add-mul-mod-self-right rest neginv p) ∙ ap (λ x. x % p) t
 
 -- a number folded twice has its remainder
 pub reduced-mod : (d z : ℕ) → d ≤ 2175 → reduced d z % prime d ≡ z % prime d
 reduced-mod d z s = ap (λ (x : Below (prime d)). x .0) (res-reduced-is d s (prime-pos d s) z)
 
 -- 2^32 divided out of a number below 2^59
-pub montgomery-bound : (d q z : ℕ) → d ≤ 2175 → z < 576460752303423488 → montgomery d q z ≤ 285600000
+pub montgomery-bound : (d neginv z : ℕ) → d ≤ 2175 → z < 576460752303423488 → montgomery d neginv z ≤ 285600000
 unfolding montgomery
-montgomery-bound d q z s l =
-    let m : z * q % 4294967296 ≤ 4294967295 = omega arith in
+montgomery-bound d neginv z s l =
+    let m : z * neginv % 4294967296 ≤ 4294967295 = omega arith in
     let p : prime d ≤ 134217728 = omega arith in
-    let b : z * q % 4294967296 * prime d ≤ 4294967295 * 134217728 = mul-le-mul m p in
+    let b : z * neginv % 4294967296 * prime d ≤ 4294967295 * 134217728 = mul-le-mul m p in
     omega arith
 
-module _ (d q : ℕ) (opposite : Opposite d q) where
+module _ (d neginv : ℕ) (opposite : Opposite d neginv) where
   -- 2^32 and its inverse
-  pub inverse32-is : inverse32 d q * 4294967296 ≡ q * prime d + 1
-  inverse32-is = omega (arith, div-add-mod' (q * prime d + 1) 4294967296)
+  pub inverse32-is : inverse32 d neginv * 4294967296 ≡ neginv * prime d + 1
+  inverse32-is = omega (arith, div-add-mod' (neginv * prime d + 1) 4294967296)
 
   -- the multiple of the prime makes a multiple of 2^32
-  whole : (z : ℕ) → (z + z * q % 4294967296 * prime d) % 4294967296 ≡ 0
+  whole : (z : ℕ) → (z + z * neginv % 4294967296 * prime d) % 4294967296 ≡ 0
   whole z =
-      sym (add-mod-mod z (z * q % 4294967296 * prime d) 4294967296)
-      ∙ ap (λ x. (z + x) % 4294967296) (mul-mod-first 4294967296 (z * q) (prime d))
-      ∙ add-mod-mod z (z * q * prime d) 4294967296
-      ∙ ap (λ x. x % 4294967296) (order z q (prime d))
-      ∙ sym (mul-mod-second 4294967296 z (q * prime d + 1))
+      sym (add-mod-mod z (z * neginv % 4294967296 * prime d) 4294967296)
+      ∙ ap (λ x. (z + x) % 4294967296) (mul-mod-first 4294967296 (z * neginv) (prime d))
+      ∙ add-mod-mod z (z * neginv * prime d) 4294967296
+      ∙ ap (λ x. x % 4294967296) (order z neginv (prime d))
+      ∙ sym (mul-mod-second 4294967296 z (neginv * prime d + 1))
       ∙ ap (λ x. z * x % 4294967296) opposite
       ∙ ap (λ x. x % 4294967296) (mul-zero z)
     where
-      order : (z q p : ℕ) → z + z * q * p ≡ z * (q * p + 1)
-      order z q p = omega (arith, mul-assoc z q p)
+      order : (z neginv p : ℕ) → z + z * neginv * p ≡ z * (neginv * p + 1)
+      order z neginv p = omega (arith, mul-assoc z neginv p)
 
-  montgomery-is : (z : ℕ) → montgomery d q z * 4294967296 ≡ z + z * q % 4294967296 * prime d
+  montgomery-is : (z : ℕ) → montgomery d neginv z * 4294967296 ≡ z + z * neginv % 4294967296 * prime d
   unfolding montgomery
-  montgomery-is z = omega (arith, div-add-mod' (z + z * q % 4294967296 * prime d) 4294967296, whole z)
+  montgomery-is z = omega (arith, div-add-mod' (z + z * neginv % 4294967296 * prime d) 4294967296, whole z)
 
   -- the number times the inverse of 2^32
-  pub res-montgomery : (pos : 0 < prime d) (z : ℕ) → res (prime d) pos (montgomery d q z) ≡ res (prime d) pos (z * inverse32 d q)
+  pub res-montgomery : (pos : 0 < prime d) (z : ℕ) → res (prime d) pos (montgomery d neginv z) ≡ res (prime d) pos (z * inverse32 d neginv)
   res-montgomery pos z =
-      res-less (prime d) pos (montgomery d q z) (montgomery d q z * (q * prime d + 1)) (montgomery d q z * q) (more (montgomery d q z) q (prime d))
-      ∙ ap (res (prime d) pos) (ap (λ x. montgomery d q z * x) (sym inverse32-is) ∙ turn (montgomery d q z) (inverse32 d q) 4294967296 ∙ ap (λ x. x * inverse32 d q) (montgomery-is z))
-      ∙ sym (res-less (prime d) pos (z * inverse32 d q) ((z + z * q % 4294967296 * prime d) * inverse32 d q) (z * q % 4294967296 * inverse32 d q) (apart z (z * q % 4294967296) (prime d) (inverse32 d q)))
+      res-less (prime d) pos (montgomery d neginv z) (montgomery d neginv z * (neginv * prime d + 1)) (montgomery d neginv z * neginv) (more (montgomery d neginv z) neginv (prime d))
+      ∙ ap (res (prime d) pos) (ap (λ x. montgomery d neginv z * x) (sym inverse32-is) ∙ turn (montgomery d neginv z) (inverse32 d neginv) 4294967296
+      ∙ ap (λ x. x * inverse32 d neginv) (montgomery-is z))
+      ∙ sym (res-less (prime d) pos (z * inverse32 d neginv) ((z + z * neginv % 4294967296 * prime d) * inverse32 d neginv) (z * neginv % 4294967296 * inverse32 d neginv)
+      (apart z (z * neginv % 4294967296) (prime d) (inverse32 d neginv)))
     where
-      more : (m q p : ℕ) → m + m * q * p ≡ m * (q * p + 1)
-      more m q p = omega (arith, mul-assoc m q p)
+      more : (m neginv p : ℕ) → m + m * neginv * p ≡ m * (neginv * p + 1)
+      more m neginv p = omega (arith, mul-assoc m neginv p)
 
       turn : (m i w : ℕ) → m * (i * w) ≡ m * w * i
       turn m i w = ap (λ x. m * x) (mul-comm i w) ∙ sym (mul-assoc m w i)

@@ -10,9 +10,9 @@ use borrow.Author.Tests.{lt-ltb, le-ltb}
 use lib.Dec.{ltb}
 use lib.ListN.{length, getD, set, length-set, replicate}
 use lib.Seq.{getD-set-same, getD-set-other}
-use Rattle.lists.specs.Table.{table, padded}
-use Rattle.lists.proofs.Table.{length-table, getD-table, table-ext, is-table}
-use Rattle.lists.proofs.Padded.{padded-none}
+use Rattle.math.specs.lists.Table.{table, padded}
+use Rattle.math.proofs.lists.Table.{length-table, getD-table, table-ext, is-table}
+use Rattle.math.proofs.lists.Padded.{padded-none}
 
 -- entry k where the first t of each half are done
 abbrev pub halfAt : (ℕ → ℕ) → ℕ → ℕ → ℕ
@@ -46,8 +46,8 @@ halves-next f l t a b e h ea eb =
     done k l = sym (ap (λ c. cond c (f k) 0) (lt-ltb (k % 32) (t + 1) l))
 
     same : (k : ℕ) → Dec (k % 32 < t) → k < 64 → k ≢ t → k ≢ t + 32 → halfAt f t k ≡ halfAt f (t + 1) k
-    same k (yes l) m p q = ap (λ c. cond c (f k) 0) (lt-ltb (k % 32) t l) ∙ done k (omega arith)
-    same k (no l) m p q = ap (λ c. cond c (f k) 0) (le-ltb (k % 32) t (omega arith)) ∙ sym (ap (λ c. cond c (f k) 0) (le-ltb (k % 32) (t + 1) (omega arith)))
+    same k (yes l) m p neginv = ap (λ c. cond c (f k) 0) (lt-ltb (k % 32) t l) ∙ done k (omega arith)
+    same k (no l) m p neginv = ap (λ c. cond c (f k) 0) (le-ltb (k % 32) t (omega arith)) ∙ sym (ap (λ c. cond c (f k) 0) (le-ltb (k % 32) (t + 1) (omega arith)))
 
     first : (k : ℕ) → k ≡ t → getD (set (set l t a) (t + 32) b) k 0 ≡ halfAt f (t + 1) k
     first k p =
@@ -67,6 +67,6 @@ halves-next f l t a b e h ea eb =
         ∙ done k (omega arith)
 
     at : (k : ℕ) → k < 64 → Dec (k ≡ t) → Dec (k ≡ t + 32) → getD (set (set l t a) (t + 32) b) k 0 ≡ halfAt f (t + 1) k
-    at k m (yes p) q = first k p
-    at k m (no p) (yes q) = second k q
-    at k m (no p) (no q) = getD-set-other (set l t a) (t + 32) k b 0 q ∙ getD-set-other l t k a 0 p ∙ before k m ∙ same k (decLt (k % 32) t) m p q
+    at k m (yes p) neginv = first k p
+    at k m (no p) (yes neginv) = second k neginv
+    at k m (no p) (no neginv) = getD-set-other (set l t a) (t + 32) k b 0 neginv ∙ getD-set-other l t k a 0 p ∙ before k m ∙ same k (decLt (k % 32) t) m p neginv

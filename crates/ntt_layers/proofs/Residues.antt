@@ -4,10 +4,10 @@ use mathlib.Core.HLevel.{Σ-set, Σ-prop-path, prop→set}
 use Prim.Native.Nat.{ℕ, zero, suc, _+_, _-_, _*_, _%_, _<_}
 use native.Mathlib.Nat as Nat
 use native.Mathlib.Bridge.{le-prop}
-use Rattle.lists.specs.Sum.{Σ}
-use Rattle.algebra.specs.Ops.{Ops, sum}
-use Rattle.algebra.proofs.Ring.{CRing, eq-sub}
-use Rattle.definitions.proofs.Modulo.{mul-mod-first, mul-mod-second, mul-mod-both}
+use Rattle.math.specs.lists.Sum.{Σ}
+use Rattle.math.specs.algebra.Ops.{Ops, sum}
+use Rattle.math.proofs.algebra.Ring.{CRing, eq-sub}
+use Rattle.spec_leaves.proofs.Modulo.{mul-mod-first, mul-mod-second, mul-mod-both}
 
 -- a number below m
 abbrev pub Below : ℕ → Type 0
@@ -56,8 +56,8 @@ module _ (m : ℕ) (pos : 0 < m) where
   res-reduced a = res-mod (a % m) a (Nat.mod-mod a m)
 
   -- multiples of m may be left out
-  pub res-less : (a b q : ℕ) → a + q * m ≡ b → res m pos a ≡ res m pos b
-  res-less a b q e = res-mod a b (sym (Nat.add-mul-mod-self-right a q m) ∙ ap (λ x. x % m) e)
+  pub res-less : (a b neginv : ℕ) → a + neginv * m ≡ b → res m pos a ≡ res m pos b
+  res-less a b neginv e = res-mod a b (sym (Nat.add-mul-mod-self-right a neginv m) ∙ ap (λ x. x % m) e)
 
   -- sums
   pub res-add : (a b : ℕ) → res m pos (a + b) ≡ ModOps m pos .add (res m pos a) (res m pos b)
@@ -68,8 +68,8 @@ module _ (m : ℕ) (pos : 0 < m) where
   res-mul a b = res-path _ _ (sym (mul-mod-both m a b))
 
   -- differences: y = x − v, with multiples of m added
-  pub res-sub : (x v y q : ℕ) → y + v ≡ x + q * m → res m pos y ≡ ModOps m pos .add (res m pos x) (ModOps m pos .neg (res m pos v))
-  res-sub x v y q e = eq-sub (ModOps m pos) mod-ring (res m pos y) (res m pos v) (res m pos x) (sym (res-add y v) ∙ sym (res-less x (y + v) q (sym e)))
+  pub res-sub : (x v y neginv : ℕ) → y + v ≡ x + neginv * m → res m pos y ≡ ModOps m pos .add (res m pos x) (ModOps m pos .neg (res m pos v))
+  res-sub x v y neginv e = eq-sub (ModOps m pos) mod-ring (res m pos y) (res m pos v) (res m pos x) (sym (res-add y v) ∙ sym (res-less x (y + v) neginv (sym e)))
 
   -- finite sums
   pub res-Σ : (n : ℕ) (f : ℕ → ℕ) → res m pos (Σ n f) ≡ sum (ModOps m pos) n (λ i. res m pos (f i))

@@ -16,12 +16,12 @@ reduced d z = fold d (fold d z)
 
 -- 2^32 divided out (Montgomery): with the multiple of the prime added that makes z a multiple of 2^32
 unfoldable pub montgomery : ℕ → ℕ → ℕ → ℕ
-montgomery d q z = (z + z * q % 4294967296 * prime d) / 4294967296
+montgomery d neginv z = (z + z * neginv % 4294967296 * prime d) / 4294967296
 
--- q is minus the prime's inverse modulo 2^32
+-- `neginv` is minus the prime's inverse modulo 2^32
 abbrev pub Opposite : ℕ → ℕ → Type 0
-Opposite d q = (q * prime d + 1) % 4294967296 ≡ 0
+Opposite d neginv = (neginv * prime d + 1) % 4294967296 ≡ 0
 
 -- then this is the inverse of 2^32 modulo the prime
 abbrev pub inverse32 : ℕ → ℕ → ℕ
-inverse32 d q = (q * prime d + 1) / 4294967296
+inverse32 d neginv = (neginv * prime d + 1) / 4294967296

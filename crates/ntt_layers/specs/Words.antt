@@ -2,7 +2,7 @@
 use mathlib.Core.List.{List}
 use Prim.Native.Nat.{ℕ, _+_, _*_, _/_, _%_, _≤_, _<_}
 use lib.ListN.{getD}
-use Rattle.lists.specs.Table.{table}
+use Rattle.math.specs.lists.Table.{table}
 use Rattle.ntt_layers.specs.Fold.{prime, fold, reduced}
 
 -- each of 64 entries is below three times the prime

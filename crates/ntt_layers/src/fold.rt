@@ -1,5 +1,5 @@
 // Reduction modulo a prime 2^27 − d without division: by 2^27 = d, and Montgomery's of a product.
-use zq::wide::wide;
+use ring_zq::wide::wide;
 ghost use mathlib.Core.Path.{_≡_};
 ghost use Prim.Native.Nat.{_+_, _*_, _%_, _≤_, _<_, _^_};
 ghost use Rattle.ntt_layers.specs.Fold.{prime, fold, reduced, montgomery, Opposite};
@@ -57,10 +57,10 @@ pub fn remainder(z: u64, d: u64) -> u64
 }
 
 // 2^32 divided out (Montgomery's reduction), below three times the prime.
-pub fn montgomery(z: u64, d: u64, q: u64) -> u64
-    requires { ⌜ (z < 2 ^ 59) × (d ≤ 2175) × Opposite d q ⌝ }
-    ensures { λ r. ⌜ (r ≡ montgomery d q z) × (r ≤ 285600000) ⌝ }
+pub fn montgomery(z: u64, d: u64, neginv: u64) -> u64
+    requires { ⌜ (z < 2 ^ 59) × (d ≤ 2175) × Opposite d neginv ⌝ }
+    ensures { λ r. ⌜ (r ≡ montgomery d neginv z) × (r ≤ 285600000) ⌝ }
 {
-    let multiple = (z % WORD) * (q % WORD) % WORD;
+    let multiple = (z % WORD) * (neginv % WORD) % WORD;
     (z + multiple * ((RADIX - d) % WORD)) / WORD
 }

@@ -1,6 +1,6 @@
 // Entry by entry: words folded, sums reduced, and remainders of a multiple.
 use crate::fold;
-use zq::wide::wide;
+use ring_zq::wide::wide;
 ghost use mathlib.Core.Path.{_≡_};
 ghost use Prim.Native.Nat.{_≤_, _<_};
 ghost use Rattle.ntt_layers.specs.Words.{Small, foldedOf, reducedOf, remaindersOf};

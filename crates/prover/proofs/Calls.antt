@@ -5,27 +5,27 @@ use Prim.Native.Nat.{ℕ, zero, suc, _+_, _*_, _≤_, _<_}
 use native.Mathlib.Omega.{arith}
 use lib.ListN.{length, take, drop, replicate, length-replicate}
 use lib.Seq.{getD-take, length-take-le}
-use Rattle.lists.specs.Part.{splice}
-use Rattle.lists.proofs.Splice.{splice-eq}
-use Rattle.definitions.specs.declared.answers.Refusal.{Refusal}
-use Rattle.definitions.specs.Answer.{Answer, fine, result, ofRefusal}
-use Rattle.protocol.specs.Parameters.{parameters}
-use Rattle.protocol.specs.Layout.{Section, canonical, span, start, randomness-sections, witness-sections, scratch-need}
-use Rattle.protocol.specs.Views.{public, witness}
-use Rattle.protocol.specs.Prover.{Call, made-sections, prove-refusal, work-refusal, zeroed, prove, prove-output, prove-scratch}
-use Rattle.protocol.proofs.Accepted.{length-made}
-use Rattle.layout.specs.Laid.{nth}
-use Rattle.layout.specs.Laid as Sections
-use Rattle.layout.proofs.Then.{goes-on}
-use Rattle.regions.specs.declared.Regions.{Regions}
-use Rattle.regions.specs.Laid as Places
-use Rattle.relation.specs.declared.env_params.EnvironmentParameters.{EnvironmentParameters}
-use Rattle.admission.specs.declared.calls.Call.the-variants as C
-use Rattle.admission.specs.declared.calls.Call as Code
-use Rattle.admission.specs.Admission.{Provable, callOf}
-use Rattle.admission.proofs.Stages.{stops-at}
-use Rattle.admission.proofs.Fit.{refusal-none}
-use Rattle.workspace.specs.Ready.{Drawn}
+use Rattle.math.specs.lists.Part.{splice}
+use Rattle.math.proofs.lists.Splice.{splice-eq}
+use Rattle.spec_leaves.specs.declared.answers.Refusal.{Refusal}
+use Rattle.spec_leaves.specs.Answer.{Answer, fine, result, ofRefusal}
+use Rattle.spec_protocol.specs.Parameters.{parameters}
+use Rattle.spec_protocol.specs.Layout.{Section, canonical, span, start, randomness-sections, witness-sections, scratch-need}
+use Rattle.spec_protocol.specs.Views.{public, witness}
+use Rattle.spec_protocol.specs.Prover.{Call, made-sections, prove-refusal, work-refusal, zeroed, prove, prove-output, prove-scratch}
+use Rattle.spec_protocol.proofs.Accepted.{length-made}
+use Rattle.spec_protocol.specs.Laid.{nth}
+use Rattle.spec_protocol.specs.Laid as Sections
+use Rattle.layout_sections.proofs.Then.{goes-on}
+use Rattle.layout_regions.specs.declared.Regions.{Regions}
+use Rattle.layout_regions.specs.Laid as Places
+use Rattle.relation_env_params.specs.declared.env_params.EnvironmentParameters.{EnvironmentParameters}
+use Rattle.admission_slices.specs.declared.calls.Call.the-variants as C
+use Rattle.admission_slices.specs.declared.calls.Call as Code
+use Rattle.admission_slices.specs.Admission.{Provable, callOf}
+use Rattle.admission_slices.proofs.Stages.{stops-at}
+use Rattle.admission_slices.proofs.Fit.{refusal-none}
+use Rattle.core_workspace.specs.Ready.{Drawn}
 use Rattle.prover_commit.specs.Refusals.{work, makes}
 use Rattle.prover_commit.specs.Work.{Work-given}
 use Rattle.prover.specs.Worked.{worked}
@@ -45,7 +45,8 @@ pub refused-is {ℓ} : {A : Type ℓ} (r : Refusal) {a : Answer} (value none : A
 refused-is r value none e = refusal-none r value none ∙ ap (λ x. result x value none) e
 
 -- an output with what a call makes at its start
-pub output-made : (J R W : List ℕ) (call : Call) (O : List ℕ) → span (made-sections call (parameters J)) ≤ length O → splice O 0 (makes J R W call) ≡ makes J R W call ++ drop (span (made-sections call (parameters J))) O
+pub output-made : (J R W : List ℕ) (call : Call) (O : List ℕ) → span (made-sections call (parameters J)) ≤ length O
+    → splice O 0 (makes J R W call) ≡ makes J R W call ++ drop (span (made-sections call (parameters J))) O
 output-made J R W call O h =
     let M = makes J R W call in
     let size : length M ≡ span (made-sections call (parameters J)) = length-made call (public J R) (witness (parameters J) W) in
@@ -85,15 +86,16 @@ laid-drawn m J R h l k b =
     (from-zero (start (take m ss) k) (nth (take m ss) k .count) (length R) (l .inside k (subst (λ n. k < n) (sym size) b))))
 
 -- a call that is refused nothing before its work, with the regions of its scratch
-pub given-of : (call : Call) (J R W : List ℕ) (p : EnvironmentParameters) (q : Regions) (S : List ℕ) (output : ℕ) → call .handed ≤ 7
-    → Provable call J R W (length S) output p → Places.Laid (p .rank) (p .multiplicity) (p .kappa) (p .«const_agg_length») q → Work-given J W p q S × Drawn (call .handed) J R
-given-of call J R W p q S output few h places = (
+pub given-of : (call : Call) (J R W : List ℕ) (params : EnvironmentParameters) (regions : Regions) (S : List ℕ) (output : ℕ) → call .handed ≤ 7
+    → Provable call J R W (length S) output params → Places.Laid (params .rank) (params .multiplicity) (params .kappa) (params .«const_agg_length») regions
+    → Work-given J W params regions S × Drawn (call .handed) J R
+given-of call J R W params regions S output few h places = (
   record {
     ready = record {
       same = h .handed .same;
       sound = h .handed .sound;
       job = h .handed .job;
-      regions = subst (λ Q. Places.Laid (Q .n) (Q .r) (Q .κ) (Q .L) q) (h .handed .same) places;
+      laid = subst (λ Q. Places.Laid (Q .n) (Q .r) (Q .κ) (Q .L) regions) (h .handed .same) places;
       room = h .handed .scratch-fits;
     };
     witness = from-zero (start (witness-sections (parameters J)) 0) (64 * (parameters J .r * parameters J .n)) (length W) (h .witness .inside 0 (omega arith));

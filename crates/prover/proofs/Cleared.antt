@@ -4,48 +4,48 @@ use mathlib.Core.List.{List, _++_}
 use Prim.Native.Nat.{ℕ, _≤_}
 use native.Mathlib.Omega.{arith}
 use lib.ListN.{length, take, drop, replicate}
-use Rattle.lists.specs.Part.{splice}
-use Rattle.definitions.specs.declared.answers.Refusal.{Refusal}
-use Rattle.definitions.specs.declared.answers.Proved.{Proved}
-use Rattle.definitions.specs.declared.answers.Proved.the-variants as E
-use Rattle.definitions.specs.Answer.{result, ofProved}
-use Rattle.protocol.specs.Parameters.{parameters}
-use Rattle.protocol.specs.Layout.{span, transcript-sections, scratch-need}
-use Rattle.protocol.specs.Prover.{made-sections, zeroed}
-use Rattle.relation.specs.declared.env_params.EnvironmentParameters.{EnvironmentParameters}
-use Rattle.relation.specs.Parameters.{parametersOf}
-use Rattle.sizes.specs.Sizes.{Sized}
-use Rattle.sizes.proofs.Sized.{sized}
-use Rattle.admission.specs.declared.calls.Call.{Call}
-use Rattle.admission.specs.Admission.{callOf, Provable}
-use Rattle.workspace.specs.Holds.{Kept}
-use Rattle.workspace.proofs.Kept.{kept-clear}
+use Rattle.math.specs.lists.Part.{splice}
+use Rattle.spec_leaves.specs.declared.answers.Refusal.{Refusal}
+use Rattle.spec_leaves.specs.declared.answers.Proved.{Proved}
+use Rattle.spec_leaves.specs.declared.answers.Proved.the-variants as E
+use Rattle.spec_leaves.specs.Answer.{result, ofProved}
+use Rattle.spec_protocol.specs.Parameters.{parameters}
+use Rattle.spec_protocol.specs.Layout.{span, transcript-sections, scratch-need}
+use Rattle.spec_protocol.specs.Prover.{made-sections, zeroed}
+use Rattle.relation_env_params.specs.declared.env_params.EnvironmentParameters.{EnvironmentParameters}
+use Rattle.relation_env_params.specs.Parameters.{parametersOf}
+use Rattle.layout_sizes.specs.Sizes.{Sized}
+use Rattle.layout_sizes.proofs.Sized.{sized}
+use Rattle.admission_slices.specs.declared.calls.Call.{Call}
+use Rattle.admission_slices.specs.Admission.{callOf, Provable}
+use Rattle.core_workspace.specs.Holds.{Unchanged}
+use Rattle.core_workspace.proofs.Unchanged.{unchanged-clear}
 use Rattle.prover_commit.specs.Refusals.{work, makes}
 use Rattle.prover.specs.Worked.{worked}
 use Rattle.prover.proofs.Calls.{refused-is, output-made, output-zeroed}
 
-module _ (call : Call) (J R W : List ℕ) (p : EnvironmentParameters) (S O : List ℕ) (h : Provable (callOf call) J R W (length S) (length O) p) where
+module _ (call : Call) (J R W : List ℕ) (params : EnvironmentParameters) (S O : List ℕ) (h : Provable (callOf call) J R W (length S) (length O) params) where
   -- the parameters can be reckoned with
-  pub call-sized : Sized (parametersOf p)
-  call-sized = sized J (parametersOf p) (h .handed .sound) (h .handed .same)
+  pub call-sized : Sized (parametersOf params)
+  call-sized = sized J (parametersOf params) (h .handed .sound) (h .handed .same)
 
   -- what `lay_out` requires
-  pub lay-needs : (p .rank ≤ 64) × (p .multiplicity ≤ 16) × (p .kappa ≤ 16) × (p .«const_agg_length» ≤ 32)
+  pub lay-needs : (params .rank ≤ 64) × (params .multiplicity ≤ 16) × (params .kappa ≤ 16) × (params .«const_agg_length» ≤ 32)
   lay-needs =
       let w = call-sized .within in
       (w .n .1, w .r .1, w .κ .1, w .L .1)
 
   -- the scratch that the work leaves
-  module _ (n : ℕ) (e : n ≡ scratch-need (parametersOf p)) (S₁ : List ℕ) (kept : Kept (scratch-need (parameters J)) S S₁) where
+  module _ (n : ℕ) (e : n ≡ scratch-need (parametersOf params)) (S₁ : List ℕ) (unchanged : Unchanged (scratch-need (parameters J)) S S₁) where
     scratch-size : n ≡ scratch-need (parameters J)
     scratch-size = e ∙ ap scratch-need (h .handed .same)
 
     pub scratch-room : n ≤ length S₁
-    scratch-room = subst (λ k. k ≤ length S₁) (sym scratch-size) (subst (λ k. scratch-need (parameters J) ≤ k) (sym (kept .size)) (h .handed .scratch-fits))
+    scratch-room = subst (λ k. k ≤ length S₁) (sym scratch-size) (subst (λ k. scratch-need (parameters J) ≤ k) (sym (unchanged .size)) (h .handed .scratch-fits))
 
     -- set to zero
     pub scratch-cleared : (S₂ : List ℕ) → S₂ ≡ splice S₁ 0 (replicate n 0) → S₂ ≡ zeroed (scratch-need (parameters J)) S
-    scratch-cleared S₂ f = f ∙ ap (λ k. splice S₁ 0 (replicate k 0)) scratch-size ∙ kept-clear (scratch-need (parameters J)) S S₁ kept (h .handed .scratch-fits)
+    scratch-cleared S₂ f = f ∙ ap (λ k. splice S₁ 0 (replicate k 0)) scratch-size ∙ unchanged-clear (scratch-need (parameters J)) S S₁ unchanged (h .handed .scratch-fits)
 
   -- the output that it leaves where something was made
   module _ (k : Proved) (told : k ≡ E.Made) (e : ofProved k ≡ work J R W (callOf call)) where
@@ -60,14 +60,14 @@ module _ (call : Call) (J R W : List ℕ) (p : EnvironmentParameters) (S O : Lis
 
   -- and where it is refused
   module _ (k : Proved) (r : Refusal) (told : k ≡ E.Refused r) (e : ofProved k ≡ work J R W (callOf call))
-      (n from count : ℕ) (size : n ≡ span (take count (drop from (transcript-sections (parametersOf p))))) (f : from ≡ callOf call .from) (g : count ≡ callOf call .makes) where
+      (n from count : ℕ) (size : n ≡ span (take count (drop from (transcript-sections (parametersOf params))))) (f : from ≡ callOf call .from) (g : count ≡ callOf call .makes) where
     pub answer-refused : ofProved (E.Refused r) ≡ work J R W (callOf call)
     answer-refused = sym (ap ofProved told) ∙ e
 
     output-size : n ≡ span (made-sections (callOf call) (parameters J))
     output-size =
         size
-        ∙ ap₂ (λ m k. span (take m (drop k (transcript-sections (parametersOf p))))) g f
+        ∙ ap₂ (λ m k. span (take m (drop k (transcript-sections (parametersOf params))))) g f
         ∙ ap (λ Q. span (made-sections (callOf call) Q)) (h .handed .same)
 
     pub output-room : n ≤ length O

@@ -3,28 +3,29 @@ use mathlib.Core.Path.{_≡_, refl, sym, ap, subst, _∙_}
 use mathlib.Core.Bool.{true, false, cond}
 use mathlib.Core.List.{List}
 use Prim.Native.Nat.{ℕ}
-use Rattle.definitions.specs.declared.answers.Proved.{Proved}
-use Rattle.definitions.specs.declared.answers.Proved.the-variants as E
-use Rattle.definitions.specs.declared.answers.Refusal.{Refusal}
-use Rattle.definitions.specs.Answer.{Answer, fine, ofProved, _then_}
-use Rattle.protocol.specs.Parameters.{parameters}
-use Rattle.protocol.specs.Layout.{scratch-need}
-use Rattle.protocol.specs.Formulas as F
-use Rattle.protocol.specs.Prover.{Call, witness-norm, t-norm, g-norm, work-refusal}
-use Rattle.protocol.proofs.Checks.{then-fine}
-use Rattle.layout.proofs.Then.{goes-on}
-use Rattle.admission.specs.declared.calls.Call as Code
-use Rattle.admission.specs.Admission.{callOf}
-use Rattle.admission.proofs.Stages.{stops-at}
-use Rattle.regions.specs.declared.Regions.{Regions}
-use Rattle.workspace.specs.Ready.{Drawn}
-use Rattle.workspace.specs.Holds.{Kept}
+use Rattle.spec_leaves.specs.declared.answers.Proved.{Proved}
+use Rattle.spec_leaves.specs.declared.answers.Proved.the-variants as E
+use Rattle.spec_leaves.specs.declared.answers.Refusal.{Refusal}
+use Rattle.spec_leaves.specs.Answer.{Answer, fine, ofProved, _then_}
+use Rattle.spec_protocol.specs.Parameters.{parameters}
+use Rattle.spec_protocol.specs.Layout.{scratch-need}
+use Rattle.spec_protocol.specs.Formulas as F
+use Rattle.spec_protocol.specs.Prover.{Call, witness-norm, t-norm, g-norm, work-refusal}
+use Rattle.spec_protocol.proofs.Checks.{then-fine}
+use Rattle.layout_sections.proofs.Then.{goes-on}
+use Rattle.admission_slices.specs.declared.calls.Call as Code
+use Rattle.admission_slices.specs.Admission.{callOf}
+use Rattle.admission_slices.proofs.Stages.{stops-at}
+use Rattle.layout_regions.specs.declared.Regions.{Regions}
+use Rattle.core_workspace.specs.Ready.{Drawn}
+use Rattle.core_workspace.specs.Holds.{Unchanged}
 use Rattle.prover_commit.specs.Refusals.{t-refusal, g-refusal, h-refusal, first-refusal, work}
 use Rattle.prover_commit.specs.Work.{Where-made, Filled}
 
 -- a refusal is the answer, whatever follows; K is what else is ensured
-pub passed-on : (k : Proved) (r : Refusal) {a : Answer} (rest : Answer) {b : Answer} {K : Type 0} → k ≡ E.Refused r → ofProved k ≡ a → a then rest ≡ b → K → (ofProved (E.Refused r) ≡ b) × (K × Unit {0})
-passed-on k r rest told e same kept = (stops-at r rest (sym (ap ofProved told) ∙ e) ∙ same, (kept, tt))
+pub passed-on : (k : Proved) (r : Refusal) {a : Answer} (rest : Answer) {b : Answer} {K : Type 0} → k ≡ E.Refused r → ofProved k ≡ a → a then rest ≡ b → K
+    → (ofProved (E.Refused r) ≡ b) × (K × Unit {0})
+passed-on k r rest told e same unchanged = (stops-at r rest (sym (ap ofProved told) ∙ e) ∙ same, (unchanged, tt))
 
 -- after what was made the next one is the answer
 pub gone-on : (k z : Proved) {a rest b : Answer} → k ≡ E.Made → ofProved k ≡ a → ofProved z ≡ rest → a then rest ≡ b → ofProved z ≡ b
@@ -53,11 +54,11 @@ module _ (J R W : List ℕ) where
 
 -- what the filling of the scratch for a call answers and leaves
 abbrev pub Fills : Code.Call → (J R W : List ℕ) → Regions → Proved → (S S′ : List ℕ) → Type 0
-Fills call J R W q r S S′ = (ofProved r ≡ work J R W (callOf call)) × (Kept (scratch-need (parameters J)) S S′ × Where-made r (Filled J R W q S′ call))
+Fills call J R W regions r S S′ = (ofProved r ≡ work J R W (callOf call)) × (Unchanged (scratch-need (parameters J)) S S′ × Where-made r (Filled J R W regions S′ call))
 
 -- where the call is known
-pub fills : (call known : Code.Call) (J R W : List ℕ) (q : Regions) (r : Proved) (S S′ : List ℕ) → call ≡ known → Fills known J R W q r S S′ → Fills call J R W q r S S′
-fills call known J R W q r S S′ e = subst (λ c. Fills c J R W q r S S′) (sym e)
+pub fills : (call known : Code.Call) (J R W : List ℕ) (regions : Regions) (r : Proved) (S S′ : List ℕ) → call ≡ known → Fills known J R W regions r S S′ → Fills call J R W regions r S S′
+fills call known J R W regions r S S′ e = subst (λ c. Fills c J R W regions r S S′) (sym e)
 
 pub drawn-known : (call known : Code.Call) (J R : List ℕ) → call ≡ known → Drawn (callOf call .handed) J R → Drawn (callOf known .handed) J R
 drawn-known call known J R e = subst (λ c. Drawn (callOf c .handed) J R) e

@@ -3,18 +3,12 @@ use mathlib.Core.Path.{_≡_, ap, _∙_}
 use mathlib.Core.List.{List}
 use Prim.Native.Nat.{ℕ, _*_}
 use lib.ListN.{length}
-use Rattle.lists.specs.Table.{table}
-use Rattle.lists.proofs.Table.{length-table}
-use Rattle.definitions.specs.Rq.{Element}
-use Rattle.protocol.specs.Parameters.{Parameters, parameters, T, triangular}
-use Rattle.protocol.specs.Formulas as F
-use Rattle.protocol.specs.Formulas.{flat, rows, triangle}
-use Rattle.protocol.proofs.Flat.{length-flat, length-rows, length-triangle}
+use Rattle.spec_leaves.specs.Rq.{Element}
+use Rattle.spec_protocol.specs.Parameters.{Parameters, parameters, T, triangular}
+use Rattle.spec_protocol.specs.Formulas as F
+use Rattle.spec_protocol.specs.Formulas.{flat, rows, triangle}
+use Rattle.spec_protocol.proofs.Flat.{length-flat, length-rows, length-triangle, length-flat-table}
 use Rattle.prover_commit.specs.Words.{statement, X, s, t-words, g-words, b″-words, h-words}
-
--- the words of n elements
-pub length-elements : (n : ℕ) (f : ℕ → Element) → length (flat (table n f)) ≡ 64 * n
-length-elements n f = length-flat (table n f) ∙ ap (λ k. 64 * k) (length-table n f)
 
 -- the words of a triangle of r rows
 pub length-cells : (r : ℕ) (f : ℕ → ℕ → Element) → length (flat (triangle r f)) ≡ 64 * triangular r
@@ -34,7 +28,7 @@ module _ (J R W : List ℕ) where
   open Parameters (parameters J) using (r, L)
 
   pub length-b″ : length (b″-words J R W) ≡ 64 * L
-  length-b″ = length-elements L (F.b″ (X J R) (s J W))
+  length-b″ = length-flat-table L (F.b″ (X J R) (s J W))
 
   pub length-h : length (h-words J R W) ≡ 64 * T (parameters J)
   length-h = length-cells r (F.h (X J R) (s J W))

@@ -2,17 +2,17 @@
 use mathlib.Core.List.{List}
 use Prim.Native.Nat.{ℕ, _*_}
 use native.Mathlib.Decide.{decLe}
-use Rattle.definitions.specs.Answer.{Answer, refused, value128, _then_}
-use Rattle.protocol.specs.Checks.{require}
-use Rattle.protocol.specs.Parameters.{triangular}
-use Rattle.protocol.specs.Formulas as F
-use Rattle.protocol.specs.Formulas.{norm-of}
-use Rattle.protocol.specs.Prover as P
-use Rattle.protocol.specs.Prover.{Call, witness-norm, t-norm, g-norm, h-norm}
-use Rattle.commitments.specs.declared.outer_commitments.Digits.{Digits}
-use Rattle.commitments.specs.Cells.{digits-at}
-use Rattle.regions.specs.declared.Regions.{Regions}
-use Rattle.relation.specs.declared.env_params.EnvironmentParameters.{EnvironmentParameters}
+use Rattle.spec_leaves.specs.Answer.{Answer, refused, value128, _then_}
+use Rattle.spec_protocol.specs.Checks.{require}
+use Rattle.spec_protocol.specs.Parameters.{triangular}
+use Rattle.spec_protocol.specs.Formulas as F
+use Rattle.spec_protocol.specs.Formulas.{norm-of}
+use Rattle.spec_protocol.specs.Prover as P
+use Rattle.spec_protocol.specs.Prover.{Call, witness-norm, t-norm, g-norm, h-norm}
+use Rattle.commitments_outer.specs.declared.outer_commitments.Digits.{Digits}
+use Rattle.commitments_outer.specs.Cells.{digits-at}
+use Rattle.layout_regions.specs.declared.Regions.{Regions}
+use Rattle.relation_env_params.specs.declared.env_params.EnvironmentParameters.{EnvironmentParameters}
 use Rattle.prover_commit.specs.Words.{statement, X, s}
 
 -- "14 digits of t above B's bound, 15 of g above C's"
@@ -40,15 +40,15 @@ module _ (J R W : List ℕ) where
   makes call = P.made (X J R) call (s J W)
 
 -- 14, 15 and 16 of the cells that stand in a region
-module _ (p : EnvironmentParameters) (q : Regions) (scratch : List ℕ) where
+module _ (params : EnvironmentParameters) (regions : Regions) (scratch : List ℕ) where
   abbrev above : ℕ → Digits → ℕ → Answer
-  above number d bound = require (decLe (norm-of (digits-at scratch d (p .b))) bound) (refused number 0)
+  above number d bound = require (decLe (norm-of (digits-at scratch d (params .b))) bound) (refused number 0)
 
   abbrev pub t-check : Answer
-  t-check = above 14 (record { at = q .t; cells = p .multiplicity * p .kappa; parts = p .«t_1» }) (value128 (p .«bound_b»))
+  t-check = above 14 (record { at = regions .t; cells = params .multiplicity * params .kappa; parts = params .«t_1» }) (value128 (params .«bound_b»))
 
   abbrev pub g-check : Answer
-  g-check = above 15 (record { at = q .g; cells = triangular (p .multiplicity); parts = p .«t_2» }) (value128 (p .«bound_c»))
+  g-check = above 15 (record { at = regions .g; cells = triangular (params .multiplicity); parts = params .«t_2» }) (value128 (params .«bound_c»))
 
   abbrev pub h-check : Answer
-  h-check = above 16 (record { at = q .a; cells = triangular (p .multiplicity); parts = p .«t_1» }) (value128 (p .«bound_d»))
+  h-check = above 16 (record { at = regions .«a_or_h»; cells = triangular (params .multiplicity); parts = params .«t_1» }) (value128 (params .«bound_d»))

@@ -1,12 +1,12 @@
 -- The words of the transcript's sections, of a job, a randomness and a witness.
 use mathlib.Core.List.{List, []}
 use Prim.Native.Nat.{ℕ}
-use Rattle.lists.specs.Table.{table}
-use Rattle.definitions.specs.Rq.{Element}
-use Rattle.protocol.specs.Parameters.{Parameters, parameters}
-use Rattle.protocol.specs.Views.{Public, public, witness}
-use Rattle.protocol.specs.Formulas as F
-use Rattle.protocol.specs.Formulas.{flat, rows, triangle}
+use Rattle.math.specs.lists.Table.{table}
+use Rattle.spec_leaves.specs.Rq.{Element}
+use Rattle.spec_protocol.specs.Parameters.{Parameters, parameters}
+use Rattle.spec_protocol.specs.Views.{Public, public, witness}
+use Rattle.spec_protocol.specs.Formulas as F
+use Rattle.spec_protocol.specs.Formulas.{flat, rows, triangle}
 
 -- the public values of a job alone
 abbrev pub statement : List ℕ → Public

@@ -1,37 +1,37 @@
 // t and g into the scratch, with the refusals 13 to 15; what the prover's steps stand on and leave there.
-use commitment_bounds::common_instances;
-use commitments::outer_commitments::Digits;
-use definitions::answers::Proved;
-use definitions::answers::Refusal;
-use garbage_polynomials::g;
-use inner_commitments::ajtai_commitment;
-use kept_commitments;
-use kept_garbage;
-use regions::Regions;
-use relation::env_params::EnvironmentParameters;
-use sizes::offsets;
-use sizes::slices;
+use commitments_ajtai::ajtai_commitment;
+use commitments_ajtai::ntt;
+use commitments_bounds::common_instances;
+use commitments_outer::outer_commitments::Digits;
+use core_garbage_polynomials::g;
+use layout_regions::Regions;
+use layout_sizes::names;
+use layout_sizes::offsets;
+use layout_sizes::slices;
+use relation_env_params::env_params::EnvironmentParameters;
+use spec_leaves::answers::Proved;
+use spec_leaves::answers::Refusal;
 ghost use mathlib.Core.Path.{_≡_};
 ghost use Prim.Native.Nat.{_≤_};
-ghost use Rattle.definitions.specs.Answer.{ofProved, _then_};
-ghost use Rattle.protocol.specs.Parameters.{parameters};
-ghost use Rattle.protocol.specs.Layout.{scratch-need};
-ghost use Rattle.workspace.specs.Holds.{Kept};
+ghost use Rattle.spec_leaves.specs.Answer.{ofProved, _then_};
+ghost use Rattle.spec_protocol.specs.Parameters.{parameters};
+ghost use Rattle.spec_protocol.specs.Layout.{scratch-need};
+ghost use Rattle.core_workspace.specs.Holds.{Unchanged};
 ghost use Rattle.prover_commit.specs.Refusals.{t-refusal, g-refusal, first-refusal, t-check, g-check};
 ghost use Rattle.prover_commit.specs.Work.{Work-given, Placed, Where-made, Committed, plain-sizes};
 
 // "14 digits of t above B's bound", of the cells of its region.
-fn check_t(p: EnvironmentParameters, q: Regions, scratch: &[u32]) -> Proved
-    requires { ⌜ Placed p q (now scratch) ⌝ }
-    ensures { λ result. ⌜ ofProved result ≡ t-check p q (now (scratch .entry)) ⌝ }
+fn check_t(params: EnvironmentParameters, regions: Regions, scratch: &[u32]) -> Proved
+    requires { ⌜ Placed params regions (now scratch) ⌝ }
+    ensures { λ result. ⌜ ofProved result ≡ t-check params regions (now (scratch .entry)) ⌝ }
 {
-    let cells = p.multiplicity * p.kappa;
+    let cells = params.multiplicity * params.kappa;
     let digits = Digits {
-        at: q.t,
+        at: regions.t,
         cells,
-        parts: p.t_1,
+        parts: params.t_1,
     };
-    if common_instances::digits_within(scratch, digits, p.b, p.bound_b) {
+    if common_instances::digits_within(scratch, digits, params.b, params.bound_b) {
         Proved::Made
     } else {
         Proved::Refused(Refusal::DigitsOfT)
@@ -39,23 +39,23 @@ fn check_t(p: EnvironmentParameters, q: Regions, scratch: &[u32]) -> Proved
 }
 
 // "15 of g above C's"
-fn check_g(p: EnvironmentParameters, q: Regions, scratch: &[u32]) -> Proved
-    requires { ⌜ Placed p q (now scratch) ⌝ }
-    ensures { λ result. ⌜ ofProved result ≡ g-check p q (now (scratch .entry)) ⌝ }
+fn check_g(params: EnvironmentParameters, regions: Regions, scratch: &[u32]) -> Proved
+    requires { ⌜ Placed params regions (now scratch) ⌝ }
+    ensures { λ result. ⌜ ofProved result ≡ g-check params regions (now (scratch .entry)) ⌝ }
 {
     let digits = Digits {
-        at: q.g,
-        cells: slices::triangle(p.multiplicity),
-        parts: p.t_2,
+        at: regions.g,
+        cells: slices::triangle(params.multiplicity),
+        parts: params.t_2,
     };
-    if common_instances::digits_within(scratch, digits, p.b, p.bound_c) {
+    if common_instances::digits_within(scratch, digits, params.b, params.bound_c) {
         Proved::Made
     } else {
         Proved::Refused(Refusal::DigitsOfG)
     }
 }
 
-// Whether t, g and h take less time by plain products than by kept transforms.
+// Whether t, g and h take less time by plain products than in NTT form.
 pub fn plain_is_faster(n: usize, r: usize) -> bool
     requires { ⌜ (n ≤ 64) × (r ≤ 64) ⌝ }
     ensures { λ result. ⌜ result ≡ plain-sizes n r ⌝ }
@@ -63,37 +63,43 @@ pub fn plain_is_faster(n: usize, r: usize) -> bool
     n == 1 || n * r <= 4
 }
 
-// "t_i = A·s_i" and "g_ij = ⟨s_i,s_j⟩" by kept transforms, with 14 and 15.
-fn commit_kept(
+// "t_i = A·s_i" and "g_ij = ⟨s_i,s_j⟩" in NTT form, with 14 and 15.
+fn commit_ntt(
     job: &[u32],
     witness: &[u32],
-    p: EnvironmentParameters,
-    q: Regions,
+    params: EnvironmentParameters,
+    regions: Regions,
     scratch: &mut [u32],
 ) -> Proved
-    requires { ⌜ Work-given (now job) (now witness) p q (now scratch) ⌝ }
+    requires { ⌜ Work-given (now job) (now witness) params regions (now scratch) ⌝ }
     ensures { λ result. ⌜ ofProved result ≡ t-refusal (now (job .entry)) (now (witness .entry)) then g-refusal (now (job .entry)) (now (witness .entry)) ⌝ }
-    ensures { λ result. ⌜ Kept (scratch-need (parameters (now (job .entry)))) (now (scratch .entry)) (now (scratch .exit)) ⌝ }
-    ensures { λ result. ⌜ Where-made result (Committed (now (job .entry)) (now (witness .entry)) q (now (scratch .exit))) ⌝ }
+    ensures { λ result. ⌜ Unchanged (scratch-need (parameters (now (job .entry)))) (now (scratch .entry)) (now (scratch .exit)) ⌝ }
+    ensures { λ result. ⌜ Where-made result (Committed (now (job .entry)) (now (witness .entry)) regions (now (scratch .exit))) ⌝ }
 {
-    let a_at = offsets::of_job(p, 6);
-    kept_commitments::t_of(
+    let a_at = offsets::of_job(params, names::MATRIX_A);
+    ntt::t_of(
         job,
         a_at,
-        p.kappa,
-        p.rank,
+        params.kappa,
+        params.rank,
         witness,
         1,
-        p.multiplicity,
+        params.multiplicity,
         scratch,
-        q.phi2,
-        q.t,
+        regions.phi2,
+        regions.t,
     );
-    match check_t(p, q, scratch) {
+    match check_t(params, regions, scratch) {
         Proved::Refused(refusal) => Proved::Refused(refusal),
         Proved::Made => {
-            kept_garbage::compute_g(scratch, q.phi2, p.multiplicity, p.rank, q.g);
-            check_g(p, q, scratch)
+            core_garbage_ntt::g::compute_g(
+                scratch,
+                regions.phi2,
+                params.multiplicity,
+                params.rank,
+                regions.g,
+            );
+            check_g(params, regions, scratch)
         }
     }
 }
@@ -102,32 +108,39 @@ fn commit_kept(
 fn commit_plain(
     job: &[u32],
     witness: &[u32],
-    p: EnvironmentParameters,
-    q: Regions,
+    params: EnvironmentParameters,
+    regions: Regions,
     scratch: &mut [u32],
 ) -> Proved
-    requires { ⌜ Work-given (now job) (now witness) p q (now scratch) ⌝ }
+    requires { ⌜ Work-given (now job) (now witness) params regions (now scratch) ⌝ }
     ensures { λ result. ⌜ ofProved result ≡ t-refusal (now (job .entry)) (now (witness .entry)) then g-refusal (now (job .entry)) (now (witness .entry)) ⌝ }
-    ensures { λ result. ⌜ Kept (scratch-need (parameters (now (job .entry)))) (now (scratch .entry)) (now (scratch .exit)) ⌝ }
-    ensures { λ result. ⌜ Where-made result (Committed (now (job .entry)) (now (witness .entry)) q (now (scratch .exit))) ⌝ }
+    ensures { λ result. ⌜ Unchanged (scratch-need (parameters (now (job .entry)))) (now (scratch .entry)) (now (scratch .exit)) ⌝ }
+    ensures { λ result. ⌜ Where-made result (Committed (now (job .entry)) (now (witness .entry)) regions (now (scratch .exit))) ⌝ }
 {
-    let a_at = offsets::of_job(p, 6);
+    let a_at = offsets::of_job(params, names::MATRIX_A);
     ajtai_commitment::commit_all(
         job,
         a_at,
-        p.kappa,
-        p.rank,
+        params.kappa,
+        params.rank,
         witness,
         1,
-        p.multiplicity,
+        params.multiplicity,
         scratch,
-        q.t,
+        regions.t,
     );
-    match check_t(p, q, scratch) {
+    match check_t(params, regions, scratch) {
         Proved::Refused(refusal) => Proved::Refused(refusal),
         Proved::Made => {
-            g::compute_g(witness, 1, p.multiplicity, p.rank, scratch, q.g);
-            check_g(p, q, scratch)
+            g::compute_g(
+                witness,
+                1,
+                params.multiplicity,
+                params.rank,
+                scratch,
+                regions.g,
+            );
+            check_g(params, regions, scratch)
         }
     }
 }
@@ -136,19 +149,19 @@ fn commit_plain(
 fn commit_t_and_g(
     job: &[u32],
     witness: &[u32],
-    p: EnvironmentParameters,
-    q: Regions,
+    params: EnvironmentParameters,
+    regions: Regions,
     scratch: &mut [u32],
 ) -> Proved
-    requires { ⌜ Work-given (now job) (now witness) p q (now scratch) ⌝ }
+    requires { ⌜ Work-given (now job) (now witness) params regions (now scratch) ⌝ }
     ensures { λ result. ⌜ ofProved result ≡ t-refusal (now (job .entry)) (now (witness .entry)) then g-refusal (now (job .entry)) (now (witness .entry)) ⌝ }
-    ensures { λ result. ⌜ Kept (scratch-need (parameters (now (job .entry)))) (now (scratch .entry)) (now (scratch .exit)) ⌝ }
-    ensures { λ result. ⌜ Where-made result (Committed (now (job .entry)) (now (witness .entry)) q (now (scratch .exit))) ⌝ }
+    ensures { λ result. ⌜ Unchanged (scratch-need (parameters (now (job .entry)))) (now (scratch .entry)) (now (scratch .exit)) ⌝ }
+    ensures { λ result. ⌜ Where-made result (Committed (now (job .entry)) (now (witness .entry)) regions (now (scratch .exit))) ⌝ }
 {
-    if plain_is_faster(p.rank, p.multiplicity) {
-        commit_plain(job, witness, p, q, scratch)
+    if plain_is_faster(params.rank, params.multiplicity) {
+        commit_plain(job, witness, params, regions, scratch)
     } else {
-        commit_kept(job, witness, p, q, scratch)
+        commit_ntt(job, witness, params, regions, scratch)
     }
 }
 
@@ -156,17 +169,23 @@ fn commit_t_and_g(
 pub fn commit(
     job: &[u32],
     witness: &[u32],
-    p: EnvironmentParameters,
-    q: Regions,
+    params: EnvironmentParameters,
+    regions: Regions,
     scratch: &mut [u32],
 ) -> Proved
-    requires { ⌜ Work-given (now job) (now witness) p q (now scratch) ⌝ }
+    requires { ⌜ Work-given (now job) (now witness) params regions (now scratch) ⌝ }
     ensures { λ result. ⌜ ofProved result ≡ first-refusal (now (job .entry)) (now (witness .entry)) ⌝ }
-    ensures { λ result. ⌜ Kept (scratch-need (parameters (now (job .entry)))) (now (scratch .entry)) (now (scratch .exit)) ⌝ }
-    ensures { λ result. ⌜ Where-made result (Committed (now (job .entry)) (now (witness .entry)) q (now (scratch .exit))) ⌝ }
+    ensures { λ result. ⌜ Unchanged (scratch-need (parameters (now (job .entry)))) (now (scratch .entry)) (now (scratch .exit)) ⌝ }
+    ensures { λ result. ⌜ Where-made result (Committed (now (job .entry)) (now (witness .entry)) regions (now (scratch .exit))) ⌝ }
 {
-    match common_instances::check_witness(witness, 1, p.rank, p.multiplicity, p.bound_a) {
+    match common_instances::check_witness(
+        witness,
+        1,
+        params.rank,
+        params.multiplicity,
+        params.bound_a,
+    ) {
         Proved::Refused(refusal) => Proved::Refused(refusal),
-        Proved::Made => commit_t_and_g(job, witness, p, q, scratch),
+        Proved::Made => commit_t_and_g(job, witness, params, regions, scratch),
     }
 }

@@ -1,44 +1,44 @@
 // What the prover works out into the scratch, with the refusals 13 to 16: b'', h and the challenges after t and g.
-use admission::calls::Call;
-use aggregate;
-use commitment_bounds::common_instances;
-use commitments::outer_commitments::Digits;
-use definitions::answers::Proved;
-use definitions::answers::Refusal;
-use garbage_polynomials::h;
-use kept_h;
+pub mod phi_and_b;
+
+use admission_slices::calls::Call;
+use commitments_bounds::common_instances;
+use commitments_outer::outer_commitments::Digits;
+use core_aggregate;
+use core_garbage_polynomials::h;
+use core_workspace;
+use layout_regions::Regions;
+use layout_sizes::slices;
 use prover_commit::commit;
 use prover_commit::plain_is_faster;
-use prover_phi_and_b;
-use regions::Regions;
-use relation::env_params::EnvironmentParameters;
-use sizes::slices;
-use workspace;
+use relation_env_params::env_params::EnvironmentParameters;
+use spec_leaves::answers::Proved;
+use spec_leaves::answers::Refusal;
 ghost use mathlib.Core.Path.{_≡_};
-ghost use Rattle.definitions.specs.Answer.{ofProved};
-ghost use Rattle.protocol.specs.Parameters.{parameters};
-ghost use Rattle.protocol.specs.Layout.{scratch-need};
-ghost use Rattle.protocol.specs.Prover.{round₃, round₄, round₅, whole};
-ghost use Rattle.admission.specs.Admission.{callOf};
-ghost use Rattle.admission.specs.declared.calls.Call.the-variants as C;
-ghost use Rattle.workspace.specs.Ready.{Drawn};
-ghost use Rattle.workspace.specs.Holds.{Holds, Kept};
-ghost use Rattle.workspace.specs.Aggregated.{φ″-words};
+ghost use Rattle.spec_leaves.specs.Answer.{ofProved};
+ghost use Rattle.spec_protocol.specs.Parameters.{parameters};
+ghost use Rattle.spec_protocol.specs.Layout.{scratch-need};
+ghost use Rattle.spec_protocol.specs.Prover.{round₃, round₄, round₅, whole};
+ghost use Rattle.admission_slices.specs.Admission.{callOf};
+ghost use Rattle.admission_slices.specs.declared.calls.Call.the-variants as C;
+ghost use Rattle.core_workspace.specs.Ready.{Drawn};
+ghost use Rattle.core_workspace.specs.Holds.{Holds, Unchanged};
+ghost use Rattle.core_workspace.specs.Aggregated.{φ″-words};
 ghost use Rattle.prover_commit.specs.Refusals.{work, h-check};
 ghost use Rattle.prover_commit.specs.Work.{Work-given, Placed, Where-made, AllMade, Filled, Ready-for-h, with-h};
-ghost use Rattle.prover_phi_and_b.specs.Stored.{weighed-with-h};
+ghost use Rattle.prover_fill.specs.Stored.{weighed-with-h};
 
 // "16 of h above D's"
-fn check_h(p: EnvironmentParameters, q: Regions, scratch: &[u32]) -> Proved
-    requires { ⌜ Placed p q (now scratch) ⌝ }
-    ensures { λ result. ⌜ ofProved result ≡ h-check p q (now (scratch .entry)) ⌝ }
+fn check_h(params: EnvironmentParameters, regions: Regions, scratch: &[u32]) -> Proved
+    requires { ⌜ Placed params regions (now scratch) ⌝ }
+    ensures { λ result. ⌜ ofProved result ≡ h-check params regions (now (scratch .entry)) ⌝ }
 {
     let digits = Digits {
-        at: q.a,
-        cells: slices::triangle(p.multiplicity),
-        parts: p.t_1,
+        at: regions.a_or_h,
+        cells: slices::triangle(params.multiplicity),
+        parts: params.t_1,
     };
-    if common_instances::digits_within(scratch, digits, p.b, p.bound_d) {
+    if common_instances::digits_within(scratch, digits, params.b, params.bound_d) {
         Proved::Made
     } else {
         Proved::Refused(Refusal::DigitsOfH)
@@ -50,66 +50,79 @@ fn commit_with_b_double_prime(
     job: &[u32],
     randomness: &[u32],
     witness: &[u32],
-    p: EnvironmentParameters,
-    q: Regions,
+    params: EnvironmentParameters,
+    regions: Regions,
     scratch: &mut [u32],
 ) -> Proved
-    requires { ⌜ Work-given (now job) (now witness) p q (now scratch) × Drawn 3 (now job) (now randomness) ⌝ }
+    requires { ⌜ Work-given (now job) (now witness) params regions (now scratch) × Drawn 3 (now job) (now randomness) ⌝ }
     ensures { λ result. ⌜ ofProved result ≡ work (now (job .entry)) (now (randomness .entry)) (now (witness .entry)) round₃ ⌝ }
-    ensures { λ result. ⌜ Kept (scratch-need (parameters (now (job .entry)))) (now (scratch .entry)) (now (scratch .exit)) ⌝ }
-    ensures { λ result. ⌜ Where-made result (Filled (now (job .entry)) (now (randomness .entry)) (now (witness .entry)) q (now (scratch .exit)) C.Round3) ⌝ }
+    ensures { λ result. ⌜ Unchanged (scratch-need (parameters (now (job .entry)))) (now (scratch .entry)) (now (scratch .exit)) ⌝ }
+    ensures { λ result. ⌜ Where-made result (Filled (now (job .entry)) (now (randomness .entry)) (now (witness .entry)) regions (now (scratch .exit)) C.Round3) ⌝ }
 {
-    match commit(job, witness, p, q, scratch) {
+    match commit(job, witness, params, regions, scratch) {
         Proved::Refused(refusal) => Proved::Refused(refusal),
         Proved::Made => {
-            workspace::double_prime(job, randomness, p, q, scratch);
-            aggregate::b_double_prime(
+            core_workspace::double_prime(job, randomness, params, regions, scratch);
+            core_aggregate::b_double_prime(
                 scratch,
-                q.a2,
-                q.g,
-                q.phi2,
-                p.multiplicity,
-                p.rank,
+                regions.a2,
+                regions.g,
+                regions.phi2,
+                params.multiplicity,
+                params.rank,
                 witness,
                 1,
-                p.const_agg_length,
-                q.b2,
+                params.const_agg_length,
+                regions.b2,
             );
             Proved::Made
         }
     }
 }
 
-// "h_ij = ⟨φ_i,s_j⟩+⟨φ_j,s_i⟩, not halved", by the faster way; kept transforms stand where φ'' and a'' stood.
-fn compute_h(witness: &[u32], p: EnvironmentParameters, q: Regions, scratch: &mut [u32])
-    requires { ⌜ Ready-for-h (now witness) p q (now scratch) ⌝ }
-    ensures { λ _. ⌜ Kept (q .phi) (with-h (now (witness .entry)) p q (now (scratch .entry))) (now (scratch .exit)) ⌝ }
+// "h_ij = ⟨φ_i,s_j⟩+⟨φ_j,s_i⟩, not halved", by the faster way; the NTT forms stand where φ'' and a'' stood.
+fn compute_h(witness: &[u32], params: EnvironmentParameters, regions: Regions, scratch: &mut [u32])
+    requires { ⌜ Ready-for-h (now witness) params regions (now scratch) ⌝ }
+    ensures { λ _. ⌜ Unchanged (regions .phi) (with-h (now (witness .entry)) params regions (now (scratch .entry))) (now (scratch .exit)) ⌝ }
 {
-    if plain_is_faster(p.rank, p.multiplicity) {
-        h::compute_h(witness, 1, p.multiplicity, p.rank, scratch, q.phi, q.a);
-    } else {
-        kept_h::compute_h(
+    if plain_is_faster(params.rank, params.multiplicity) {
+        h::compute_h(
             witness,
             1,
-            p.multiplicity,
-            p.rank,
+            params.multiplicity,
+            params.rank,
             scratch,
-            q.phi2,
-            q.a2,
-            q.phi,
-            q.a,
+            regions.phi,
+            regions.a_or_h,
+        );
+    } else {
+        core_garbage_ntt::h::compute_h(
+            witness,
+            1,
+            params.multiplicity,
+            params.rank,
+            scratch,
+            regions.phi2,
+            regions.a2,
+            regions.phi,
+            regions.a_or_h,
         );
     }
 }
 
 // h, with 16.
-fn add_h(witness: &[u32], p: EnvironmentParameters, q: Regions, scratch: &mut [u32]) -> Proved
-    requires { ⌜ Ready-for-h (now witness) p q (now scratch) ⌝ }
-    ensures { λ result. ⌜ ofProved result ≡ h-check p q (now (scratch .exit)) ⌝ }
-    ensures { λ result. ⌜ Kept (q .phi) (with-h (now (witness .entry)) p q (now (scratch .entry))) (now (scratch .exit)) ⌝ }
+fn add_h(
+    witness: &[u32],
+    params: EnvironmentParameters,
+    regions: Regions,
+    scratch: &mut [u32],
+) -> Proved
+    requires { ⌜ Ready-for-h (now witness) params regions (now scratch) ⌝ }
+    ensures { λ result. ⌜ ofProved result ≡ h-check params regions (now (scratch .exit)) ⌝ }
+    ensures { λ result. ⌜ Unchanged (regions .phi) (with-h (now (witness .entry)) params regions (now (scratch .entry))) (now (scratch .exit)) ⌝ }
 {
-    compute_h(witness, p, q, scratch);
-    check_h(p, q, scratch)
+    compute_h(witness, params, regions, scratch);
+    check_h(params, regions, scratch)
 }
 
 // φ, with b'' where it is asked for, and then h.
@@ -117,21 +130,22 @@ fn weigh(
     job: &[u32],
     randomness: &[u32],
     witness: &[u32],
-    p: EnvironmentParameters,
-    q: Regions,
+    params: EnvironmentParameters,
+    regions: Regions,
     scratch: &mut [u32],
     with_b: bool,
 ) -> Proved
-    requires { ⌜ Work-given (now job) (now witness) p q (now scratch) × Drawn 5 (now job) (now randomness) × Holds (now scratch) (q .phi2) (φ″-words (now job) (now randomness)) ⌝ }
-    ensures { λ result. ⌜ ofProved result ≡ h-check p q (now (scratch .exit)) ⌝ }
-    ensures { λ result. ⌜ Kept (q .phi) (weighed-with-h «with_b» (now (job .entry)) (now (randomness .entry)) (now (witness .entry)) p q (now (scratch .entry))) (now (scratch .exit)) ⌝ }
+    requires { ⌜ Work-given (now job) (now witness) params regions (now scratch) × Drawn 5 (now job) (now randomness) × Holds (now scratch) (regions .phi2) (φ″-words (now job) (now randomness)) ⌝ }
+    ensures { λ result. ⌜ ofProved result ≡ h-check params regions (now (scratch .exit)) ⌝ }
+    ensures { λ result. ⌜ Unchanged (regions .phi) (weighed-with-h «with_b» (now (job .entry)) (now (randomness .entry)) (now (witness .entry)) params regions (now (scratch .entry)))
+        (now (scratch .exit)) ⌝ }
 {
     if with_b {
-        prover_phi_and_b::phi_and_b(job, randomness, witness, p, q, scratch);
+        phi_and_b::phi_and_b(job, randomness, witness, params, regions, scratch);
     } else {
-        workspace::phi(job, randomness, p, q, scratch);
+        core_workspace::phi(job, randomness, params, regions, scratch);
     }
-    add_h(witness, p, q, scratch)
+    add_h(witness, params, regions, scratch)
 }
 
 // Round 4: h after φ: "Prover: 13, 14, 15, 16."
@@ -139,20 +153,20 @@ fn commit_with_h(
     job: &[u32],
     randomness: &[u32],
     witness: &[u32],
-    p: EnvironmentParameters,
-    q: Regions,
+    params: EnvironmentParameters,
+    regions: Regions,
     scratch: &mut [u32],
 ) -> Proved
-    requires { ⌜ Work-given (now job) (now witness) p q (now scratch) × Drawn 5 (now job) (now randomness) ⌝ }
+    requires { ⌜ Work-given (now job) (now witness) params regions (now scratch) × Drawn 5 (now job) (now randomness) ⌝ }
     ensures { λ result. ⌜ ofProved result ≡ work (now (job .entry)) (now (randomness .entry)) (now (witness .entry)) round₄ ⌝ }
-    ensures { λ result. ⌜ Kept (scratch-need (parameters (now (job .entry)))) (now (scratch .entry)) (now (scratch .exit)) ⌝ }
-    ensures { λ result. ⌜ Where-made result (Filled (now (job .entry)) (now (randomness .entry)) (now (witness .entry)) q (now (scratch .exit)) C.Round4) ⌝ }
+    ensures { λ result. ⌜ Unchanged (scratch-need (parameters (now (job .entry)))) (now (scratch .entry)) (now (scratch .exit)) ⌝ }
+    ensures { λ result. ⌜ Where-made result (Filled (now (job .entry)) (now (randomness .entry)) (now (witness .entry)) regions (now (scratch .exit)) C.Round4) ⌝ }
 {
-    match commit(job, witness, p, q, scratch) {
+    match commit(job, witness, params, regions, scratch) {
         Proved::Refused(refusal) => Proved::Refused(refusal),
         Proved::Made => {
-            workspace::double_prime(job, randomness, p, q, scratch);
-            weigh(job, randomness, witness, p, q, scratch, false)
+            core_workspace::double_prime(job, randomness, params, regions, scratch);
+            weigh(job, randomness, witness, params, regions, scratch, false)
         }
     }
 }
@@ -162,20 +176,20 @@ fn commit_with_b_and_h(
     job: &[u32],
     randomness: &[u32],
     witness: &[u32],
-    p: EnvironmentParameters,
-    q: Regions,
+    params: EnvironmentParameters,
+    regions: Regions,
     scratch: &mut [u32],
 ) -> Proved
-    requires { ⌜ Work-given (now job) (now witness) p q (now scratch) × Drawn 5 (now job) (now randomness) ⌝ }
+    requires { ⌜ Work-given (now job) (now witness) params regions (now scratch) × Drawn 5 (now job) (now randomness) ⌝ }
     ensures { λ result. ⌜ ofProved result ≡ work (now (job .entry)) (now (randomness .entry)) (now (witness .entry)) round₄ ⌝ }
-    ensures { λ result. ⌜ Kept (scratch-need (parameters (now (job .entry)))) (now (scratch .entry)) (now (scratch .exit)) ⌝ }
-    ensures { λ result. ⌜ Where-made result (AllMade (now (job .entry)) (now (randomness .entry)) (now (witness .entry)) q (now (scratch .exit))) ⌝ }
+    ensures { λ result. ⌜ Unchanged (scratch-need (parameters (now (job .entry)))) (now (scratch .entry)) (now (scratch .exit)) ⌝ }
+    ensures { λ result. ⌜ Where-made result (AllMade (now (job .entry)) (now (randomness .entry)) (now (witness .entry)) regions (now (scratch .exit))) ⌝ }
 {
-    match commit(job, witness, p, q, scratch) {
+    match commit(job, witness, params, regions, scratch) {
         Proved::Refused(refusal) => Proved::Refused(refusal),
         Proved::Made => {
-            workspace::double_prime(job, randomness, p, q, scratch);
-            weigh(job, randomness, witness, p, q, scratch, true)
+            core_workspace::double_prime(job, randomness, params, regions, scratch);
+            weigh(job, randomness, witness, params, regions, scratch, true)
         }
     }
 }
@@ -185,19 +199,19 @@ fn commit_with_challenges(
     job: &[u32],
     randomness: &[u32],
     witness: &[u32],
-    p: EnvironmentParameters,
-    q: Regions,
+    params: EnvironmentParameters,
+    regions: Regions,
     scratch: &mut [u32],
 ) -> Proved
-    requires { ⌜ Work-given (now job) (now witness) p q (now scratch) × Drawn 7 (now job) (now randomness) ⌝ }
+    requires { ⌜ Work-given (now job) (now witness) params regions (now scratch) × Drawn 7 (now job) (now randomness) ⌝ }
     ensures { λ result. ⌜ ofProved result ≡ work (now (job .entry)) (now (randomness .entry)) (now (witness .entry)) round₅ ⌝ }
-    ensures { λ result. ⌜ Kept (scratch-need (parameters (now (job .entry)))) (now (scratch .entry)) (now (scratch .exit)) ⌝ }
-    ensures { λ result. ⌜ Where-made result (Filled (now (job .entry)) (now (randomness .entry)) (now (witness .entry)) q (now (scratch .exit)) C.Round5) ⌝ }
+    ensures { λ result. ⌜ Unchanged (scratch-need (parameters (now (job .entry)))) (now (scratch .entry)) (now (scratch .exit)) ⌝ }
+    ensures { λ result. ⌜ Where-made result (Filled (now (job .entry)) (now (randomness .entry)) (now (witness .entry)) regions (now (scratch .exit)) C.Round5) ⌝ }
 {
-    match commit_with_h(job, randomness, witness, p, q, scratch) {
+    match commit_with_h(job, randomness, witness, params, regions, scratch) {
         Proved::Refused(refusal) => Proved::Refused(refusal),
         Proved::Made => {
-            workspace::generate_challenges(randomness, p, q, scratch);
+            core_workspace::generate_challenges(randomness, params, regions, scratch);
             Proved::Made
         }
     }
@@ -208,19 +222,19 @@ fn commit_for_all(
     job: &[u32],
     randomness: &[u32],
     witness: &[u32],
-    p: EnvironmentParameters,
-    q: Regions,
+    params: EnvironmentParameters,
+    regions: Regions,
     scratch: &mut [u32],
 ) -> Proved
-    requires { ⌜ Work-given (now job) (now witness) p q (now scratch) × Drawn 7 (now job) (now randomness) ⌝ }
+    requires { ⌜ Work-given (now job) (now witness) params regions (now scratch) × Drawn 7 (now job) (now randomness) ⌝ }
     ensures { λ result. ⌜ ofProved result ≡ work (now (job .entry)) (now (randomness .entry)) (now (witness .entry)) whole ⌝ }
-    ensures { λ result. ⌜ Kept (scratch-need (parameters (now (job .entry)))) (now (scratch .entry)) (now (scratch .exit)) ⌝ }
-    ensures { λ result. ⌜ Where-made result (Filled (now (job .entry)) (now (randomness .entry)) (now (witness .entry)) q (now (scratch .exit)) C.Whole) ⌝ }
+    ensures { λ result. ⌜ Unchanged (scratch-need (parameters (now (job .entry)))) (now (scratch .entry)) (now (scratch .exit)) ⌝ }
+    ensures { λ result. ⌜ Where-made result (Filled (now (job .entry)) (now (randomness .entry)) (now (witness .entry)) regions (now (scratch .exit)) C.Whole) ⌝ }
 {
-    match commit_with_b_and_h(job, randomness, witness, p, q, scratch) {
+    match commit_with_b_and_h(job, randomness, witness, params, regions, scratch) {
         Proved::Refused(refusal) => Proved::Refused(refusal),
         Proved::Made => {
-            workspace::generate_challenges(randomness, p, q, scratch);
+            core_workspace::generate_challenges(randomness, params, regions, scratch);
             Proved::Made
         }
     }
@@ -232,21 +246,28 @@ pub fn fill(
     job: &[u32],
     randomness: &[u32],
     witness: &[u32],
-    p: EnvironmentParameters,
-    q: Regions,
+    params: EnvironmentParameters,
+    regions: Regions,
     scratch: &mut [u32],
 ) -> Proved
-    requires { ⌜ Work-given (now job) (now witness) p q (now scratch) × Drawn (callOf call .handed) (now job) (now randomness) ⌝ }
+    requires { ⌜ Work-given (now job) (now witness) params regions (now scratch) × Drawn (callOf call .handed) (now job) (now randomness) ⌝ }
     ensures { λ result. ⌜ ofProved result ≡ work (now (job .entry)) (now (randomness .entry)) (now (witness .entry)) (callOf call) ⌝ }
-    ensures { λ result. ⌜ Kept (scratch-need (parameters (now (job .entry)))) (now (scratch .entry)) (now (scratch .exit)) ⌝ }
-    ensures { λ result. ⌜ Where-made result (Filled (now (job .entry)) (now (randomness .entry)) (now (witness .entry)) q (now (scratch .exit)) call) ⌝ }
+    ensures { λ result. ⌜ Unchanged (scratch-need (parameters (now (job .entry)))) (now (scratch .entry)) (now (scratch .exit)) ⌝ }
+    ensures { λ result. ⌜ Where-made result (Filled (now (job .entry)) (now (randomness .entry)) (now (witness .entry)) regions (now (scratch .exit)) call) ⌝ }
 {
     match call {
-        Call::Whole => commit_for_all(job, randomness, witness, p, q, scratch),
-        Call::Round1 => commit(job, witness, p, q, scratch),
-        Call::Round2 => commit(job, witness, p, q, scratch),
-        Call::Round3 => commit_with_b_double_prime(job, randomness, witness, p, q, scratch),
-        Call::Round4 => commit_with_h(job, randomness, witness, p, q, scratch),
-        Call::Round5 => commit_with_challenges(job, randomness, witness, p, q, scratch),
+        Call::Whole => commit_for_all(job, randomness, witness, params, regions, scratch),
+        Call::Round1 => commit(job, witness, params, regions, scratch),
+        Call::Round2 => commit(job, witness, params, regions, scratch),
+        Call::Round3 => commit_with_b_double_prime(
+            job,
+            randomness,
+            witness,
+            params,
+            regions,
+            scratch,
+        ),
+        Call::Round4 => commit_with_h(job, randomness, witness, params, regions, scratch),
+        Call::Round5 => commit_with_challenges(job, randomness, witness, params, regions, scratch),
     }
 }

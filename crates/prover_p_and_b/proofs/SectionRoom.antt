@@ -6,13 +6,13 @@ use native.Mathlib.Omega.{arith}
 use mir.Syntax.{w32, w64}
 use mir.Val.{Fits}
 use lib.ListN.{length, set, length-set}
-use Rattle.protocol.specs.Layout.{start, sections, randomness-sections}
-use Rattle.jl.specs.Run as Jl
-use Rattle.regions.specs.declared.Regions.{Regions}
-use Rattle.relation.specs.declared.env_params.EnvironmentParameters.{EnvironmentParameters}
-use Rattle.relation.specs.Parameters.{parametersOf}
-use Rattle.workspace.specs.Ready.{Drawn}
-use Rattle.workspace.proofs.Ready.{ready-sized, Π-within}
+use Rattle.spec_protocol.specs.Layout.{start, sections, randomness-sections}
+use Rattle.core_jl.specs.Run as Jl
+use Rattle.layout_regions.specs.declared.Regions.{Regions}
+use Rattle.relation_env_params.specs.declared.env_params.EnvironmentParameters.{EnvironmentParameters}
+use Rattle.relation_env_params.specs.Parameters.{parametersOf}
+use Rattle.core_workspace.specs.Ready.{Drawn}
+use Rattle.core_workspace.proofs.Ready.{ready-sized, Π-within}
 use Rattle.prover_commit.specs.Work.{Work-given}
 use Rattle.prover_commit.proofs.Room.{s-room}
 use Rattle.prover_p_and_b.specs.Sections.{Projects}
@@ -65,13 +65,15 @@ pub room-2 : (at a b n : ℕ) → at + 1 + a + 1 + b + 1 + b ≤ n → at + 1 + 
 room-2 at a b n h = omega arith
 
 -- what a projection reads, by the code's parameters
-pub p-room : (p : EnvironmentParameters) (R W : List ℕ) → Projects p R W → (at : ℕ) → at ≡ start (randomness-sections (parametersOf p)) 0 → Jl.Within R at W 1 (p .rank) (p .multiplicity)
-p-room p R W h at e =
+pub p-room : (params : EnvironmentParameters) (R W : List ℕ) → Projects params R W → (at : ℕ) → at ≡ start (randomness-sections (parametersOf params)) 0
+    → Jl.Within R at W 1 (params .rank) (params .multiplicity)
+p-room params R W h at e =
     record {
-      matrices = subst (λ a. a + p .multiplicity * 256 * (64 * p .rank) ≤ length R) (sym e) (turned (start (randomness-sections (parametersOf p)) 0) (p .rank) (p .multiplicity) (length R) (h .matrices));
-      vectors = joined (p .rank) (p .multiplicity) (length W) (h .vectors);
-      narrow = up (p .rank) (h .sized .within .n .1);
-      few = up′ (p .multiplicity) (h .sized .within .r .1);
+      matrices = subst (λ a. a + params .multiplicity * 256 * (64 * params .rank) ≤ length R) (sym e)
+          (turned (start (randomness-sections (parametersOf params)) 0) (params .rank) (params .multiplicity) (length R) (h .matrices));
+      vectors = joined (params .rank) (params .multiplicity) (length W) (h .vectors);
+      narrow = up (params .rank) (h .sized .within .n .1);
+      few = up′ (params .multiplicity) (h .sized .within .r .1);
     }
   where
     turned : (a n r l : ℕ) → a + 16384 * n * r ≤ l → a + r * 256 * (64 * n) ≤ l
@@ -87,10 +89,10 @@ p-room p R W h at e =
     up′ n k = omega arith
 
 -- the projection of a call that is handed the first section of randomness
-pub projects : (m : ℕ) (J R W : List ℕ) (p : EnvironmentParameters) (q : Regions) (S : List ℕ) → Work-given J W p q S → Drawn m J R → 0 < m → Projects p R W
-projects m J R W p q S h d f =
+pub projects : (m : ℕ) (J R W : List ℕ) (params : EnvironmentParameters) (regions : Regions) (S : List ℕ) → Work-given J W params regions S → Drawn m J R → 0 < m → Projects params R W
+projects m J R W params regions S h d f =
     record {
-      sized = ready-sized J p q S (h .ready);
+      sized = ready-sized J params regions S (h .ready);
       matrices = subst (λ P. start (randomness-sections P) 0 + 16384 * P .n * P .r ≤ length R) (sym (h .ready .same)) (Π-within m J R d f);
-      vectors = s-room J W p q S h;
+      vectors = s-room J W params regions S h;
     }

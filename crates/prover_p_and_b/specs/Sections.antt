@@ -3,14 +3,14 @@ use mathlib.Core.Path.{_≡_}
 use mathlib.Core.List.{List}
 use Prim.Native.Nat.{ℕ, _+_, _*_, _≤_}
 use lib.ListN.{length}
-use Rattle.lists.specs.Part.{part, splice}
-use Rattle.protocol.specs.Parameters.{Parameters}
-use Rattle.protocol.specs.Layout.{start, sections, randomness-sections}
-use Rattle.jl.specs.Run as Jl
-use Rattle.regions.specs.declared.Regions.{Regions}
-use Rattle.relation.specs.declared.env_params.EnvironmentParameters.{EnvironmentParameters}
-use Rattle.relation.specs.Parameters.{parametersOf}
-use Rattle.sizes.specs.Sizes.{Sized}
+use Rattle.math.specs.lists.Part.{part, splice}
+use Rattle.spec_protocol.specs.Parameters.{Parameters}
+use Rattle.spec_protocol.specs.Layout.{start, sections, randomness-sections}
+use Rattle.core_jl.specs.Run as Jl
+use Rattle.layout_regions.specs.declared.Regions.{Regions}
+use Rattle.relation_env_params.specs.declared.env_params.EnvironmentParameters.{EnvironmentParameters}
+use Rattle.relation_env_params.specs.Parameters.{parametersOf}
+use Rattle.layout_sizes.specs.Sizes.{Sized}
 
 module _ (P : Parameters) where
   open Parameters P using (n, r, L)
@@ -19,10 +19,10 @@ module _ (P : Parameters) where
   abbrev pub p-in : (R W : List ℕ) → List ℕ
   p-in R W = Jl.run R (start (randomness-sections P) 0) W 1 n 0 r
 
-  module _ (q : Regions) (scratch : List ℕ) where
+  module _ (regions : Regions) (scratch : List ℕ) where
     -- b'' as it stands
     abbrev pub b″-in : List ℕ
-    b″-in = part scratch (q .b2) (64 * L)
+    b″-in = part scratch (regions .b2) (64 * L)
 
 -- room for sections from a place on
 abbrev pub SectionsRoom : ℕ → List (List ℕ) → List ℕ → Type 0
@@ -34,10 +34,10 @@ Put at next entry exit ws = (next ≡ at + length (sections ws)) × (exit ≡ sp
 
 -- the witness's vectors lie within its slice
 abbrev pub Vectors : EnvironmentParameters → List ℕ → Type 0
-Vectors p W = 1 + 64 * (p .multiplicity * p .rank) ≤ length W
+Vectors params W = 1 + 64 * (params .multiplicity * params .rank) ≤ length W
 
 -- the parameters are within their limits, and the projection words and the witness's vectors within their slices
-pub record Projects (p : EnvironmentParameters) (R W : List ℕ) : Type 0 where
-  pub sized : Sized (parametersOf p)
-  pub matrices : start (randomness-sections (parametersOf p)) 0 + 16384 * p .rank * p .multiplicity ≤ length R
-  pub vectors : Vectors p W
+pub record Projects (params : EnvironmentParameters) (R W : List ℕ) : Type 0 where
+  pub sized : Sized (parametersOf params)
+  pub matrices : start (randomness-sections (parametersOf params)) 0 + 16384 * params .rank * params .multiplicity ≤ length R
+  pub vectors : Vectors params W

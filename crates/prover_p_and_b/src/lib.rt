@@ -1,10 +1,11 @@
 // p and b'' in the lent output, each after its count. Each function writes from a place on and answers the place after it.
-use jl::projection;
-use regions::Regions;
-use relation::env_params::EnvironmentParameters;
-use sizes::offsets;
+use core_jl::projection;
+use layout_regions::Regions;
+use layout_sizes::names;
+use layout_sizes::offsets;
+use relation_env_params::env_params::EnvironmentParameters;
 ghost use mathlib.Core.List.{[], _∷_};
-ghost use Rattle.relation.specs.Parameters.{parametersOf};
+ghost use Rattle.relation_env_params.specs.Parameters.{parametersOf};
 ghost use Rattle.prover_commit.specs.Work.{Placed};
 ghost use Rattle.prover_p_and_b.specs.Sections.{p-in, b″-in, SectionsRoom, Put, Projects};
 
@@ -12,23 +13,23 @@ ghost use Rattle.prover_p_and_b.specs.Sections.{p-in, b″-in, SectionsR
 pub fn compute_p(
     randomness: &[u32],
     witness: &[u32],
-    p: EnvironmentParameters,
+    params: EnvironmentParameters,
     output: &mut [u32],
     at: usize,
 ) -> usize
-    requires { ⌜ Projects p (now randomness) (now witness) × SectionsRoom at (p-in (parametersOf p) (now randomness) (now witness) ∷ []) (now output) ⌝ }
-    ensures { λ next. ⌜ Put at next (now (output .entry)) (now (output .exit)) (p-in (parametersOf p) (now (randomness .entry)) (now (witness .entry)) ∷ []) ⌝ }
+    requires { ⌜ Projects params (now randomness) (now witness) × SectionsRoom at (p-in (parametersOf params) (now randomness) (now witness) ∷ []) (now output) ⌝ }
+    ensures { λ next. ⌜ Put at next (now (output .entry)) (now (output .exit)) (p-in (parametersOf params) (now (randomness .entry)) (now (witness .entry)) ∷ []) ⌝ }
 {
-    let pi_at = offsets::of_randomness(p, 0);
+    let pi_at = offsets::of_randomness(params, names::PROJECTION);
     output[at] = 256;
     projection::project_run(
         randomness,
         pi_at,
         witness,
         1,
-        p.rank,
+        params.rank,
         0,
-        p.multiplicity,
+        params.multiplicity,
         output,
         at + 1,
     );
@@ -37,16 +38,16 @@ pub fn compute_p(
 
 // b'' from its region.
 pub fn put_b_double_prime(
-    p: EnvironmentParameters,
-    q: Regions,
+    params: EnvironmentParameters,
+    regions: Regions,
     scratch: &[u32],
     output: &mut [u32],
     at: usize,
 ) -> usize
-    requires { ⌜ Placed p q (now scratch) × SectionsRoom at (b″-in (parametersOf p) q (now scratch) ∷ []) (now output) ⌝ }
-    ensures { λ next. ⌜ Put at next (now (output .entry)) (now (output .exit)) (b″-in (parametersOf p) q (now (scratch .entry)) ∷ []) ⌝ }
+    requires { ⌜ Placed params regions (now scratch) × SectionsRoom at (b″-in (parametersOf params) regions (now scratch) ∷ []) (now output) ⌝ }
+    ensures { λ next. ⌜ Put at next (now (output .entry)) (now (output .exit)) (b″-in (parametersOf params) regions (now (scratch .entry)) ∷ []) ⌝ }
 {
-    let count = 64 * p.const_agg_length;
-    words::put_section(output, at, scratch, q.b2, count);
+    let count = 64 * params.const_agg_length;
+    ring_words::put_section(output, at, scratch, regions.b2, count);
     at + 1 + count
 }

@@ -4,18 +4,18 @@ use mathlib.Core.List.{List, [], _∷_}
 use Prim.Native.Nat.{ℕ, _+_, _≤_}
 use native.Mathlib.Omega.{arith}
 use lib.ListN.{length}
-use Rattle.lists.specs.Part.{splice}
-use Rattle.protocol.specs.Parameters.{parameters}
-use Rattle.protocol.specs.Layout.{span, sections}
-use Rattle.protocol.specs.Formulas as F
-use Rattle.protocol.specs.Prover.{whole, round₁, round₂, round₃, round₄, round₅, made-sections, transcript, made}
-use Rattle.protocol.proofs.Accepted.{length-made}
-use Rattle.admission.specs.declared.calls.Call.the-variants as C
-use Rattle.admission.specs.declared.calls.Call as Code
-use Rattle.admission.specs.Admission.{callOf}
-use Rattle.regions.specs.declared.Regions.{Regions}
-use Rattle.relation.specs.declared.env_params.EnvironmentParameters.{EnvironmentParameters}
-use Rattle.relation.specs.Parameters.{parametersOf}
+use Rattle.math.specs.lists.Part.{splice}
+use Rattle.spec_protocol.specs.Parameters.{parameters}
+use Rattle.spec_protocol.specs.Layout.{span, sections}
+use Rattle.spec_protocol.specs.Formulas as F
+use Rattle.spec_protocol.specs.Prover.{whole, round₁, round₂, round₃, round₄, round₅, made-sections, transcript, made}
+use Rattle.spec_protocol.proofs.Accepted.{length-made}
+use Rattle.admission_slices.specs.declared.calls.Call.the-variants as C
+use Rattle.admission_slices.specs.declared.calls.Call as Code
+use Rattle.admission_slices.specs.Admission.{callOf}
+use Rattle.layout_regions.specs.declared.Regions.{Regions}
+use Rattle.relation_env_params.specs.declared.env_params.EnvironmentParameters.{EnvironmentParameters}
+use Rattle.relation_env_params.specs.Parameters.{parametersOf}
 use Rattle.prover_commit.specs.Words.{X, s, u₁-words, p-words, b″-words, u₂-words, z-words, t-words, g-words, h-words}
 use Rattle.prover_commit.specs.Refusals.{makes}
 use Rattle.prover_commit.specs.Work.{Filled}
@@ -53,39 +53,40 @@ module _ (J R W : List ℕ) where
   unfolding made transcript F.u₁ F.u₁-of F.t F.g
   made-all = refl
 
-  module _ (p : EnvironmentParameters) (q : Regions) (S : List ℕ) (same : parametersOf p ≡ parameters J) where
+  module _ (params : EnvironmentParameters) (regions : Regions) (S : List ℕ) (same : parametersOf params ≡ parameters J) where
     -- they are those made of what stands in the scratch
-    pub sections₁ : Filled J R W q S C.Round1 → sections (u₁-in (parametersOf p) q S J ∷ []) ≡ makes J R W round₁
-    sections₁ k = ap (λ w. sections (w ∷ [])) (u₁-made J R W p q S same k) ∙ made₁
+    pub sections₁ : Filled J R W regions S C.Round1 → sections (u₁-in (parametersOf params) regions S J ∷ []) ≡ makes J R W round₁
+    sections₁ k = ap (λ w. sections (w ∷ [])) (u₁-made J R W params regions S same k) ∙ made₁
 
-    pub sections₂ : sections (p-in (parametersOf p) R W ∷ []) ≡ makes J R W round₂
-    sections₂ = ap (λ w. sections (w ∷ [])) (p-made J R W p q S same) ∙ made₂
+    pub sections₂ : sections (p-in (parametersOf params) R W ∷ []) ≡ makes J R W round₂
+    sections₂ = ap (λ w. sections (w ∷ [])) (p-made J R W params regions S same) ∙ made₂
 
-    pub sections₃ : Filled J R W q S C.Round3 → sections (b″-in (parametersOf p) q S ∷ []) ≡ makes J R W round₃
-    sections₃ k = ap (λ w. sections (w ∷ [])) (b″-made J R W p q S same k) ∙ made₃
+    pub sections₃ : Filled J R W regions S C.Round3 → sections (b″-in (parametersOf params) regions S ∷ []) ≡ makes J R W round₃
+    sections₃ k = ap (λ w. sections (w ∷ [])) (b″-made J R W params regions S same k) ∙ made₃
 
-    pub sections₄ : Filled J R W q S C.Round4 → sections (u₂-in (parametersOf p) q S J ∷ []) ≡ makes J R W round₄
-    sections₄ k = ap (λ w. sections (w ∷ [])) (u₂-made J R W p q S same (k .h)) ∙ made₄
+    pub sections₄ : Filled J R W regions S C.Round4 → sections (u₂-in (parametersOf params) regions S J ∷ []) ≡ makes J R W round₄
+    sections₄ k = ap (λ w. sections (w ∷ [])) (u₂-made J R W params regions S same (k .h)) ∙ made₄
 
-    last-made : Filled J R W q S C.Round5 → last-in (parametersOf p) q S W ≡ z-words J R W ∷ t-words J W ∷ g-words J W ∷ h-words J R W ∷ []
+    last-made : Filled J R W regions S C.Round5 → last-in (parametersOf params) regions S W ≡ z-words J R W ∷ t-words J W ∷ g-words J W ∷ h-words J R W ∷ []
     last-made k =
-        ap₂ _∷_ (z-made J R W p q S same (k .1))
-        (ap₂ _∷_ (t-made J R W p q S same (k .0 .committed)) (ap₂ _∷_ (g-made J R W p q S same (k .0 .committed)) (ap (λ w. w ∷ []) (h-made J R W p q S same (k .0 .h)))))
+        ap₂ _∷_ (z-made J R W params regions S same (k .1))
+        (ap₂ _∷_ (t-made J R W params regions S same (k .0 .committed))
+        (ap₂ _∷_ (g-made J R W params regions S same (k .0 .committed)) (ap (λ w. w ∷ []) (h-made J R W params regions S same (k .0 .h)))))
 
-    pub sections₅ : Filled J R W q S C.Round5 → sections (last-in (parametersOf p) q S W) ≡ makes J R W round₅
+    pub sections₅ : Filled J R W regions S C.Round5 → sections (last-in (parametersOf params) regions S W) ≡ makes J R W round₅
     sections₅ k = ap sections (last-made k) ∙ made₅
 
-    pub sections-all : Filled J R W q S C.Whole → sections (all-in (parametersOf p) q S J R W) ≡ makes J R W whole
+    pub sections-all : Filled J R W regions S C.Whole → sections (all-in (parametersOf params) regions S J R W) ≡ makes J R W whole
     sections-all k =
         ap sections
-        (ap₂ _∷_ (u₁-made J R W p q S same (k .0 .committed))
-        (ap₂ _∷_ (p-made J R W p q S same) (ap₂ _∷_ (b″-made J R W p q S same (k .1 .0)) (ap₂ _∷_ (u₂-made J R W p q S same (k .0 .h)) (last-made (k .0, k .1 .1))))))
+        (ap₂ _∷_ (u₁-made J R W params regions S same (k .0 .committed))
+        (ap₂ _∷_ (p-made J R W params regions S same) (ap₂ _∷_ (b″-made J R W params regions S same (k .1 .0)) (ap₂ _∷_ (u₂-made J R W params regions S same (k .0 .h)) (last-made (k .0, k .1 .1))))))
         ∙ made-all
 
   -- where the call is known
   module _ (call known : Code.Call) (told : call ≡ known) where
-    pub filled-known : (q : Regions) (S : List ℕ) → Filled J R W q S call → Filled J R W q S known
-    filled-known q S = subst (Filled J R W q S) told
+    pub filled-known : (regions : Regions) (S : List ℕ) → Filled J R W regions S call → Filled J R W regions S known
+    filled-known regions S = subst (Filled J R W regions S) told
 
     pub room-known : (O : List ℕ) (ws : List (List ℕ)) → span (made-sections (callOf call) (parameters J)) ≤ length O → sections ws ≡ makes J R W (callOf known) → SectionsRoom 0 ws O
     room-known O ws h e =

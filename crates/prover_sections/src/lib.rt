@@ -1,24 +1,25 @@
 // The transcript's sections in the lent output, each after its count. Each function writes from a place on and answers the place after it.
-use admission::calls::Call;
-use commitments::outer_commitments;
-use commitments::outer_commitments::Digits;
+use admission_slices::calls::Call;
+use commitments_outer::outer_commitments;
+use commitments_outer::outer_commitments::Digits;
+use layout_regions::Regions;
+use layout_sizes::names;
+use layout_sizes::offsets;
+use layout_sizes::slices;
 use prover_p_and_b::compute_p;
 use prover_p_and_b::put_b_double_prime;
-use regions::Regions;
-use relation::env_params::EnvironmentParameters;
-use sizes::offsets;
-use sizes::slices;
+use relation_env_params::env_params::EnvironmentParameters;
 ghost use mathlib.Core.Path.{_≡_};
 ghost use mathlib.Core.List.{[], _∷_};
 ghost use Prim.Native.Nat.{_≤_};
 ghost use lib.ListN.{length};
-ghost use Rattle.lists.specs.Part.{splice};
-ghost use Rattle.protocol.specs.Parameters.{parameters};
-ghost use Rattle.protocol.specs.Layout.{span};
-ghost use Rattle.protocol.specs.Prover.{made-sections};
-ghost use Rattle.admission.specs.Admission.{callOf};
-ghost use Rattle.relation.specs.Parameters.{parametersOf};
-ghost use Rattle.workspace.specs.Ready.{Ready, Drawn};
+ghost use Rattle.math.specs.lists.Part.{splice};
+ghost use Rattle.spec_protocol.specs.Parameters.{parameters};
+ghost use Rattle.spec_protocol.specs.Layout.{span};
+ghost use Rattle.spec_protocol.specs.Prover.{made-sections};
+ghost use Rattle.admission_slices.specs.Admission.{callOf};
+ghost use Rattle.relation_env_params.specs.Parameters.{parametersOf};
+ghost use Rattle.core_workspace.specs.Ready.{Ready, Drawn};
 ghost use Rattle.prover_commit.specs.Refusals.{makes};
 ghost use Rattle.prover_commit.specs.Work.{Work-given, Placed, Filled};
 ghost use Rattle.prover_p_and_b.specs.Sections.{SectionsRoom, Put, Vectors, Projects};
@@ -27,38 +28,38 @@ ghost use Rattle.prover_sections.specs.Sections.{u₁-in, u₂-in, z-in,
 // "u1 = B·digits(t) + C·digits(g)"
 fn compute_u1(
     job: &[u32],
-    p: EnvironmentParameters,
-    q: Regions,
+    params: EnvironmentParameters,
+    regions: Regions,
     scratch: &[u32],
     output: &mut [u32],
     at: usize,
 ) -> usize
-    requires { ⌜ Ready (now job) p q (now scratch) × SectionsRoom at (u₁-in (parametersOf p) q (now scratch) (now job) ∷ []) (now output) ⌝ }
-    ensures { λ next. ⌜ Put at next (now (output .entry)) (now (output .exit)) (u₁-in (parametersOf p) q (now (scratch .entry)) (now (job .entry)) ∷ []) ⌝ }
+    requires { ⌜ Ready (now job) params regions (now scratch) × SectionsRoom at (u₁-in (parametersOf params) regions (now scratch) (now job) ∷ []) (now output) ⌝ }
+    ensures { λ next. ⌜ Put at next (now (output .entry)) (now (output .exit)) (u₁-in (parametersOf params) regions (now (scratch .entry)) (now (job .entry)) ∷ []) ⌝ }
 {
     let t = Digits {
-        at: q.t,
-        cells: p.multiplicity * p.kappa,
-        parts: p.t_1,
+        at: regions.t,
+        cells: params.multiplicity * params.kappa,
+        parts: params.t_1,
     };
     let g = Digits {
-        at: q.g,
-        cells: slices::triangle(p.multiplicity),
-        parts: p.t_2,
+        at: regions.g,
+        cells: slices::triangle(params.multiplicity),
+        parts: params.t_2,
     };
-    let b_at = offsets::of_job(p, 7);
-    let c_at = offsets::of_job(p, 8);
-    let count = 64 * p.kappa_1;
+    let b_at = offsets::of_job(params, names::MATRIX_B);
+    let c_at = offsets::of_job(params, names::MATRIX_C);
+    let count = 64 * params.kappa_1;
     output[at] = count as u32;
     outer_commitments::compute_u1(
         job,
         b_at,
         c_at,
-        p.kappa_1,
+        params.kappa_1,
         scratch,
         t,
         g,
-        p.b,
+        params.b,
         output,
         at + 1,
     );
@@ -68,50 +69,59 @@ fn compute_u1(
 // "u2 = D·digits(h)"
 fn compute_u2(
     job: &[u32],
-    p: EnvironmentParameters,
-    q: Regions,
+    params: EnvironmentParameters,
+    regions: Regions,
     scratch: &[u32],
     output: &mut [u32],
     at: usize,
 ) -> usize
-    requires { ⌜ Ready (now job) p q (now scratch) × SectionsRoom at (u₂-in (parametersOf p) q (now scratch) (now job) ∷ []) (now output) ⌝ }
-    ensures { λ next. ⌜ Put at next (now (output .entry)) (now (output .exit)) (u₂-in (parametersOf p) q (now (scratch .entry)) (now (job .entry)) ∷ []) ⌝ }
+    requires { ⌜ Ready (now job) params regions (now scratch) × SectionsRoom at (u₂-in (parametersOf params) regions (now scratch) (now job) ∷ []) (now output) ⌝ }
+    ensures { λ next. ⌜ Put at next (now (output .entry)) (now (output .exit)) (u₂-in (parametersOf params) regions (now (scratch .entry)) (now (job .entry)) ∷ []) ⌝ }
 {
-    let parts = p.t_1;
+    let parts = params.t_1;
     let h = Digits {
-        at: q.a,
-        cells: slices::triangle(p.multiplicity),
+        at: regions.a_or_h,
+        cells: slices::triangle(params.multiplicity),
         parts,
     };
-    let d_at = offsets::of_job(p, 9);
-    let count = 64 * p.kappa_2;
+    let d_at = offsets::of_job(params, names::MATRIX_D);
+    let count = 64 * params.kappa_2;
     output[at] = count as u32;
-    outer_commitments::compute_u2(job, d_at, p.kappa_2, scratch, h, p.b, output, at + 1);
+    outer_commitments::compute_u2(
+        job,
+        d_at,
+        params.kappa_2,
+        scratch,
+        h,
+        params.b,
+        output,
+        at + 1,
+    );
     at + 1 + count
 }
 
 // "z = Σ s_i·c_i"
 fn compute_z(
     witness: &[u32],
-    p: EnvironmentParameters,
-    q: Regions,
+    params: EnvironmentParameters,
+    regions: Regions,
     scratch: &[u32],
     output: &mut [u32],
     at: usize,
 ) -> usize
-    requires { ⌜ Placed p q (now scratch) × Vectors p (now witness) × SectionsRoom at (z-in (parametersOf p) q (now scratch) (now witness) ∷ []) (now output) ⌝ }
-    ensures { λ next. ⌜ Put at next (now (output .entry)) (now (output .exit)) (z-in (parametersOf p) q (now (scratch .entry)) (now (witness .entry)) ∷ []) ⌝ }
+    requires { ⌜ Placed params regions (now scratch) × Vectors params (now witness) × SectionsRoom at (z-in (parametersOf params) regions (now scratch) (now witness) ∷ []) (now output) ⌝ }
+    ensures { λ next. ⌜ Put at next (now (output .entry)) (now (output .exit)) (z-in (parametersOf params) regions (now (scratch .entry)) (now (witness .entry)) ∷ []) ⌝ }
 {
-    let vectors = p.multiplicity;
-    let count = 64 * p.rank;
+    let vectors = params.multiplicity;
+    let count = 64 * params.rank;
     output[at] = count as u32;
-    challenges::compute_z(
+    transcript_challenges::compute_z(
         witness,
         1,
         scratch,
-        q.challenges,
+        regions.challenges,
         vectors,
-        p.rank,
+        params.rank,
         output,
         at + 1,
     );
@@ -120,39 +130,39 @@ fn compute_z(
 
 // t, g and h from their regions.
 fn put_t_g_h(
-    p: EnvironmentParameters,
-    q: Regions,
+    params: EnvironmentParameters,
+    regions: Regions,
     scratch: &[u32],
     output: &mut [u32],
     at: usize,
 ) -> usize
-    requires { ⌜ Placed p q (now scratch) × SectionsRoom at (t-g-h-in (parametersOf p) q (now scratch)) (now output) ⌝ }
-    ensures { λ next. ⌜ Put at next (now (output .entry)) (now (output .exit)) (t-g-h-in (parametersOf p) q (now (scratch .entry))) ⌝ }
+    requires { ⌜ Placed params regions (now scratch) × SectionsRoom at (t-g-h-in (parametersOf params) regions (now scratch)) (now output) ⌝ }
+    ensures { λ next. ⌜ Put at next (now (output .entry)) (now (output .exit)) (t-g-h-in (parametersOf params) regions (now (scratch .entry))) ⌝ }
 {
-    let cells = 64 * (p.multiplicity * p.kappa);
-    let count = 64 * slices::triangle(p.multiplicity);
+    let cells = 64 * (params.multiplicity * params.kappa);
+    let count = 64 * slices::triangle(params.multiplicity);
     let g_at = at + 1 + cells;
     let h_at = g_at + 1 + count;
-    words::put_section(output, at, scratch, q.t, cells);
-    words::put_section(output, g_at, scratch, q.g, count);
-    words::put_section(output, h_at, scratch, q.a, count);
+    ring_words::put_section(output, at, scratch, regions.t, cells);
+    ring_words::put_section(output, g_at, scratch, regions.g, count);
+    ring_words::put_section(output, h_at, scratch, regions.a_or_h, count);
     h_at + 1 + count
 }
 
 // Round 5: z, t, g, h.
 fn put_z_t_g_h(
     witness: &[u32],
-    p: EnvironmentParameters,
-    q: Regions,
+    params: EnvironmentParameters,
+    regions: Regions,
     scratch: &[u32],
     output: &mut [u32],
     at: usize,
 ) -> usize
-    requires { ⌜ Placed p q (now scratch) × Vectors p (now witness) × SectionsRoom at (last-in (parametersOf p) q (now scratch) (now witness)) (now output) ⌝ }
-    ensures { λ next. ⌜ Put at next (now (output .entry)) (now (output .exit)) (last-in (parametersOf p) q (now (scratch .entry)) (now (witness .entry))) ⌝ }
+    requires { ⌜ Placed params regions (now scratch) × Vectors params (now witness) × SectionsRoom at (last-in (parametersOf params) regions (now scratch) (now witness)) (now output) ⌝ }
+    ensures { λ next. ⌜ Put at next (now (output .entry)) (now (output .exit)) (last-in (parametersOf params) regions (now (scratch .entry)) (now (witness .entry))) ⌝ }
 {
-    let t_at = compute_z(witness, p, q, scratch, output, at);
-    put_t_g_h(p, q, scratch, output, t_at)
+    let t_at = compute_z(witness, params, regions, scratch, output, at);
+    put_t_g_h(params, regions, scratch, output, t_at)
 }
 
 // The whole transcript: u1, p, b'', u2, then z, t, g, h.
@@ -160,20 +170,21 @@ fn put_all(
     job: &[u32],
     randomness: &[u32],
     witness: &[u32],
-    p: EnvironmentParameters,
-    q: Regions,
+    params: EnvironmentParameters,
+    regions: Regions,
     scratch: &[u32],
     output: &mut [u32],
 ) -> usize
-    requires { ⌜ Ready (now job) p q (now scratch) × Projects p (now randomness) (now witness) ⌝ }
-    requires { ⌜ SectionsRoom 0 (all-in (parametersOf p) q (now scratch) (now job) (now randomness) (now witness)) (now output) ⌝ }
-    ensures { λ next. ⌜ Put 0 next (now (output .entry)) (now (output .exit)) (all-in (parametersOf p) q (now (scratch .entry)) (now (job .entry)) (now (randomness .entry)) (now (witness .entry))) ⌝ }
+    requires { ⌜ Ready (now job) params regions (now scratch) × Projects params (now randomness) (now witness) ⌝ }
+    requires { ⌜ SectionsRoom 0 (all-in (parametersOf params) regions (now scratch) (now job) (now randomness) (now witness)) (now output) ⌝ }
+    ensures { λ next. ⌜ Put 0 next (now (output .entry)) (now (output .exit))
+        (all-in (parametersOf params) regions (now (scratch .entry)) (now (job .entry)) (now (randomness .entry)) (now (witness .entry))) ⌝ }
 {
-    let p_at = compute_u1(job, p, q, scratch, output, 0);
-    let b_at = compute_p(randomness, witness, p, output, p_at);
-    let u_at = put_b_double_prime(p, q, scratch, output, b_at);
-    let z_at = compute_u2(job, p, q, scratch, output, u_at);
-    put_z_t_g_h(witness, p, q, scratch, output, z_at)
+    let p_at = compute_u1(job, params, regions, scratch, output, 0);
+    let b_at = compute_p(randomness, witness, params, output, p_at);
+    let u_at = put_b_double_prime(params, regions, scratch, output, b_at);
+    let z_at = compute_u2(job, params, regions, scratch, output, u_at);
+    put_z_t_g_h(witness, params, regions, scratch, output, z_at)
 }
 
 // The sections of a call, from what stands in the scratch.
@@ -182,21 +193,21 @@ pub fn put(
     job: &[u32],
     randomness: &[u32],
     witness: &[u32],
-    p: EnvironmentParameters,
-    q: Regions,
+    params: EnvironmentParameters,
+    regions: Regions,
     scratch: &[u32],
     output: &mut [u32],
 ) -> usize
-    requires { ⌜ Work-given (now job) (now witness) p q (now scratch) × Drawn (callOf call .handed) (now job) (now randomness) ⌝ }
-    requires { ⌜ Filled (now job) (now randomness) (now witness) q (now scratch) call × (span (made-sections (callOf call) (parameters (now job))) ≤ length (now output)) ⌝ }
+    requires { ⌜ Work-given (now job) (now witness) params regions (now scratch) × Drawn (callOf call .handed) (now job) (now randomness) ⌝ }
+    requires { ⌜ Filled (now job) (now randomness) (now witness) regions (now scratch) call × (span (made-sections (callOf call) (parameters (now job))) ≤ length (now output)) ⌝ }
     ensures { λ _. ⌜ now (output .exit) ≡ splice (now (output .entry)) 0 (makes (now (job .entry)) (now (randomness .entry)) (now (witness .entry)) (callOf call)) ⌝ }
 {
     match call {
-        Call::Whole => put_all(job, randomness, witness, p, q, scratch, output),
-        Call::Round1 => compute_u1(job, p, q, scratch, output, 0),
-        Call::Round2 => compute_p(randomness, witness, p, output, 0),
-        Call::Round3 => put_b_double_prime(p, q, scratch, output, 0),
-        Call::Round4 => compute_u2(job, p, q, scratch, output, 0),
-        Call::Round5 => put_z_t_g_h(witness, p, q, scratch, output, 0),
+        Call::Whole => put_all(job, randomness, witness, params, regions, scratch, output),
+        Call::Round1 => compute_u1(job, params, regions, scratch, output, 0),
+        Call::Round2 => compute_p(randomness, witness, params, output, 0),
+        Call::Round3 => put_b_double_prime(params, regions, scratch, output, 0),
+        Call::Round4 => compute_u2(job, params, regions, scratch, output, 0),
+        Call::Round5 => put_z_t_g_h(witness, params, regions, scratch, output, 0),
     }
 }

@@ -8,13 +8,13 @@ use native.Mathlib.Omega.{arith}
 use borrow.Author.Tests.{lt-ltb, le-ltb}
 use lib.Dec.{ltb}
 use lib.IntN.{ℤ}
-use Rattle.lists.specs.Table.{table, padded}
-use Rattle.lists.proofs.Table.{table-ext}
-use Rattle.definitions.specs.Answer.{Answer, fine, accepted, refused, failed}
-use Rattle.protocol.specs.Parameters.{Parameters}
-use Rattle.protocol.specs.Ranges.{vector, unused, AllHold}
-use Rattle.protocol.proofs.Ranges.{holds-unique}
-use Rattle.range_vectors.specs.Vectors.{rangeNorms}
+use Rattle.math.specs.lists.Table.{table, padded}
+use Rattle.math.proofs.lists.Table.{table-ext}
+use Rattle.spec_leaves.specs.Answer.{Answer, fine, accepted, refused, failed}
+use Rattle.spec_protocol.specs.Parameters.{Parameters}
+use Rattle.spec_protocol.specs.Ranges.{vector, unused, AllHold}
+use Rattle.spec_protocol.proofs.Ranges.{holds-unique}
+use Rattle.ranges_vectors.specs.Vectors.{rangeNorms}
 use Rattle.ranges.specs.declared.answers.RangesAnswer.{RangesAnswer}
 use Rattle.ranges.specs.Answers.{rangesAnswer, Ranges}
 

@@ -10,33 +10,33 @@ use borrow.Author.Tests.{lt-ltb, le-ltb}
 use lib.Dec.{eqb, ltb}
 use lib.IntN.{ℤ, pos, negsuc, natAbs}
 use lib.ListN.{length, getD, length-map, List·getD-map}
-use Rattle.lists.specs.Table.{table}
-use Rattle.lists.specs.Part.{part}
-use Rattle.lists.specs.Sum.{Σ}
-use Rattle.lists.proofs.Sum.{Σ-ext}
-use Rattle.lists.proofs.Table.{table-ext}
-use Rattle.lists.proofs.Splice.{length-part, getD-part}
-use Rattle.definitions.specs.Zq.{Q, halfQ, size}
-use Rattle.definitions.specs.Norm as Words
-use Rattle.definitions.specs.Answer.{Answer, fine, refused, _then_}
-use Rattle.definitions.specs.Ring.{element}
-use Rattle.protocol.specs.Checks.{require, first}
-use Rattle.protocol.specs.Parameters.{Parameters, parameters}
-use Rattle.protocol.specs.Layout.{span, start, sections, witness-sections, job-refusal, witness-refusal}
-use Rattle.protocol.specs.Views.{public, witness}
-use Rattle.protocol.specs.Formulas.{norm-of}
-use Rattle.protocol.specs.Prover.{witness-norm}
-use Rattle.protocol.specs.Ranges.{number-at, square, norm, Answered, vector, AllHold, ranges-count, pairs-refusal, ranges-refusal, word, exact-witness}
-use Rattle.protocol.proofs.Fine.{then-both-fine, then-fine-left, then-fine-right}
-use Rattle.protocol.proofs.Checks.{first-ext}
-use Rattle.protocol.proofs.Sections.{Filled, none, more, length-sections, section-word, layout-fine, ranged-fine}
-use Rattle.protocol.proofs.Ranges.{exact-never-some, exact-least, exact-greatest, exact-test}
-use Rattle.sizes.specs.Sizes.{Sized}
-use Rattle.admission.proofs.Ready.{job-sized}
-use Rattle.inner_product.specs.Run.{run}
-use Rattle.norms.proofs.Part.{norm-part}
-use Rattle.digit_norms.proofs.Squares.{norm-of-run}
-use Rattle.range_norms.specs.Ends.{Centred}
+use Rattle.math.specs.lists.Table.{table}
+use Rattle.math.specs.lists.Part.{part}
+use Rattle.math.specs.lists.Sum.{Σ}
+use Rattle.math.proofs.lists.Sum.{Σ-ext}
+use Rattle.math.proofs.lists.Table.{table-ext}
+use Rattle.math.proofs.lists.Splice.{length-part, getD-part}
+use Rattle.spec_leaves.specs.Zq.{Q, halfQ, size}
+use Rattle.spec_leaves.specs.Norm as Words
+use Rattle.spec_leaves.specs.Answer.{Answer, fine, refused, _then_}
+use Rattle.spec_leaves.specs.Ring.{element}
+use Rattle.spec_protocol.specs.Checks.{require, first}
+use Rattle.spec_protocol.specs.Parameters.{Parameters, parameters}
+use Rattle.spec_protocol.specs.Layout.{span, start, sections, witness-sections, job-refusal, witness-refusal}
+use Rattle.spec_protocol.specs.Views.{public, witness}
+use Rattle.spec_protocol.specs.Formulas.{norm-of}
+use Rattle.spec_protocol.specs.Prover.{witness-norm}
+use Rattle.spec_protocol.specs.Ranges.{number-at, square, norm, Answered, vector, AllHold, ranges-count, pairs-refusal, ranges-refusal, word, exact-witness}
+use Rattle.spec_protocol.proofs.Fine.{then-both-fine, then-fine-left, then-fine-right}
+use Rattle.spec_protocol.proofs.Checks.{first-ext}
+use Rattle.spec_protocol.proofs.Sections.{Filled, none, more, length-sections, section-word, layout-fine, ranged-fine}
+use Rattle.spec_protocol.proofs.Ranges.{exact-never-some, exact-least, exact-greatest, exact-test}
+use Rattle.layout_sizes.specs.Sizes.{Sized}
+use Rattle.admission_slices.proofs.Ready.{job-sized}
+use Rattle.ring_inner_product.specs.Run.{run}
+use Rattle.ring_zq.proofs.Part.{norm-part}
+use Rattle.ring_digit_norms.proofs.Squares.{norm-of-run}
+use Rattle.ranges_vectors.specs.Ends.{Centred}
 use Rattle.ranges.specs.Answers.{lists-refusal}
 use Rattle.ranges.proofs.Ready.{Ready, ready}
 

@@ -8,14 +8,14 @@ use lib.Dec.{T}
 use lib.IntN.{ℤ, natAbs}
 use lib.Signed.{leZ, _≤ℤ_, leZ-yes}
 use lib.ListN.{length}
-use Rattle.definitions.specs.Zq.{halfQ}
-use Rattle.definitions.specs.Answer.{Answer, fine, refused, _then_}
-use Rattle.protocol.specs.Checks.{require, first}
-use Rattle.protocol.specs.Ranges.{number-at, length-refusal, size-refusal, beyond-refusal, crossed-refusal}
-use Rattle.protocol.proofs.Fine.{required, refused-not-fine, then-fine-left, then-fine-right}
-use Rattle.protocol.proofs.First.{first-each}
-use Rattle.range_norms.specs.Ends.{AllCentred}
-use Rattle.range_norms.proofs.Choices.{Ordered}
+use Rattle.spec_leaves.specs.Zq.{halfQ}
+use Rattle.spec_leaves.specs.Answer.{Answer, fine, refused, _then_}
+use Rattle.spec_protocol.specs.Checks.{require, first}
+use Rattle.spec_protocol.specs.Ranges.{number-at, length-refusal, size-refusal, beyond-refusal, crossed-refusal}
+use Rattle.spec_protocol.proofs.Fine.{required, refused-not-fine, then-fine-left, then-fine-right}
+use Rattle.spec_protocol.proofs.First.{first-each}
+use Rattle.ranges_vectors.specs.Ends.{AllCentred}
+use Rattle.ranges_vectors.proofs.Choices.{Ordered}
 use Rattle.ranges.specs.Answers.{lists-refusal}
 
 -- as many lows and highs as are needed, all centred and in order

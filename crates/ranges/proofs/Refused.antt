@@ -6,14 +6,14 @@ use native.Mathlib.Decide.{ℕ-discrete}
 use native.Mathlib.Omega.{arith}
 use lib.IntN.{ℤ}
 use lib.ListN.{replicate}
-use Rattle.lists.specs.Table.{padded}
-use Rattle.definitions.specs.declared.answers.Refusal.{Refusal}
-use Rattle.definitions.specs.Answer.{Answer, fine, refused, number, place, result, ofRefusal}
-use Rattle.protocol.specs.Parameters.{Parameters}
-use Rattle.protocol.specs.Ranges.{unused, length-refusal}
-use Rattle.protocol.proofs.Fine.{require-holds, require-fails, refused-not-fine}
-use Rattle.admission.proofs.Fit.{refusal-none}
-use Rattle.range_vectors.specs.Vectors.{rangeNorms}
+use Rattle.math.specs.lists.Table.{padded}
+use Rattle.spec_leaves.specs.declared.answers.Refusal.{Refusal}
+use Rattle.spec_leaves.specs.Answer.{Answer, fine, refused, number, place, result, ofRefusal}
+use Rattle.spec_protocol.specs.Parameters.{Parameters}
+use Rattle.spec_protocol.specs.Ranges.{unused, length-refusal}
+use Rattle.spec_protocol.proofs.Fine.{require-holds, require-fails, refused-not-fine}
+use Rattle.admission_slices.proofs.Fit.{refusal-none}
+use Rattle.ranges_vectors.specs.Vectors.{rangeNorms}
 use Rattle.ranges.specs.declared.answers.RangesAnswer.{RangesAnswer}
 use Rattle.ranges.specs.Answers.{refusedRanges, rangesAnswer, Ranges}
 

@@ -4,11 +4,11 @@ use mathlib.Core.List.{List}
 use Prim.Native.Nat.{ℕ}
 use lib.IntN.{ℤ}
 use lib.ListN.{length, replicate}
-use Rattle.lists.specs.Table.{padded}
-use Rattle.definitions.specs.Answer.{Answer, fine, refused, number, place, result, ofRefusal, _then_}
-use Rattle.protocol.specs.Parameters.{Parameters, parameters}
-use Rattle.protocol.specs.Ranges.{Answered, unused, AllHold, length-refusal, beyond-refusal, crossed-refusal, pairs-refusal, ranges-refusal}
-use Rattle.range_vectors.specs.Vectors.{rangeNorms}
+use Rattle.math.specs.lists.Table.{padded}
+use Rattle.spec_leaves.specs.Answer.{Answer, fine, refused, number, place, result, ofRefusal, _then_}
+use Rattle.spec_protocol.specs.Parameters.{Parameters, parameters}
+use Rattle.spec_protocol.specs.Ranges.{Answered, unused, AllHold, length-refusal, beyond-refusal, crossed-refusal, pairs-refusal, ranges-refusal}
+use Rattle.ranges_vectors.specs.Vectors.{rangeNorms}
 use Rattle.ranges.specs.declared.answers.RangesAnswer.{RangesAnswer}
 use Rattle.ranges.specs.declared.answers.RangesChecked.{RangesChecked}
 use Rattle.ranges.specs.declared.answers.RangesChecked.the-variants as C

@@ -1,9 +1,9 @@
 // What the call on ranges answers.
-use call_answers::numbers::number_of;
-use definitions::answers::Refusal;
-use range_vectors::RangeNorms;
+use api_answers::numbers::number_of;
+use ranges_vectors::vectors::RangeNorms;
+use spec_leaves::answers::Refusal;
 ghost use mathlib.Core.Path.{_≡_};
-ghost use Rattle.definitions.specs.Answer.{number, place, ofRefusal};
+ghost use Rattle.spec_leaves.specs.Answer.{number, place, ofRefusal};
 ghost use Rattle.ranges.specs.Answers.{refusedRanges};
 
 // A refusal's number and place with sixteen unused answers, or 0 and 0 with those of the r witness vectors.

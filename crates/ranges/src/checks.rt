@@ -1,15 +1,15 @@
 // The refusals after the job's: 11, 37 and 36.
 use crate::answers::RangesChecked;
-use admission::answers::SliceChecked;
-use definitions::answers::Refusal;
-use range_pairs::first_beyond;
-use range_pairs::first_crossed;
+use admission_slices::answers::SliceChecked;
+use ranges_vectors::pairs::first_beyond;
+use ranges_vectors::pairs::first_crossed;
+use spec_leaves::answers::Refusal;
 ghost use mathlib.Core.Path.{_≡_};
 ghost use Prim.Native.Nat.{_≤_};
 ghost use lib.ListN.{length};
-ghost use Rattle.definitions.specs.Answer.{_then_};
-ghost use Rattle.protocol.specs.Ranges.{length-refusal, beyond-refusal, crossed-refusal};
-ghost use Rattle.admission.specs.Admission.{ofSliceChecked};
+ghost use Rattle.spec_leaves.specs.Answer.{_then_};
+ghost use Rattle.spec_protocol.specs.Ranges.{length-refusal, beyond-refusal, crossed-refusal};
+ghost use Rattle.admission_slices.specs.Admission.{ofSliceChecked};
 ghost use Rattle.ranges.specs.Answers.{ofRangesChecked, lists-refusal};
 
 // 11: a list of another length than needed.

@@ -1,13 +1,17 @@
 // Replays the published Rust's recorded answers on the leaf calls and on the calls on whole slices.
 // It prints how many of each kind are the same, and a `differs` line for each that is not.
-use replay_calls::calls;
-use replay_leaves::leaves;
+mod answers;
+mod calls;
+mod elements;
+mod leaves;
+mod numbers;
+
+use replay_records::counts;
 use replay_records::reading;
 use replay_records::reading::Next;
+use replay_records::report;
+use replay_records::slices;
 use replay_records::words;
-use replay_report::counts;
-use replay_report::report;
-use replay_slices::slices;
 
 // The kind of a file's last record, whose body counts the others.
 const END: u32 = 63;

@@ -1,5 +1,5 @@
 // Words in a record's bytes, four bytes each, least first.
-use rq::rq::Rq;
+use ring_rq::rq::Rq;
 ghost use Prim.Native.Nat.{_<_};
 
 // A record's body has at most this many words.

@@ -1,6 +1,6 @@
 // Prints the sections of two files of little-endian words: each one's number, place and count, and where the words end.
+use layout_section_reader::Read;
 use libc::STDOUT_FILENO;
-use section_reader::Read;
 ghost use Prim.Native.Nat.{_<_};
 
 fn wide(x: u8) -> u32
@@ -62,7 +62,7 @@ fn print_sections(words: &[u32]) {
     let mut position = 0;
     let mut number = 0;
     while position < words.len() {
-        match section_reader::section_from(words, position) {
+        match layout_section_reader::section_from(words, position) {
             Read::Section(place, count) => {
                 print_section(number + 1, place, count);
                 position = place + count;

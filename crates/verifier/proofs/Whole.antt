@@ -4,36 +4,36 @@ use mathlib.Core.List.{List, [], _∷_}
 use Prim.Native.Nat.{ℕ, _≤_}
 use native.Mathlib.Omega.{arith}
 use lib.ListN.{length, replicate, take, drop, length-append, length-replicate, length-drop}
-use Rattle.lists.specs.Part.{splice}
+use Rattle.math.specs.lists.Part.{splice}
 use denote.Enum.Declared.{tagOf}
 use types.Run.{OneOf}
-use Rattle.definitions.proofs.answers.Checked.{the-type}
-use Rattle.definitions.specs.Answer.{Answer, accepted, ofRefusal, ofChecked, ofVerdict, result, _then_}
-use Rattle.definitions.specs.declared.answers.Checked.{Checked}
-use Rattle.definitions.specs.declared.answers.Checked.the-variants as C
-use Rattle.definitions.specs.declared.answers.Verdict.{Verdict}
-use Rattle.definitions.specs.declared.answers.Refusal.{Refusal}
-use Rattle.protocol.specs.Parameters.{parameters}
-use Rattle.protocol.specs.Layout.{randomness-sections, scratch-need}
-use Rattle.protocol.specs.Views.{Public, Message, public, message}
-use Rattle.protocol.specs.Formulas.{cells-left-of, u₁-of, u₂-of}
-use Rattle.protocol.specs.Prover.{t-norm, g-norm, h-norm, zeroed}
-use Rattle.protocol.specs.Verifier.{check-21, check-22, check-23, check-24, check-25, check-26, check-27, check-28, check-29, checks, verify-refusal, verify, verify-scratch}
-use Rattle.protocol.proofs.Then.{then-assoc}
-use Rattle.layout.specs.Laid.{Laid}
-use Rattle.layout.proofs.Then.{goes-on}
-use Rattle.regions.specs.declared.Regions.{Regions}
-use Rattle.regions.specs.Laid as Places
-use Rattle.relation.specs.declared.env_params.EnvironmentParameters.{EnvironmentParameters}
-use Rattle.relation.specs.Parameters.{parametersOf}
-use Rattle.sizes.specs.Sizes.{Sized}
-use Rattle.admission.specs.declared.answers.Admitted.{Admitted}
-use Rattle.admission.specs.declared.answers.Admitted.the-variants as A
-use Rattle.admission.specs.Admission.{ofAdmitted, At, Verifiable}
-use Rattle.admission.proofs.Fit.{refusal-none}
-use Rattle.workspace.specs.Ready.{Ready, Drawn}
-use Rattle.workspace.specs.Holds.{Kept}
-use Rattle.workspace.proofs.Kept.{kept-clear}
+use Rattle.spec_leaves.proofs.answers.Checked.{the-type}
+use Rattle.spec_leaves.specs.Answer.{Answer, accepted, ofRefusal, ofChecked, ofVerdict, result, _then_}
+use Rattle.spec_leaves.specs.declared.answers.Checked.{Checked}
+use Rattle.spec_leaves.specs.declared.answers.Checked.the-variants as C
+use Rattle.spec_leaves.specs.declared.answers.Verdict.{Verdict}
+use Rattle.spec_leaves.specs.declared.answers.Refusal.{Refusal}
+use Rattle.spec_protocol.specs.Parameters.{parameters}
+use Rattle.spec_protocol.specs.Layout.{randomness-sections, scratch-need}
+use Rattle.spec_protocol.specs.Views.{Public, Message, public, message}
+use Rattle.spec_protocol.specs.Formulas.{cells-left-of, u₁-of, u₂-of}
+use Rattle.spec_protocol.specs.Prover.{t-norm, g-norm, h-norm, zeroed}
+use Rattle.spec_protocol.specs.Verifier.{check-21, check-22, check-23, check-24, check-25, check-26, check-27, check-28, check-29, checks, verify-refusal, verify, verify-scratch}
+use Rattle.spec_protocol.proofs.Then.{then-assoc}
+use Rattle.spec_protocol.specs.Laid.{Laid}
+use Rattle.layout_sections.proofs.Then.{goes-on}
+use Rattle.layout_regions.specs.declared.Regions.{Regions}
+use Rattle.layout_regions.specs.Laid as Places
+use Rattle.relation_env_params.specs.declared.env_params.EnvironmentParameters.{EnvironmentParameters}
+use Rattle.relation_env_params.specs.Parameters.{parametersOf}
+use Rattle.layout_sizes.specs.Sizes.{Sized}
+use Rattle.admission_slices.specs.declared.answers.Admitted.{Admitted}
+use Rattle.admission_slices.specs.declared.answers.Admitted.the-variants as A
+use Rattle.admission_slices.specs.Admission.{ofAdmitted, At, Verifiable}
+use Rattle.admission_slices.proofs.Fit.{refusal-none}
+use Rattle.core_workspace.specs.Ready.{Ready, Drawn}
+use Rattle.core_workspace.specs.Holds.{Unchanged}
+use Rattle.core_workspace.proofs.Unchanged.{unchanged-clear}
 use Rattle.verifier_common.specs.Work.{Sent}
 use Rattle.verifier_common.specs.Answers.{cells-left}
 use Rattle.verifier_norms.specs.Order.{norms}
@@ -62,7 +62,8 @@ abbrev pub of-commitments : Public → Message → Answer
 of-commitments X M = ((t-norm X (M .t) then g-norm X (M .g)) then check-28 X M) then (h-norm X (M .h) then check-29 X M)
 
 -- the checks of no randomness, and of parameters alone, are those of the protocol
-norms-are : (J R T : List ℕ) → norms J R T ≡ check-21 (public J R) (message (parameters J) T) then check-22 (public J R) (message (parameters J) T) then check-23 (public J R) (message (parameters J) T)
+norms-are : (J R T : List ℕ) → norms J R T ≡ check-21 (public J R) (message (parameters J) T) then check-22 (public J R) (message (parameters J) T) then check-23 (public J R)
+    (message (parameters J) T)
 unfolding check-21 check-23
 norms-are J R T = refl
 
@@ -102,64 +103,65 @@ module _ (J R T : List ℕ) where
   stopped-is v e k r f = stops-all v r 0 f e k (rest J R T then last) ∙ all-after
 
   -- where they pass, what the rest answers, and the number that is found of the digits
-  pub goes-on-is : (p : EnvironmentParameters) → parametersOf p ≡ parameters J → (v : Checked) → ofChecked v ≡ norms J R T → v ≡ C.Passed
-      → (d : SentDigits) → Taken (parametersOf p) T d → (w : Checked) → ofChecked w ≡ rest J R T
+  pub goes-on-is : (params : EnvironmentParameters) → parametersOf params ≡ parameters J → (v : Checked) → ofChecked v ≡ norms J R T → v ≡ C.Passed
+      → (d : SentDigits) → Taken (parametersOf params) T d → (w : Checked) → ofChecked w ≡ rest J R T
       → (r : Verdict) → ofVerdict r ≡ ofChecked w then accepted (d .«cells_left») → ofVerdict r ≡ all-checks J R T
-  goes-on-is p same v e passed d found w g r f =
+  goes-on-is params same v e passed d found w g r f =
       f
       ∙ ap₂ (λ a n. a then accepted n) g (found .left ∙ ap (λ P. cells-left P T) same)
       ∙ goes-on-after v e passed (rest J R T then last)
       ∙ all-after
 
 -- a call that is refused nothing before its work
-module _ (J R T : List ℕ) (p : EnvironmentParameters) where
+module _ (J R T : List ℕ) (params : EnvironmentParameters) where
   -- its sections of the randomness lie within it
   pub all-drawn : Laid R 0 (take 7 (randomness-sections (parameters J))) → Drawn 7 J R
   all-drawn laid k h = omega (arith, laid .inside k h)
 
-  module _ (scratch : ℕ) (v : Verifiable J R T scratch p) where
+  module _ (scratch : ℕ) (v : Verifiable J R T scratch params) where
     -- what its checks stand on
-    pub sent-of : Sent J R T p
+    pub sent-of : Sent J R T params
     sent-of = record {
       posed = record { same = v .handed .same; sound = v .handed .sound; job = v .handed .job; transcript = v .transcript };
       drawn = all-drawn (v .handed .randomness);
     }
 
     -- its parameters can be reckoned with
-    pub call-sized : Sized (parametersOf p)
+    pub call-sized : Sized (parametersOf params)
     call-sized = reckoned (sent-of .posed)
 
     -- and regions be laid out
-    pub few-regions : (p .rank ≤ 64) × (p .multiplicity ≤ 16) × (p .kappa ≤ 16) × (p .«const_agg_length» ≤ 32)
+    pub few-regions : (params .rank ≤ 64) × (params .multiplicity ≤ 16) × (params .kappa ≤ 16) × (params .«const_agg_length» ≤ 32)
     few-regions =
         let w = call-sized .within in
         (w .n .1, w .r .1, w .κ .1, w .L .1)
 
     -- with the regions of its scratch
-    pub ready-of : (q : Regions) (S : List ℕ) → length S ≡ scratch → Places.Laid (p .rank) (p .multiplicity) (p .kappa) (p .«const_agg_length») q → Ready J p q S
-    ready-of q S e laid = record {
+    pub ready-of : (regions : Regions) (S : List ℕ) → length S ≡ scratch → Places.Laid (params .rank) (params .multiplicity) (params .kappa) (params .«const_agg_length») regions
+        → Ready J params regions S
+    ready-of regions S e laid = record {
       same = v .handed .same;
       sound = v .handed .sound;
       job = v .handed .job;
-      regions = subst (λ Q. Places.Laid (Q .n) (Q .r) (Q .κ) (Q .L) q) (v .handed .same) laid;
+      laid = subst (λ Q. Places.Laid (Q .n) (Q .r) (Q .κ) (Q .L) regions) (v .handed .same) laid;
       room = subst (λ n. scratch-need (parameters J) ≤ n) (sym e) (v .handed .scratch-fits);
     }
 
     -- the length that is cleared
-    pub need-is : (n : ℕ) → n ≡ scratch-need (parametersOf p) → n ≡ scratch-need (parameters J)
+    pub need-is : (n : ℕ) → n ≡ scratch-need (parametersOf params) → n ≡ scratch-need (parameters J)
     need-is n e = e ∙ ap scratch-need (v .handed .same)
 
     -- it lies within the scratch
-    pub need-within : (n : ℕ) (S′ : List ℕ) → n ≡ scratch-need (parametersOf p) → length S′ ≡ scratch → n ≤ length S′
+    pub need-within : (n : ℕ) (S′ : List ℕ) → n ≡ scratch-need (parametersOf params) → length S′ ≡ scratch → n ≤ length S′
     need-within n S′ e f = subst (λ m. n ≤ m) (sym f) (subst (λ m. m ≤ scratch) (sym (need-is n e)) (v .handed .scratch-fits))
 
     -- the scratch at the end
-    pub cleared : (n : ℕ) (S S′ S″ : List ℕ) → n ≡ scratch-need (parametersOf p) → length S ≡ scratch → Kept (scratch-need (parameters J)) S S′
+    pub cleared : (n : ℕ) (S S′ S″ : List ℕ) → n ≡ scratch-need (parametersOf params) → length S ≡ scratch → Unchanged (scratch-need (parameters J)) S S′
         → S″ ≡ splice S′ 0 (replicate n 0) → S″ ≡ zeroed (scratch-need (parameters J)) S
-    cleared n S S′ S″ e f kept g =
+    cleared n S S′ S″ e f unchanged g =
         g
         ∙ ap (λ m. splice S′ 0 (replicate m 0)) (need-is n e)
-        ∙ kept-clear (scratch-need (parameters J)) S S′ kept (subst (λ m. scratch-need (parameters J) ≤ m) (sym f) (v .handed .scratch-fits))
+        ∙ unchanged-clear (scratch-need (parameters J)) S S′ unchanged (subst (λ m. scratch-need (parameters J) ≤ m) (sym f) (v .handed .scratch-fits))
 
 -- a slice whose first words are set to zero keeps its length
 pub length-zeroed : (need : ℕ) (S S′ : List ℕ) → S′ ≡ zeroed need S → need ≤ length S → length S′ ≡ length S
@@ -182,8 +184,8 @@ module _ (J R T S : List ℕ) (x : Admitted) (e : ofAdmitted x ≡ verify-refusa
         refusal-none r Z S ∙ ap (λ a. result a Z S) (sym (ap ofAdmitted is) ∙ e)
 
   -- a call whose work is done
-  module _ (p : EnvironmentParameters) (is : x ≡ A.Fit p) where
-    pub admitted : At x (Verifiable J R T (length S)) → Verifiable J R T (length S) p
+  module _ (params : EnvironmentParameters) (is : x ≡ A.Fit params) where
+    pub admitted : At x (Verifiable J R T (length S)) → Verifiable J R T (length S) params
     admitted h = subst (λ y. At y (Verifiable J R T (length S))) is h
 
     pub worked-verdict : {a : Answer} → a ≡ checks (public J R) (message (parameters J) T) → a ≡ verify J R T (length S)

@@ -1,10 +1,10 @@
 -- The order of all checks.
 use mathlib.Core.List.{List}
 use Prim.Native.Nat.{ℕ}
-use Rattle.definitions.specs.Answer.{Answer, _then_}
-use Rattle.protocol.specs.Parameters.{parameters}
-use Rattle.protocol.specs.Views.{public, message}
-use Rattle.protocol.specs.Verifier.{checks}
+use Rattle.spec_leaves.specs.Answer.{Answer, _then_}
+use Rattle.spec_protocol.specs.Parameters.{parameters}
+use Rattle.spec_protocol.specs.Views.{public, message}
+use Rattle.spec_protocol.specs.Verifier.{checks}
 use Rattle.verifier_relations.specs.Order.{relations}
 use Rattle.verifier_commitments.specs.Order.{commitments}
 

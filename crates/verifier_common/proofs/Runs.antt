@@ -5,12 +5,12 @@ use mathlib.Core.List.{List, List-discrete}
 use Prim.Native.Nat.{ℕ, _+_, _≤_, _<_}
 use native.Mathlib.Decide.{ℕ-discrete}
 use lib.ListN.{length, getD}
-use Rattle.lists.specs.Part.{part}
-use Rattle.lists.proofs.Table.{table-ext}
-use Rattle.lists.proofs.Splice.{getD-part, part-table}
-use Rattle.definitions.specs.Answer.{Answer, fine}
-use Rattle.definitions.proofs.Cases.{decided, not-decided}
-use Rattle.protocol.specs.Checks.{require}
+use Rattle.math.specs.lists.Part.{part}
+use Rattle.math.proofs.lists.Table.{table-ext}
+use Rattle.math.proofs.lists.Splice.{getD-part, part-table}
+use Rattle.spec_leaves.specs.Answer.{Answer, fine}
+use Rattle.spec_leaves.proofs.Cases.{decided, not-decided}
+use Rattle.spec_protocol.specs.Checks.{require}
 use Rattle.verifier_common.specs.Work.{equal}
 
 -- a test by what is decided

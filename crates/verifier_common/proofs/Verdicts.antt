@@ -7,16 +7,16 @@ use native.Mathlib.Nat.{not-suc-le-zero, eq-or-lt-of-le}
 use native.Mathlib.Omega.{arith}
 use denote.Enum.Declared.{tagOf}
 use types.Run.{OneOf}
-use Rattle.definitions.proofs.answers.Checked.{the-type}
-use Rattle.definitions.specs.Answer.{Answer, fine, accepted, refused, failed, number, place, _then_, ofRefusal, ofFailed, ofChecked, ofVerdict}
-use Rattle.definitions.specs.declared.answers.Refusal.{Refusal}
-use Rattle.definitions.specs.declared.answers.Refusal.the-variants as R
-use Rattle.definitions.specs.declared.answers.FailedCheck.{FailedCheck}
-use Rattle.definitions.specs.declared.answers.FailedCheck.the-variants as F
-use Rattle.definitions.specs.declared.answers.Checked.{Checked}
-use Rattle.definitions.specs.declared.answers.Checked.the-variants as C
-use Rattle.definitions.specs.declared.answers.Verdict.{Verdict}
-use Rattle.protocol.specs.Checks.{first}
+use Rattle.spec_leaves.proofs.answers.Checked.{the-type}
+use Rattle.spec_leaves.specs.Answer.{Answer, fine, accepted, refused, failed, number, place, _then_, ofRefusal, ofFailed, ofChecked, ofVerdict}
+use Rattle.spec_leaves.specs.declared.answers.Refusal.{Refusal}
+use Rattle.spec_leaves.specs.declared.answers.Refusal.the-variants as R
+use Rattle.spec_leaves.specs.declared.answers.FailedCheck.{FailedCheck}
+use Rattle.spec_leaves.specs.declared.answers.FailedCheck.the-variants as F
+use Rattle.spec_leaves.specs.declared.answers.Checked.{Checked}
+use Rattle.spec_leaves.specs.declared.answers.Checked.the-variants as C
+use Rattle.spec_leaves.specs.declared.answers.Verdict.{Verdict}
+use Rattle.spec_protocol.specs.Checks.{first}
 
 -- the first of the tests that fails gives the answer
 pub first-failed : (n i : ℕ) (f : ℕ → Answer) (number : ℕ) (values : List ℕ) → i < n → first i f ≡ fine → f i ≡ failed number values → first n f ≡ failed number values
@@ -86,5 +86,6 @@ module _ {a : Answer} where
   stops (C.Failed f) e k b = sym (failed-then f b) ∙ ap (λ x. x then b) e
 
   -- its verdict is the answer too, with any number
-  pub stops-all : (v : Checked) (r : Verdict) (cells : ℕ) → ofVerdict r ≡ ofChecked v then accepted cells → ofChecked v ≡ a → OneOf (1 ∷ 2 ∷ []) (tagOf the-type v) → (b : Answer) → ofVerdict r ≡ a then b
+  pub stops-all : (v : Checked) (r : Verdict) (cells : ℕ) → ofVerdict r ≡ ofChecked v then accepted cells → ofChecked v ≡ a → OneOf (1 ∷ 2 ∷ []) (tagOf the-type v)
+      → (b : Answer) → ofVerdict r ≡ a then b
   stops-all v r cells e h k b = e ∙ ap (λ x. x then accepted cells) h ∙ sym (stops v h k (accepted cells)) ∙ stops v h k b

@@ -1,12 +1,12 @@
 -- What each check answers, over what it is about (document 01, "The verifier's checks, in order").
 use mathlib.Core.List.{List, []}
 use Prim.Native.Nat.{ℕ}
-use Rattle.definitions.specs.Answer.{Answer, _then_}
-use Rattle.protocol.specs.Parameters.{Parameters, parameters}
-use Rattle.protocol.specs.Views.{Public, public, message}
-use Rattle.protocol.specs.Formulas.{cells-left-of}
-use Rattle.protocol.specs.Prover.{t-norm, g-norm, h-norm}
-use Rattle.protocol.specs.Verifier.{check-21, check-22, check-23, check-24, check-25, check-26, check-27, check-28, check-29}
+use Rattle.spec_leaves.specs.Answer.{Answer, _then_}
+use Rattle.spec_protocol.specs.Parameters.{Parameters, parameters}
+use Rattle.spec_protocol.specs.Views.{Public, public, message}
+use Rattle.spec_protocol.specs.Formulas.{cells-left-of}
+use Rattle.spec_protocol.specs.Prover.{t-norm, g-norm, h-norm}
+use Rattle.spec_protocol.specs.Verifier.{check-21, check-22, check-23, check-24, check-25, check-26, check-27, check-28, check-29}
 
 -- public values of which the parameters alone are given: 21, 23 and 14 to 16 read no others
 abbrev pub bare : Parameters → Public

@@ -1,11 +1,11 @@
 // Equality of elements and of runs of words.
-use rq::rq::Rq;
+use ring_rq::rq::Rq;
 ghost use mathlib.Core.Path.{_≡_};
 ghost use mathlib.Core.List.{List-discrete};
 ghost use Prim.Native.Nat.{_+_, _≤_};
 ghost use native.Mathlib.Decide.{ℕ-discrete};
 ghost use lib.ListN.{length};
-ghost use Rattle.lists.specs.Part.{part};
+ghost use Rattle.math.specs.lists.Part.{part};
 ghost use Rattle.verifier_common.specs.Work.{equal};
 
 // Whether the `count` words from two places on are the same.

@@ -1,8 +1,8 @@
 // The verdict after the last check.
-use definitions::answers::Checked;
-use definitions::answers::Verdict;
+use spec_leaves::answers::Checked;
+use spec_leaves::answers::Verdict;
 ghost use mathlib.Core.Path.{_≡_};
-ghost use Rattle.definitions.specs.Answer.{accepted, _then_, ofChecked, ofVerdict};
+ghost use Rattle.spec_leaves.specs.Answer.{accepted, _then_, ofChecked, ofVerdict};
 
 // An acceptance with its number where the checks pass, else what stopped them.
 pub fn verdict_of(checked: Checked, cells_left: usize) -> Verdict

@@ -6,23 +6,23 @@ use native.Mathlib.Nat.{zero-add, add-zero, add-assoc, mod-eq-of-lt}
 use native.Mathlib.Decide.{ℕ-discrete}
 use native.Mathlib.Omega.{arith}
 use lib.ListN.{length, getD}
-use Rattle.lists.specs.Part.{part}
-use Rattle.lists.specs.Sum.{Σ}
-use Rattle.lists.proofs.Sum.{Σ-ext}
-use Rattle.lists.proofs.Splice.{getD-part}
-use Rattle.definitions.specs.Zq.{Q}
-use Rattle.definitions.specs.Rq.{coeff}
-use Rattle.definitions.specs.Ring.{words}
-use Rattle.definitions.specs.Answer.{Answer, failed}
-use Rattle.rq_vector.proofs.Rows.{coeff-element}
-use Rattle.rq_matrix.proofs.Place.{rows-within}
-use Rattle.protocol.specs.Checks.{require, first}
-use Rattle.protocol.specs.Parameters.{Parameters, parameters}
-use Rattle.protocol.specs.Layout.{start, job-sections, randomness-sections, transcript-sections}
-use Rattle.protocol.specs.Views.{public, message}
-use Rattle.protocol.specs.Verifier.{check-22}
-use Rattle.relation.specs.declared.env_params.EnvironmentParameters.{EnvironmentParameters}
-use Rattle.relation.specs.Parameters.{parametersOf}
+use Rattle.math.specs.lists.Part.{part}
+use Rattle.math.specs.lists.Sum.{Σ}
+use Rattle.math.proofs.lists.Sum.{Σ-ext}
+use Rattle.math.proofs.lists.Splice.{getD-part}
+use Rattle.spec_leaves.specs.Zq.{Q}
+use Rattle.spec_leaves.specs.Rq.{coeff}
+use Rattle.spec_leaves.specs.Ring.{words}
+use Rattle.spec_leaves.specs.Answer.{Answer, failed}
+use Rattle.spec_leaves.proofs.Bridge.{coeff-element}
+use Rattle.ring_rq_matrix.proofs.Place.{rows-within}
+use Rattle.spec_protocol.specs.Checks.{require, first}
+use Rattle.spec_protocol.specs.Parameters.{Parameters, parameters}
+use Rattle.spec_protocol.specs.Layout.{start, job-sections, randomness-sections, transcript-sections}
+use Rattle.spec_protocol.specs.Views.{public, message}
+use Rattle.spec_protocol.specs.Verifier.{check-22}
+use Rattle.relation_env_params.specs.declared.env_params.EnvironmentParameters.{EnvironmentParameters}
+use Rattle.relation_env_params.specs.Parameters.{parametersOf}
 use Rattle.verifier_common.specs.Work.{Sent}
 use Rattle.verifier_constant_terms.specs.Terms.{constant-term}
 
@@ -80,7 +80,7 @@ b-index k n h = omega arith
 first-word : (T : List ℕ) (from : ℕ) → getD T from 0 < Q → getD (part T from 64) 0 0 % Q ≡ getD T from 0
 first-word T from h = ap (λ x. x % Q) (getD-part 0 T from 64 0 (omega arith) ∙ ap (λ i. getD T i 0) (add-zero from)) ∙ mod-eq-of-lt h
 
-module _ {J R T : List ℕ} {p : EnvironmentParameters} (w : Sent J R T p) where
+module _ {J R T : List ℕ} {params : EnvironmentParameters} (w : Sent J R T params) where
   -- the job's parameters
   abbrev P : Parameters
   P = parameters J
@@ -95,7 +95,8 @@ module _ {J R T : List ℕ} {p : EnvironmentParameters} (w : Sent J R T p) where
       subst (λ i. getD T (i + 64 * k) 0 < Q) (zero-add at-b″) (w .posed .transcript .ranges 2 (64 * k) (omega arith) (b-index k (P .L) h))
 
   -- at the places of the sections
-  at-sections : Terms J R T (P .L) (P .l) (31 + start (job-sections P) 2) (start (randomness-sections P) 1) (start (randomness-sections P) 2) (start (transcript-sections P) 1) (start (transcript-sections P) 2)
+  at-sections : Terms J R T (P .L) (P .l) (31 + start (job-sections P) 2) (start (randomness-sections P) 1) (start (randomness-sections P) 2) (start (transcript-sections P) 1)
+      (start (transcript-sections P) 2)
   at-sections = record {
     rows = refl;
     few = w .posed .sound .within .L .1;
@@ -119,16 +120,20 @@ module _ {J R T : List ℕ} {p : EnvironmentParameters} (w : Sent J R T p) where
   }
 
   -- at the places that `offsets` gives
-  pub terms : (b0 psi om projection at : ℕ) → b0 ≡ 31 + start (job-sections (parametersOf p)) 2 → psi ≡ start (randomness-sections (parametersOf p)) 1
-      → om ≡ start (randomness-sections (parametersOf p)) 2 → projection ≡ start (transcript-sections (parametersOf p)) 1 → at ≡ start (transcript-sections (parametersOf p)) 2
-      → Terms J R T (p .«const_agg_length») (p .«constraint_l») b0 psi om projection at
+  pub terms : (b0 psi om projection at : ℕ) → b0 ≡ 31 + start (job-sections (parametersOf params)) 2 → psi ≡ start (randomness-sections (parametersOf params)) 1
+      → om ≡ start (randomness-sections (parametersOf params)) 2 → projection ≡ start (transcript-sections (parametersOf params)) 1 → at ≡ start (transcript-sections (parametersOf params)) 2
+      → Terms J R T (params .«const_agg_length») (params .«constraint_l») b0 psi om projection at
   terms b0 psi om projection at e₁ e₂ e₃ e₄ e₅ =
-      subst (λ b0. Terms J R T (p .«const_agg_length») (p .«constraint_l») b0 psi om projection at) (sym e₁)
-      (subst (λ psi. Terms J R T (p .«const_agg_length») (p .«constraint_l») (31 + start (job-sections (parametersOf p)) 2) psi om projection at) (sym e₂)
-      (subst (λ om. Terms J R T (p .«const_agg_length») (p .«constraint_l») (31 + start (job-sections (parametersOf p)) 2) (start (randomness-sections (parametersOf p)) 1) om projection at) (sym e₃)
-      (subst (λ pr. Terms J R T (p .«const_agg_length») (p .«constraint_l») (31 + start (job-sections (parametersOf p)) 2) (start (randomness-sections (parametersOf p)) 1) (start (randomness-sections (parametersOf p)) 2) pr at) (sym e₄)
-      (subst (λ at. Terms J R T (p .«const_agg_length») (p .«constraint_l») (31 + start (job-sections (parametersOf p)) 2) (start (randomness-sections (parametersOf p)) 1) (start (randomness-sections (parametersOf p)) 2) (start (transcript-sections (parametersOf p)) 1) at) (sym e₅)
-      (subst (λ (P : Parameters). Terms J R T (P .L) (P .l) (31 + start (job-sections P) 2) (start (randomness-sections P) 1) (start (randomness-sections P) 2) (start (transcript-sections P) 1) (start (transcript-sections P) 2)) (sym (w .posed .same)) at-sections)))))
+      subst (λ b0. Terms J R T (params .«const_agg_length») (params .«constraint_l») b0 psi om projection at) (sym e₁)
+      (subst (λ psi. Terms J R T (params .«const_agg_length») (params .«constraint_l») (31 + start (job-sections (parametersOf params)) 2) psi om projection at) (sym e₂)
+      (subst (λ om. Terms J R T (params .«const_agg_length») (params .«constraint_l») (31 + start (job-sections (parametersOf params)) 2)
+      (start (randomness-sections (parametersOf params)) 1) om projection at) (sym e₃)
+      (subst (λ pr. Terms J R T (params .«const_agg_length») (params .«constraint_l») (31 + start (job-sections (parametersOf params)) 2)
+      (start (randomness-sections (parametersOf params)) 1) (start (randomness-sections (parametersOf params)) 2) pr at) (sym e₄)
+      (subst (λ at. Terms J R T (params .«const_agg_length») (params .«constraint_l») (31 + start (job-sections (parametersOf params)) 2)
+      (start (randomness-sections (parametersOf params)) 1) (start (randomness-sections (parametersOf params)) 2) (start (transcript-sections (parametersOf params)) 1) at) (sym e₅)
+      (subst (λ (P : Parameters). Terms J R T (P .L) (P .l) (31 + start (job-sections P) 2) (start (randomness-sections P) 1) (start (randomness-sections P) 2)
+      (start (transcript-sections P) 1) (start (transcript-sections P) 2)) (sym (w .posed .same)) at-sections)))))
 
 module _ {J R T : List ℕ} {L l b0 psi om projection at : ℕ} (m : Terms J R T L l b0 psi om projection at) where
   -- the test of row k by the values that the code has

@@ -2,8 +2,8 @@
 use mathlib.Core.List.{List}
 use Prim.Native.Nat.{ℕ, _+_, _*_, _%_}
 use lib.ListN.{getD}
-use Rattle.lists.specs.Sum.{Σ}
-use Rattle.definitions.specs.Zq.{Q}
+use Rattle.math.specs.lists.Sum.{Σ}
+use Rattle.spec_leaves.specs.Zq.{Q}
 
 -- Σ x_k·y_k over the words from two places on
 abbrev pub products : List ℕ → ℕ → List ℕ → ℕ → ℕ → ℕ

@@ -1,14 +1,15 @@
 // The constant terms of what the prover sends: check 22.
 use crate::numbers;
-use definitions::answers::Checked;
-use definitions::answers::FailedCheck;
-use relation::env_params::EnvironmentParameters;
-use rq_product::product;
-use sizes::offsets;
+use layout_sizes::names;
+use layout_sizes::offsets;
+use relation_env_params::env_params::EnvironmentParameters;
+use ring_rq_product::product;
+use spec_leaves::answers::Checked;
+use spec_leaves::answers::FailedCheck;
 ghost use mathlib.Core.Path.{_≡_};
 ghost use Prim.Native.Nat.{_+_, _≤_};
 ghost use lib.ListN.{length};
-ghost use Rattle.definitions.specs.Answer.{ofChecked};
+ghost use Rattle.spec_leaves.specs.Answer.{ofChecked};
 ghost use Rattle.verifier_common.specs.Work.{Sent};
 ghost use Rattle.verifier_common.specs.Answers.{constant-terms};
 ghost use Rattle.verifier_constant_terms.specs.Terms.{constant-term};
@@ -38,19 +39,19 @@ pub fn check_constant_terms(
     job: &[u32],
     randomness: &[u32],
     transcript: &[u32],
-    p: EnvironmentParameters,
+    params: EnvironmentParameters,
 ) -> Checked
-    requires { ⌜ Sent (now job) (now randomness) (now transcript) p ⌝ }
+    requires { ⌜ Sent (now job) (now randomness) (now transcript) params ⌝ }
     ensures { λ v. ⌜ ofChecked v ≡ constant-terms (now (job .entry)) (now (randomness .entry)) (now (transcript .entry)) ⌝ }
 {
-    let b0 = offsets::of_job(p, 2);
-    let l = p.constraint_l;
-    let psi = offsets::of_randomness(p, 1);
-    let omega = offsets::of_randomness(p, 2);
-    let projection = offsets::of_transcript(p, 1);
-    let at = offsets::of_transcript(p, 2);
+    let b0 = offsets::of_job(params, names::CONSTANT_B);
+    let l = params.constraint_l;
+    let psi = offsets::of_randomness(params, names::PSI);
+    let omega = offsets::of_randomness(params, names::OMEGA);
+    let projection = offsets::of_transcript(params, names::P);
+    let at = offsets::of_transcript(params, names::B_DOUBLE_PRIME);
     let mut k = 0;
-    while k < p.const_agg_length {
+    while k < params.const_agg_length {
         let sent = transcript[at + 64 * k];
         let computed = constant_term(
             job,

@@ -1,10 +1,10 @@
 // Sums of products of words.
-use rq_product::product;
-use zq::wide::wide;
+use ring_rq_product::product;
+use ring_zq::wide::wide;
 ghost use mathlib.Core.Path.{_≡_};
 ghost use Prim.Native.Nat.{_+_, _*_, _≤_, _<_, _%_, _^_};
 ghost use lib.ListN.{length};
-ghost use Rattle.definitions.specs.Zq.{Q};
+ghost use Rattle.spec_leaves.specs.Zq.{Q};
 ghost use Rattle.verifier_constant_terms.specs.Terms.{products};
 
 // A number modulo Q with the products of the `count` words from two places on added: the upper half of a product counts what Q lacks of 2^32.

@@ -4,11 +4,11 @@ use mathlib.Core.Bool.{cond}
 use mathlib.Core.List.{List, flatMap}
 use Prim.Native.Nat.{ℕ, _+_}
 use lib.Dec.{leb}
-use Rattle.lists.specs.Table.{table}
-use Rattle.definitions.specs.Answer.{Answer, fine, refused, value128, _then_}
-use Rattle.protocol.specs.Parameters.{Parameters}
-use Rattle.protocol.specs.Views.{message}
-use Rattle.protocol.specs.Formulas.{norm-of, two-parts, t-digits, g-digits, h-digits}
+use Rattle.math.specs.lists.Table.{table}
+use Rattle.spec_leaves.specs.Answer.{Answer, fine, refused, value128, _then_}
+use Rattle.spec_protocol.specs.Parameters.{Parameters}
+use Rattle.spec_protocol.specs.Views.{message}
+use Rattle.spec_protocol.specs.Formulas.{norm-of, two-parts, t-digits, g-digits, h-digits}
 use Rattle.verifier_common.specs.Answers.{bare, cells-left}
 use Rattle.verifier_digits.specs.declared.SentDigits.{SentDigits}
 

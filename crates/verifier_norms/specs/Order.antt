@@ -3,11 +3,11 @@ use mathlib.Core.Path.{_≡_}
 use mathlib.Core.List.{List, [], _∷_}
 use Prim.Native.Nat.{ℕ}
 use native.Mathlib.Decide.{decLe}
-use Rattle.definitions.specs.Answer.{Answer, failed, _then_}
-use Rattle.definitions.specs.declared.answers.Checked.{Checked}
-use Rattle.definitions.specs.declared.answers.Checked.the-variants as C
-use Rattle.protocol.specs.Checks.{require}
-use Rattle.protocol.specs.Parameters.{Parameters, parameters}
+use Rattle.spec_leaves.specs.Answer.{Answer, failed, _then_}
+use Rattle.spec_leaves.specs.declared.answers.Checked.{Checked}
+use Rattle.spec_leaves.specs.declared.answers.Checked.the-variants as C
+use Rattle.spec_protocol.specs.Checks.{require}
+use Rattle.spec_protocol.specs.Parameters.{Parameters, parameters}
 use Rattle.verifier_common.specs.Answers.{projection-norm, constant-terms, norm-sum}
 use Rattle.verifier_digits.specs.declared.SentDigits.{SentDigits}
 use Rattle.verifier_digits.specs.Taken.{Taken}

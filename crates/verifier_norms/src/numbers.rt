@@ -1,8 +1,8 @@
 // A limit 128 times another.
-use definitions::answers::U128;
+use spec_leaves::answers::U128;
 ghost use mathlib.Core.Path.{_≡_};
 ghost use Prim.Native.Nat.{_*_, _<_, _^_};
-ghost use Rattle.definitions.specs.Answer.{value128};
+ghost use Rattle.spec_leaves.specs.Answer.{value128};
 
 // 128 times a number.
 pub fn times_128(x: U128) -> U128

@@ -1,7 +1,7 @@
 -- The order of the checks 24 to 27.
 use mathlib.Core.List.{List}
 use Prim.Native.Nat.{ℕ}
-use Rattle.definitions.specs.Answer.{Answer, _then_}
+use Rattle.spec_leaves.specs.Answer.{Answer, _then_}
 use Rattle.verifier_common.specs.Answers.{az, z-inner, phi, relation}
 
 module _ (J R T : List ℕ) where

@@ -2,17 +2,17 @@
 use mathlib.Core.List.{List, []}
 use Prim.Native.Nat.{ℕ, _+_, _*_, _≤_}
 use lib.ListN.{length}
-use Rattle.definitions.specs.Answer.{Answer, failed}
-use Rattle.definitions.specs.Rq.{Element}
-use Rattle.inner_product.specs.Run.{run}
-use Rattle.protocol.specs.Checks.{require}
-use Rattle.protocol.specs.Parameters.{Parameters, parameters}
-use Rattle.protocol.specs.Views.{Public, Message, public, message}
-use Rattle.protocol.specs.Formulas.{_⊗_, sum, dot, pairs}
-use Rattle.protocol.specs.Verifier.{same, twice, check-24, check-25}
-use Rattle.regions.specs.declared.Regions.{Regions}
-use Rattle.relation.specs.declared.env_params.EnvironmentParameters.{EnvironmentParameters}
-use Rattle.rq_matrix.specs.Region.{vector}
+use Rattle.spec_leaves.specs.Answer.{Answer, failed}
+use Rattle.spec_leaves.specs.Rq.{Element}
+use Rattle.ring_inner_product.specs.Run.{run}
+use Rattle.spec_protocol.specs.Checks.{require}
+use Rattle.spec_protocol.specs.Parameters.{Parameters, parameters}
+use Rattle.spec_protocol.specs.Views.{Public, Message, public, message}
+use Rattle.spec_protocol.specs.Formulas.{_⊗_, sum, dot, pairs}
+use Rattle.spec_protocol.specs.Verifier.{same, twice, check-24, check-25}
+use Rattle.layout_regions.specs.declared.Regions.{Regions}
+use Rattle.relation_env_params.specs.declared.env_params.EnvironmentParameters.{EnvironmentParameters}
+use Rattle.ring_rq_matrix.specs.Region.{vector}
 use Rattle.verifier_common.specs.Answers.{bare}
 
 -- the public values with challenges handed in
@@ -39,18 +39,18 @@ with-challenges X c = record {
 
 -- the challenges' region, and element m of line i in its region
 abbrev pub challenges-in : List ℕ → Regions → ℕ → Element
-challenges-in S q = run S (q .challenges) 64
+challenges-in S regions = run S (regions .challenges) 64
 
 abbrev pub lines-in : Parameters → List ℕ → Regions → ℕ → ℕ → Element
-lines-in P S q = vector S (q .phi) (P .n)
+lines-in P S regions = vector S (regions .phi) (P .n)
 
 -- the challenges' region lies within the scratch
 abbrev pub ChallengesWithin : EnvironmentParameters → Regions → List ℕ → Type 0
-ChallengesWithin p q S = q .challenges + 64 * p .multiplicity ≤ length S
+ChallengesWithin params regions S = regions .challenges + 64 * params .multiplicity ≤ length S
 
 -- so does that of the lines
 abbrev pub LinesWithin : EnvironmentParameters → Regions → List ℕ → Type 0
-LinesWithin p q S = q .phi + 64 * (p .multiplicity * p .rank) ≤ length S
+LinesWithin params regions S = regions .phi + 64 * (params .multiplicity * params .rank) ≤ length S
 
 -- "24 A·z is not Σ t_i·c_i."
 abbrev pub az-of : (J T : List ℕ) → (ℕ → Element) → Answer

@@ -1,22 +1,23 @@
 // The relations between what the prover sends and the statement: checks 24 to 26, and 24 to 27 in order.
-use aggregated_relation::check_relation;
-use definitions::answers::Checked;
-use definitions::answers::FailedCheck;
-use inner_product;
-use regions::Regions;
-use relation::env_params::EnvironmentParameters;
-use rq_matrix;
-use sizes::offsets;
+use core_workspace;
+use layout_regions::Regions;
+use layout_sizes::names;
+use layout_sizes::offsets;
+use relation_env_params::env_params::EnvironmentParameters;
+use ring_inner_product;
+use ring_rq_matrix;
+use spec_leaves::answers::Checked;
+use spec_leaves::answers::FailedCheck;
+use verifier_aggregated::check_relation;
 use verifier_common::equal;
-use workspace;
 ghost use mathlib.Core.Path.{_≡_};
-ghost use Rattle.definitions.specs.Answer.{ofChecked};
-ghost use Rattle.protocol.specs.Parameters.{parameters};
-ghost use Rattle.protocol.specs.Layout.{scratch-need};
-ghost use Rattle.workspace.specs.Ready.{Ready};
-ghost use Rattle.workspace.specs.Holds.{Holds, Kept};
-ghost use Rattle.workspace.specs.Aggregated.{φ-words, a″-words};
-ghost use Rattle.relation.specs.Parameters.{parametersOf};
+ghost use Rattle.spec_leaves.specs.Answer.{ofChecked};
+ghost use Rattle.spec_protocol.specs.Parameters.{parameters};
+ghost use Rattle.spec_protocol.specs.Layout.{scratch-need};
+ghost use Rattle.core_workspace.specs.Ready.{Ready};
+ghost use Rattle.core_workspace.specs.Holds.{Holds, Unchanged};
+ghost use Rattle.core_workspace.specs.Aggregated.{φ-words, a″-words};
+ghost use Rattle.relation_env_params.specs.Parameters.{parametersOf};
 ghost use Rattle.verifier_common.specs.Work.{Received, Posed, Sent};
 ghost use Rattle.verifier_relations.specs.Order.{openings, aggregated, relations};
 ghost use Rattle.verifier_relations.specs.Held.{Challenged};
@@ -26,30 +27,30 @@ ghost use Rattle.verifier_relations.specs.Weighed.{challenges-in, lines-
 pub fn check_az(
     job: &[u32],
     transcript: &[u32],
-    p: EnvironmentParameters,
-    q: Regions,
+    params: EnvironmentParameters,
+    regions: Regions,
     scratch: &[u32],
 ) -> Checked
-    requires { ⌜ Posed (now job) (now transcript) p × Ready (now job) p q (now scratch) ⌝ }
-    ensures { λ v. ⌜ ofChecked v ≡ az-of (now (job .entry)) (now (transcript .entry)) (challenges-in (now (scratch .entry)) q) ⌝ }
+    requires { ⌜ Posed (now job) (now transcript) params × Ready (now job) params regions (now scratch) ⌝ }
+    ensures { λ v. ⌜ ofChecked v ≡ az-of (now (job .entry)) (now (transcript .entry)) (challenges-in (now (scratch .entry)) regions) ⌝ }
 {
-    let a_at = offsets::of_job(p, 6);
-    let z_at = offsets::of_transcript(p, 4);
-    let t_at = offsets::of_transcript(p, 5);
-    let n = p.rank;
-    let kappa = p.kappa;
+    let a_at = offsets::of_job(params, names::MATRIX_A);
+    let z_at = offsets::of_transcript(params, names::Z);
+    let t_at = offsets::of_transcript(params, names::T);
+    let n = params.rank;
+    let kappa = params.kappa;
     let mut k = 0;
     while k < kappa {
         let row = a_at + 64 * (k * n);
-        let left = inner_product::inner_product(job, row, 64, transcript, z_at, 64, n);
-        let right = rq_matrix::column_sum(
+        let left = ring_inner_product::inner_product(job, row, 64, transcript, z_at, 64, n);
+        let right = ring_rq_matrix::column_sum(
             transcript,
             t_at,
             kappa,
             k,
             scratch,
-            q.challenges,
-            p.multiplicity,
+            regions.challenges,
+            params.multiplicity,
         );
         if !equal::same(left, right) {
             return Checked::Failed(FailedCheck::Az);
@@ -62,17 +63,31 @@ pub fn check_az(
 // "25 ⟨z,z⟩ is not Σ g_ij·c_i·c_j."
 pub fn check_z_inner(
     transcript: &[u32],
-    p: EnvironmentParameters,
-    q: Regions,
+    params: EnvironmentParameters,
+    regions: Regions,
     scratch: &[u32],
 ) -> Checked
-    requires { ⌜ Received (now transcript) p × ChallengesWithin p q (now scratch) ⌝ }
-    ensures { λ v. ⌜ ofChecked v ≡ z-inner-of (parametersOf p) (now (transcript .entry)) (challenges-in (now (scratch .entry)) q) ⌝ }
+    requires { ⌜ Received (now transcript) params × ChallengesWithin params regions (now scratch) ⌝ }
+    ensures { λ v. ⌜ ofChecked v ≡ z-inner-of (parametersOf params) (now (transcript .entry)) (challenges-in (now (scratch .entry)) regions) ⌝ }
 {
-    let z_at = offsets::of_transcript(p, 4);
-    let g_at = offsets::of_transcript(p, 6);
-    let left = inner_product::inner_product(transcript, z_at, 64, transcript, z_at, 64, p.rank);
-    let right = rq_matrix::sum_of_weighted(transcript, g_at, scratch, q.challenges, p.multiplicity);
+    let z_at = offsets::of_transcript(params, names::Z);
+    let g_at = offsets::of_transcript(params, names::G);
+    let left = ring_inner_product::inner_product(
+        transcript,
+        z_at,
+        64,
+        transcript,
+        z_at,
+        64,
+        params.rank,
+    );
+    let right = ring_rq_matrix::sum_of_weighted(
+        transcript,
+        g_at,
+        scratch,
+        regions.challenges,
+        params.multiplicity,
+    );
     if equal::same(left, right) {
         Checked::Passed
     } else {
@@ -83,26 +98,33 @@ pub fn check_z_inner(
 // "26 twice Σ⟨φ_i,z⟩·c_i is not Σ h_ij·c_i·c_j."
 pub fn check_phi(
     transcript: &[u32],
-    p: EnvironmentParameters,
-    q: Regions,
+    params: EnvironmentParameters,
+    regions: Regions,
     scratch: &[u32],
 ) -> Checked
-    requires { ⌜ Received (now transcript) p × ChallengesWithin p q (now scratch) × LinesWithin p q (now scratch) ⌝ }
-    ensures { λ v. ⌜ ofChecked v ≡ phi-of (parametersOf p) (now (transcript .entry)) (challenges-in (now (scratch .entry)) q) (lines-in (parametersOf p) (now (scratch .entry)) q) ⌝ }
+    requires { ⌜ Received (now transcript) params × ChallengesWithin params regions (now scratch) × LinesWithin params regions (now scratch) ⌝ }
+    ensures { λ v. ⌜ ofChecked v ≡ phi-of (parametersOf params) (now (transcript .entry)) (challenges-in (now (scratch .entry)) regions)
+        (lines-in (parametersOf params) (now (scratch .entry)) regions) ⌝ }
 {
-    let z_at = offsets::of_transcript(p, 4);
-    let h_at = offsets::of_transcript(p, 7);
-    let lines = rq_matrix::sum_of_lines(
+    let z_at = offsets::of_transcript(params, names::Z);
+    let h_at = offsets::of_transcript(params, names::H);
+    let lines = ring_rq_matrix::sum_of_lines(
         scratch,
-        q.phi,
+        regions.phi,
         transcript,
         z_at,
         scratch,
-        q.challenges,
-        p.multiplicity,
-        p.rank,
+        regions.challenges,
+        params.multiplicity,
+        params.rank,
     );
-    let right = rq_matrix::sum_of_weighted(transcript, h_at, scratch, q.challenges, p.multiplicity);
+    let right = ring_rq_matrix::sum_of_weighted(
+        transcript,
+        h_at,
+        scratch,
+        regions.challenges,
+        params.multiplicity,
+    );
     let twice = lines.add(lines);
     if equal::same(twice, right) {
         Checked::Passed
@@ -116,21 +138,21 @@ pub fn check_openings(
     job: &[u32],
     randomness: &[u32],
     transcript: &[u32],
-    p: EnvironmentParameters,
-    q: Regions,
+    params: EnvironmentParameters,
+    regions: Regions,
     scratch: &mut [u32],
 ) -> Checked
-    requires { ⌜ Sent (now job) (now randomness) (now transcript) p × Ready (now job) p q (now scratch) ⌝ }
+    requires { ⌜ Sent (now job) (now randomness) (now transcript) params × Ready (now job) params regions (now scratch) ⌝ }
     ensures { λ v. ⌜ ofChecked v ≡ openings (now (job .entry)) (now (randomness .entry)) (now (transcript .entry)) ⌝ }
-    ensures { λ v. ⌜ Kept (scratch-need (parameters (now (job .entry)))) (now (scratch .entry)) (now (scratch .exit)) ⌝ }
-    ensures { λ v. ⌜ Challenged (now (job .entry)) (now (randomness .entry)) q (now (scratch .exit)) ⌝ }
+    ensures { λ v. ⌜ Unchanged (scratch-need (parameters (now (job .entry)))) (now (scratch .entry)) (now (scratch .exit)) ⌝ }
+    ensures { λ v. ⌜ Challenged (now (job .entry)) (now (randomness .entry)) regions (now (scratch .exit)) ⌝ }
 {
-    workspace::generate_challenges(randomness, p, q, scratch);
-    let first = check_az(job, transcript, p, q, scratch);
+    core_workspace::generate_challenges(randomness, params, regions, scratch);
+    let first = check_az(job, transcript, params, regions, scratch);
     let Checked::Passed = first else {
         return first;
     };
-    check_z_inner(transcript, p, q, scratch)
+    check_z_inner(transcript, params, regions, scratch)
 }
 
 // 26 and 27, in order, of the φ and a'' in their regions.
@@ -138,21 +160,21 @@ pub fn check_phi_and_relation(
     job: &[u32],
     randomness: &[u32],
     transcript: &[u32],
-    p: EnvironmentParameters,
-    q: Regions,
+    params: EnvironmentParameters,
+    regions: Regions,
     scratch: &mut [u32],
 ) -> Checked
-    requires { ⌜ Sent (now job) (now randomness) (now transcript) p × Ready (now job) p q (now scratch) × Challenged (now job) (now randomness) q (now scratch) ⌝ }
-    requires { ⌜ Holds (now scratch) (q .phi) (φ-words (now job) (now randomness)) × Holds (now scratch) (q .a2) (a″-words (now job) (now randomness)) ⌝ }
+    requires { ⌜ Sent (now job) (now randomness) (now transcript) params × Ready (now job) params regions (now scratch) × Challenged (now job) (now randomness) regions (now scratch) ⌝ }
+    requires { ⌜ Holds (now scratch) (regions .phi) (φ-words (now job) (now randomness)) × Holds (now scratch) (regions .a2) (a″-words (now job) (now randomness)) ⌝ }
     ensures { λ v. ⌜ ofChecked v ≡ aggregated (now (job .entry)) (now (randomness .entry)) (now (transcript .entry)) ⌝ }
-    ensures { λ v. ⌜ Kept (scratch-need (parameters (now (job .entry)))) (now (scratch .entry)) (now (scratch .exit)) ⌝ }
+    ensures { λ v. ⌜ Unchanged (scratch-need (parameters (now (job .entry)))) (now (scratch .entry)) (now (scratch .exit)) ⌝ }
 {
-    let first = check_phi(transcript, p, q, scratch);
+    let first = check_phi(transcript, params, regions, scratch);
     let Checked::Passed = first else {
         return first;
     };
-    workspace::a(job, randomness, p, q, scratch);
-    check_relation(job, randomness, transcript, p, q, scratch)
+    core_workspace::a(job, randomness, params, regions, scratch);
+    check_relation(job, randomness, transcript, params, regions, scratch)
 }
 
 // 26 and 27, in order, of the aggregated constraints.
@@ -160,17 +182,17 @@ pub fn check_aggregated(
     job: &[u32],
     randomness: &[u32],
     transcript: &[u32],
-    p: EnvironmentParameters,
-    q: Regions,
+    params: EnvironmentParameters,
+    regions: Regions,
     scratch: &mut [u32],
 ) -> Checked
-    requires { ⌜ Sent (now job) (now randomness) (now transcript) p × Ready (now job) p q (now scratch) × Challenged (now job) (now randomness) q (now scratch) ⌝ }
+    requires { ⌜ Sent (now job) (now randomness) (now transcript) params × Ready (now job) params regions (now scratch) × Challenged (now job) (now randomness) regions (now scratch) ⌝ }
     ensures { λ v. ⌜ ofChecked v ≡ aggregated (now (job .entry)) (now (randomness .entry)) (now (transcript .entry)) ⌝ }
-    ensures { λ v. ⌜ Kept (scratch-need (parameters (now (job .entry)))) (now (scratch .entry)) (now (scratch .exit)) ⌝ }
+    ensures { λ v. ⌜ Unchanged (scratch-need (parameters (now (job .entry)))) (now (scratch .entry)) (now (scratch .exit)) ⌝ }
 {
-    workspace::double_prime(job, randomness, p, q, scratch);
-    workspace::phi(job, randomness, p, q, scratch);
-    check_phi_and_relation(job, randomness, transcript, p, q, scratch)
+    core_workspace::double_prime(job, randomness, params, regions, scratch);
+    core_workspace::phi(job, randomness, params, regions, scratch);
+    check_phi_and_relation(job, randomness, transcript, params, regions, scratch)
 }
 
 // 24 to 27, in order.
@@ -178,17 +200,17 @@ pub fn check_relations(
     job: &[u32],
     randomness: &[u32],
     transcript: &[u32],
-    p: EnvironmentParameters,
-    q: Regions,
+    params: EnvironmentParameters,
+    regions: Regions,
     scratch: &mut [u32],
 ) -> Checked
-    requires { ⌜ Sent (now job) (now randomness) (now transcript) p × Ready (now job) p q (now scratch) ⌝ }
+    requires { ⌜ Sent (now job) (now randomness) (now transcript) params × Ready (now job) params regions (now scratch) ⌝ }
     ensures { λ v. ⌜ ofChecked v ≡ relations (now (job .entry)) (now (randomness .entry)) (now (transcript .entry)) ⌝ }
-    ensures { λ v. ⌜ Kept (scratch-need (parameters (now (job .entry)))) (now (scratch .entry)) (now (scratch .exit)) ⌝ }
+    ensures { λ v. ⌜ Unchanged (scratch-need (parameters (now (job .entry)))) (now (scratch .entry)) (now (scratch .exit)) ⌝ }
 {
-    let first = check_openings(job, randomness, transcript, p, q, scratch);
+    let first = check_openings(job, randomness, transcript, params, regions, scratch);
     let Checked::Passed = first else {
         return first;
     };
-    check_aggregated(job, randomness, transcript, p, q, scratch)
+    check_aggregated(job, randomness, transcript, params, regions, scratch)
 }

@@ -1,4 +1,4 @@
 mod Rows
 mod Whole
-pub mod Openings
-pub mod Forks
+pub mod Window
+mod Windows

@@ -3,14 +3,14 @@ use mathlib.Core.Path.{_≡_, ap, _∙_}
 use mathlib.Core.List.{List}
 use Prim.Native.Nat.{ℕ}
 use lib.ListN.{length, replicate}
-use Rattle.definitions.specs.declared.answers.Refusal.{Refusal}
-use Rattle.definitions.specs.Answer.{fine, refused, number, place, result, ofRefusal}
-use Rattle.protocol.specs.Parameters.{parameters}
-use Rattle.protocol.specs.Prover.{zeroed}
-use Rattle.protocol.specs.Many.{many-need, many-refusal, many-scratch}
-use Rattle.call_answers.specs.declared.verdicts.LabradorVerdict.{LabradorVerdict}
-use Rattle.call_answers.specs.Calls.{failedCheck}
-use Rattle.admission.proofs.Fit.{refusal-none}
+use Rattle.spec_leaves.specs.declared.answers.Refusal.{Refusal}
+use Rattle.spec_leaves.specs.Answer.{fine, refused, number, place, result, ofRefusal}
+use Rattle.spec_protocol.specs.Parameters.{parameters}
+use Rattle.spec_protocol.specs.Prover.{zeroed}
+use Rattle.spec_protocol.specs.Many.{many-need, many-refusal, many-scratch}
+use Rattle.api_answers.specs.declared.verdicts.LabradorVerdict.{LabradorVerdict}
+use Rattle.api_answers.specs.Calls.{failedCheck}
+use Rattle.admission_slices.proofs.Fit.{refusal-none}
 use Rattle.verify_many.specs.declared.answers.LabradorVerdicts.{LabradorVerdicts}
 use Rattle.verify_many.specs.Answers.{refusedVerdicts, labradorVerdicts}
 

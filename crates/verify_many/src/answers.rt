@@ -1,9 +1,9 @@
 // What the call on many transcripts answers.
-use call_answers::numbers::number_of;
-use call_answers::verdicts::LabradorVerdict;
-use definitions::answers::Refusal;
+use api_answers::numbers::number_of;
+use api_answers::verdicts::LabradorVerdict;
+use spec_leaves::answers::Refusal;
 ghost use mathlib.Core.Path.{_≡_};
-ghost use Rattle.definitions.specs.Answer.{number, place, ofRefusal};
+ghost use Rattle.spec_leaves.specs.Answer.{number, place, ofRefusal};
 ghost use Rattle.verify_many.specs.Answers.{refusedVerdicts};
 
 // 0 and 0 with eight verdicts, those past the number of transcripts unused (4294967295); or the refusal of the whole call with zeros.

@@ -1,22 +1,22 @@
 // The call for every input.
 use crate::answers;
 use crate::answers::LabradorVerdicts;
-use call_answers::verdicts::LabradorVerdict;
-use many_admission::parts;
-use many_admission::whole;
-use many_admission::whole::ManyAdmitted;
-use many_phi::alpha_parts;
-use many_rows::row_products;
-use many_verdicts::all::verdicts;
-use relation::env_params::EnvironmentParameters;
+use crate::verdicts::all::verdicts;
+use api_answers::verdicts::LabradorVerdict;
+use relation_env_params::env_params::EnvironmentParameters;
+use verify_many_admission::parts;
+use verify_many_admission::whole;
+use verify_many_admission::whole::ManyAdmitted;
+use verify_many_phi::phi::alpha_parts;
+use verify_many_rows::rows::row_products;
 ghost use mathlib.Core.Path.{_≡_};
 ghost use lib.ListN.{length};
-ghost use Rattle.protocol.specs.Parameters.{parameters};
-ghost use Rattle.protocol.specs.Prover.{zeroed};
-ghost use Rattle.protocol.specs.Many.{many-need, many-scratch};
-ghost use Rattle.many_admission.specs.Admitted.{Many-given};
-ghost use Rattle.many_verdicts.specs.Windows.{verdicts-of};
-ghost use Rattle.verify_many.specs.Answers.{manyVerdicts};
+ghost use Rattle.spec_protocol.specs.Parameters.{parameters};
+ghost use Rattle.spec_protocol.specs.Prover.{zeroed};
+ghost use Rattle.spec_protocol.specs.Many.{many-need};
+ghost use Rattle.verify_many_admission.specs.Admitted.{Many-given};
+ghost use Rattle.verify_many.specs.Windows.{verdicts-of};
+ghost use Rattle.verify_many.specs.Answers.{ManyCall};
 
 // The work of a call that is not refused as a whole: 9 and 10 of each transcript, the rows of A, B, C and D, each once for all that pass these, alpha's part of
 // φ for all of these together, and the verdicts, each after 7 and 8. A transcript that passes 7 to 10 takes part in all of it; one that is refused by 7 or 8
@@ -25,30 +25,30 @@ fn work(
     job: &[u32],
     randomness: &[u32],
     transcripts: &[u32],
-    p: EnvironmentParameters,
+    params: EnvironmentParameters,
     count: usize,
     scratch: &mut [u32],
 ) -> [LabradorVerdict; 8]
-    requires { ⌜ Many-given (now job) count (length (now scratch)) p ⌝ }
+    requires { ⌜ Many-given (now job) count (length (now scratch)) params ⌝ }
     ensures { λ r. ⌜ r ≡ verdicts-of (now (job .entry)) count (now (randomness .entry)) (now (transcripts .entry)) ⌝ }
     ensures { λ r. ⌜ now (scratch .exit) ≡ zeroed (many-need (parameters (now (job .entry))) count) (now (scratch .entry)) ⌝ }
 {
-    let found = parts::check_transcripts(transcripts, p, count);
+    let found = parts::check_transcripts(transcripts, params, count);
     let passes = parts::passing_parts(found);
-    row_products(job, p, count, passes, transcripts, scratch);
-    let weighed = alpha_parts(job, randomness, p, count, passes, scratch);
+    row_products(job, params, count, passes, transcripts, scratch);
+    let weighed = alpha_parts(job, randomness, params, count, passes, scratch);
     let out = verdicts(
         job,
         randomness,
         transcripts,
-        p,
+        params,
         count,
         found,
         scratch,
         weighed,
     );
-    let need = whole::need(p, count);
-    words::clear(scratch, need);
+    let need = whole::need(params, count);
+    ring_words::clear(scratch, need);
     out
 }
 
@@ -60,14 +60,20 @@ pub fn verify_many(
     transcripts: &[u32],
     scratch: &mut [u32],
 ) -> LabradorVerdicts
-    ensures { λ r. ⌜ r ≡ manyVerdicts (now (job .entry)) count (now (randomness .entry)) (now (transcripts .entry)) (length (now (scratch .entry))) ⌝ }
-    ensures { λ r. ⌜ now (scratch .exit) ≡ many-scratch (now (job .entry)) count (now (scratch .entry)) ⌝ }
+    ensures { λ r. ⌜ ManyCall (now (job .entry)) count (now (randomness .entry)) (now (transcripts .entry)) (now (scratch .entry)) (now (scratch .exit)) r ⌝ }
 {
     match whole::admit(job, count, scratch.len()) {
         ManyAdmitted::Count => answers::refused(35, 0),
         ManyAdmitted::Refused(refusal) => answers::refusal_of(refusal),
-        ManyAdmitted::Fit(p) => {
-            let found = work(job, randomness, transcripts, p, count as usize, scratch);
+        ManyAdmitted::Fit(params) => {
+            let found = work(
+                job,
+                randomness,
+                transcripts,
+                params,
+                count as usize,
+                scratch,
+            );
             LabradorVerdicts {
                 number: 0,
                 place: 0,

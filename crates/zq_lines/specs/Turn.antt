@@ -3,8 +3,8 @@ use mathlib.Core.Path.{_≡_}
 use mathlib.Core.List.{List}
 use Prim.Native.Nat.{ℕ}
 use lib.ListN.{length, take}
-use Rattle.line_reading.specs.Reading.{after, answers}
-use Rattle.line_reading.specs.declared.reading.State.{State}
+use Rattle.zq_lines_text.specs.Reading.{after, answers}
+use Rattle.zq_lines_text.specs.declared.reading.State.{State}
 use Rattle.zq_lines.specs.declared.Turn.{Turn}
 use Rattle.zq_lines.specs.declared.Turn.the-variants.{More, End, Failed}
 

@@ -2,13 +2,13 @@
 use libc::STDERR_FILENO;
 use libc::STDIN_FILENO;
 use libc::STDOUT_FILENO;
-use line_answer::feeding::feed;
-use line_answer::feeding::finish;
-use line_reading::reading::State;
-use line_reading::reading::start;
+use zq_lines_text::feeding::feed;
+use zq_lines_text::feeding::finish;
+use zq_lines_text::reading::State;
+use zq_lines_text::reading::start;
 ghost use Prim.Native.Nat.{_*_, _≤_};
 ghost use lib.ListN.{length};
-ghost use Rattle.line_reading.specs.Reading.{Bounded};
+ghost use Rattle.zq_lines_text.specs.Reading.{Bounded};
 ghost use Rattle.zq_lines.specs.Turn.{TurnFrom};
 
 // What is left after one read: more to read; the end of the input; or a read or a write that failed.

@@ -4,9 +4,9 @@ use mathlib.Core.List.{[], _∷_}
 use native.Mathlib.Omega.{arith}
 use borrow.Author.Needs.{needs}
 use lib.ListN.{replicate}
-use Rattle.lists.specs.Table.{table}
-use Rattle.protocol.specs.Layout.{span}
-use Rattle.protocol.specs.Load.{randomness-rules}
+use Rattle.math.specs.lists.Table.{table}
+use Rattle.spec_protocol.specs.Layout.{span}
+use Rattle.spec_protocol.specs.Load.{randomness-rules}
 use Rattle.load_draw.specs.declared.Rule.the-variants as R
 use Rattle.load.proofs.Places.{table-drawn}
 use Rattle.load.proofs.draw_randomness.Statement.{statement}
@@ -19,7 +19,8 @@ returns : tie.Need-returns
 unfolding table
 returns c =
     let s = c .before .before .before .before .before .before .args in
-    table-drawn (c .before .before .before .randomness-sections .ensures) (R.Word ∷ R.Word ∷ R.Word ∷ R.Word ∷ R.Word ∷ R.Sign ∷ R.Word ∷ R.Word ∷ R.Word ∷ R.Word ∷ []) randomness-rules refl (s .state) (s .randomness .now) _ 0 _ (c .before .before .sections .ensures) .0
+    table-drawn (c .before .before .before .randomness-sections .ensures) (R.Word ∷ R.Word ∷ R.Word ∷ R.Word ∷ R.Word ∷ R.Sign ∷ R.Word ∷ R.Word ∷ R.Word ∷ R.Word ∷ [])
+    randomness-rules refl (s .state) (s .randomness .now) _ 0 _ (c .before .before .sections .ensures) .0
 
 pub draw-randomness-spec : {M : Type 1} → statement M
 draw-randomness-spec = tie.close (tie.spec (λ c κs. search needs) sections-requires (λ c. search needs) returns)

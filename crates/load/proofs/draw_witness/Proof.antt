@@ -4,9 +4,9 @@ use mathlib.Core.List.{[], _∷_}
 use native.Mathlib.Omega.{arith}
 use borrow.Author.Needs.{needs}
 use lib.ListN.{replicate}
-use Rattle.lists.specs.Table.{table}
-use Rattle.protocol.specs.Layout.{span}
-use Rattle.protocol.specs.Load.{witness-rules}
+use Rattle.math.specs.lists.Table.{table}
+use Rattle.spec_protocol.specs.Layout.{span}
+use Rattle.spec_protocol.specs.Load.{witness-rules}
 use Rattle.load_draw.specs.declared.Rule.the-variants as R
 use Rattle.load.proofs.Places.{table-drawn}
 use Rattle.load.proofs.draw_witness.Statement.{statement}

@@ -4,8 +4,8 @@ use Prim.Native.Nat.{_<_, _^_}
 use native.Mathlib.Omega.{arith}
 use borrow.Author.Needs.{needs}
 use lib.ListN.{length}
-use Rattle.protocol.specs.Load.{load-refusal, load-job, load-witness, load-randomness}
-use Rattle.admission.specs.Admission.{ofAdmitted, At}
+use Rattle.spec_protocol.specs.Load.{load-refusal, load-job, load-witness, load-randomness}
+use Rattle.admission_slices.specs.Admission.{ofAdmitted, At}
 use Rattle.load_needs.specs.Given.{given, Ready}
 use Rattle.load_needs.proofs.Refusals.{room}
 use Rattle.load.specs.Exit.{job-exit, witness-exit, randomness-exit}
@@ -18,7 +18,7 @@ work-requires : tie.Need-work-requires
 work-requires c κs =
     let s = c .before .before .before .before .before .before .before .before .before .before .args in
     let G = given (s .g) in
-    let is = c .before .before .before .before .p .given .1 in
+    let is = c .before .before .before .before .params .given .1 in
     let a = c .before .before .before .before .before .before .admit .ensures in
     let r = room G (length (s .job .now)) (length (s .witness .now)) (length (s .randomness .now)) (sym (a .0) ∙ ap ofAdmitted is) in
     (subst (λ x. At x (Ready G)) is (a .1), r .job-fits, r .witness-fits, r .randomness-fits)
@@ -38,9 +38,11 @@ unfolding job-exit witness-exit randomness-exit
 returns-2 c =
     let s = c .before .before .before .before .before .before .before .before .before .before .before .before .before .before .before .before .before .args in
     let G = given (s .g) in
-    let fits : s .seed < 2 ^ 32 = omega (arith, c .before .before .before .before .before .before .before .before .before .before .before .before .before .before .before .before .before .fits .seed) in
+    let fits : s .seed < 2 ^ 32 = omega
+    (arith, c .before .before .before .before .before .before .before .before .before .before .before .before .before .before .before .before .before .fits .seed) in
     let a = load-refusal G (length (s .job .now)) (length (s .witness .now)) (length (s .randomness .now)) in
-    let e = sym (ap ofAdmitted (c .before .before .before .before .before .before .before .before .before .before .before .p .given .1)) ∙ c .before .before .before .before .before .before .before .before .before .before .before .before .before .admit .ensures .0 in
+    let e = sym (ap ofAdmitted (c .before .before .before .before .before .before .before .before .before .before .before .params .given .1))
+    ∙ c .before .before .before .before .before .before .before .before .before .before .before .before .before .admit .ensures .0 in
     let w = c .before .before .before .before .before .before .work .ensures in
     let r = room G (length (s .job .now)) (length (s .witness .now)) (length (s .randomness .now)) (sym e) in (
       e,

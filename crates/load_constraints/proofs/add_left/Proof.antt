@@ -3,9 +3,9 @@ use mathlib.Core.Path.{_≡_, _∙_, ap, sym, subst}
 use native.Mathlib.Omega.{arith}
 use Prim.Native.Nat.{_*_}
 use borrow.Author.Needs.{needs}
-use Rattle.protocol.specs.Parameters.{triangular}
-use Rattle.load_sums.specs.Sums.{Placed, Reduced}
-use Rattle.load_sums.proofs.Plus.{placed-plus, reduced-plus}
+use Rattle.spec_protocol.specs.Parameters.{triangular}
+use Rattle.load_constraints.specs.Sums.{Placed, Reduced}
+use Rattle.load_constraints.proofs.Plus.{placed-plus, reduced-plus}
 use Rattle.load_constraints.specs.Terms.{plus-both, rows-of}
 use Rattle.load_constraints.proofs.Order.{left-added}
 use Rattle.load_constraints.proofs.add_left.Statement.{statement}

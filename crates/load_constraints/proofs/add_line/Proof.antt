@@ -1,7 +1,7 @@
 -- `add_line` meets its contract.
 use borrow.Author.Needs.{needs}
-use Rattle.inner_product.specs.Run.{run}
-use Rattle.load_sums.specs.Sums.{terms}
+use Rattle.ring_inner_product.specs.Run.{run}
+use Rattle.load_constraints.specs.Sums.{terms}
 use Rattle.load_constraints.proofs.Line.{numbers-placed, numbers-reduced, line-before, line-canonical, line-added}
 use Rattle.load_constraints.proofs.add_line.Statement.{statement}
 use Rattle.load_constraints.proofs.add_line.Tie as tie

@@ -5,10 +5,10 @@ use native.Mathlib.Omega.{arith}
 use borrow.Author.Needs.{needs}
 use lib.ListN.{length}
 use native.Mathlib.Nat.{zero-add}
-use Rattle.definitions.specs.Ring.{element}
-use Rattle.inner_product.specs.Run.{run}
-use Rattle.load_sums.specs.Sums.{term, terms, plus, Placed}
-use Rattle.load_sums.proofs.Plus.{placed-plus, length-plus}
+use Rattle.spec_leaves.specs.Ring.{element}
+use Rattle.ring_inner_product.specs.Run.{run}
+use Rattle.load_constraints.specs.Sums.{term, terms, plus, Placed}
+use Rattle.load_constraints.proofs.Plus.{placed-plus, length-plus}
 use Rattle.load_constraints.proofs.Order.{terms-none, terms-next}
 use Rattle.load_constraints.proofs.add_terms.Statement.{statement}
 use Rattle.load_constraints.proofs.add_terms.Tie as tie
@@ -30,8 +30,12 @@ add-term-requires : tie.Need-add-term-requires Inv-loop μ-loop
 add-term-requires c κs =
     let s = c .before .before .before .before .before .before .args in
     let l = c .before .before .before .loop in
-    let ω = run (s .s .now) (s .s-at) 64 in
-    (subst (λ job. Placed job (s .t) (s .base0) (s .base) (s .m)) (sym (l .inv .1)) (placed-plus (s .job .now) (s .t) (s .base0) (s .base) (s .m) (c .before .before .before .before .before .before .pre .0) (terms (s .job .now) (s .base0) (s .m) 0 (l .e) ω) (terms (s .job .now) (s .base) (s .m) 0 (l .e) ω)), omega arith)
+    let ω = run (s .s .now) (s .s-at) 64 in (
+      subst (λ job. Placed job (s .t) (s .base0) (s .base) (s .m)) (sym (l .inv .1))
+          (placed-plus (s .job .now) (s .t) (s .base0) (s .base) (s .m) (c .before .before .before .before .before .before .pre .0) (terms (s .job .now) (s .base0) (s .m) 0 (l .e) ω)
+          (terms (s .job .now) (s .base) (s .m) 0 (l .e) ω)),
+      omega arith,
+    )
 
 loop-again : tie.Need-loop-again Inv-loop μ-loop
 loop-again c =
@@ -39,10 +43,15 @@ loop-again c =
     let l = c .before .before .before .before .before .before .loop in
     let ω = run (s .s .now) (s .s-at) 64 in
     let w = c .before .before .before .load .result .coeffs in
-    let next = terms-next (s .job .now) (s .t) (s .base0) (s .base) (s .m) (c .before .before .before .before .before .before .before .before .before .pre .0) (l .job) _ 0 (l .e) ω w (omega arith) (l .inv .1)
+    let next = terms-next (s .job .now) (s .t) (s .base0) (s .base) (s .m) (c .before .before .before .before .before .before .before .before .before .pre .0) (l .job) _
+    0 (l .e) ω w (omega arith) (l .inv .1)
     (c .before .before .add-term .ensures ∙ ap (λ q. plus (l .job) (s .t) (term (l .job) (s .base0) (s .m) q w) (term (l .job) (s .base) (s .m) q w)) (sym (zero-add (l .e))))
-    (ap element (c .before .before .before .load .ensures)) in
-    (omega arith, next, ap length next ∙ length-plus (s .job .now) (s .t) (s .base0) (s .base) (s .m) (c .before .before .before .before .before .before .before .before .before .pre .0) (terms (s .job .now) (s .base0) (s .m) 0 (l .e + 1) ω) (terms (s .job .now) (s .base) (s .m) 0 (l .e + 1) ω))
+    (ap element (c .before .before .before .load .ensures)) in (
+      omega arith,
+      next,
+      ap length next ∙ length-plus (s .job .now) (s .t) (s .base0) (s .base) (s .m) (c .before .before .before .before .before .before .before .before .before .pre .0)
+          (terms (s .job .now) (s .base0) (s .m) 0 (l .e + 1) ω) (terms (s .job .now) (s .base) (s .m) 0 (l .e + 1) ω),
+    )
 
 returns : tie.Need-returns Inv-loop μ-loop
 returns c =

@@ -4,10 +4,10 @@ use Prim.Native.Nat.{_+_, _-_, _*_, _≤_}
 use native.Mathlib.Omega.{arith}
 use borrow.Author.Needs.{needs}
 use lib.ListN.{length}
-use Rattle.protocol.specs.Parameters.{triangular}
-use Rattle.rq_matrix.proofs.Place.{triangular-suc, triangle-within}
-use Rattle.load_sums.specs.Sums.{plus, Placed, Reduced}
-use Rattle.load_sums.proofs.Plus.{placed-plus, length-plus, reduced-plus}
+use Rattle.spec_protocol.specs.Parameters.{triangular}
+use Rattle.ring_rq_matrix.proofs.Place.{rows-within, triangular-suc, triangle-within}
+use Rattle.load_constraints.specs.Sums.{plus, Placed, Reduced}
+use Rattle.load_constraints.proofs.Plus.{placed-plus, length-plus, reduced-plus}
 use Rattle.load_constraints.specs.Terms.{rows-of}
 use Rattle.load_constraints.proofs.Order.{rows-none, rows-next}
 use Rattle.load_constraints.proofs.add_triangle.Statement.{statement}
@@ -37,8 +37,7 @@ add-row-requires c κs =
       subst (λ job. Placed job (s .t) (s .base0) (s .base) (s .m)) (sym (l .inv .2)) (placed-plus (s .job .now) (s .t) (s .base0) (s .base) (s .m) (h .0) F G),
       subst (λ job. Reduced job (s .t)) (sym (l .inv .2)) (reduced-plus (s .job .now) (s .t) (s .base0) (s .base) (s .m) (h .0) F G),
       omega arith,
-      omega arith,
-      omega arith,
+      omega (arith, rows-within (l .i) (s .r) (s .n) (omega arith)),
       omega arith,
       omega arith,
     )
@@ -48,15 +47,23 @@ loop-again c =
     let s = c .before .before .before .before .before .before .before .before .args in
     let h = c .before .before .before .before .before .before .before .before .pre in
     let l = c .before .before .before .before .before .loop in
-    let next = rows-next (s .job .now) (s .t) (s .base0) (s .base) (s .m) (h .0) (l .job) _ (s .s .now) (s .s-at) (s .n) (l .i) (l .row) (omega (arith, triangle-within (l .i) (s .r) (omega arith))) (l .inv .1) (l .inv .2) (c .before .before .add-row .ensures) in
-    (omega arith, omega (arith, triangular-suc (l .i)), next, ap length next ∙ length-plus (s .job .now) (s .t) (s .base0) (s .base) (s .m) (h .0) (rows-of (s .job .now) (s .base0) (s .m) (s .s .now) (s .s-at) (s .n) (l .i + 1)) (rows-of (s .job .now) (s .base) (s .m) (s .s .now) (s .s-at) (s .n) (l .i + 1)))
+    let next = rows-next (s .job .now) (s .t) (s .base0) (s .base) (s .m) (h .0) (l .job) _ (s .s .now) (s .s-at) (s .n) (l .i) (l .row)
+    (omega (arith, triangle-within (l .i) (s .r) (omega arith))) (l .inv .1) (l .inv .2) (c .before .before .add-row .ensures) in (
+      omega arith,
+      omega (arith, triangular-suc (l .i)),
+      next,
+      ap length next
+          ∙ length-plus (s .job .now) (s .t) (s .base0) (s .base) (s .m) (h .0) (rows-of (s .job .now) (s .base0) (s .m) (s .s .now) (s .s-at) (s .n) (l .i + 1))
+          (rows-of (s .job .now) (s .base) (s .m) (s .s .now) (s .s-at) (s .n) (l .i + 1)),
+    )
 
 returns : tie.Need-returns Inv-loop μ-loop
 returns c =
     let s = c .before .before .before .before .args in
     let l = c .before .loop in
     let done : l .i ≡ s .r = omega arith in
-    l .inv .2 ∙ ap (λ i. plus (s .job .now) (s .t) (rows-of (s .job .now) (s .base0) (s .m) (s .s .now) (s .s-at) (s .n) i) (rows-of (s .job .now) (s .base) (s .m) (s .s .now) (s .s-at) (s .n) i)) done
+    l .inv .2 ∙ ap (λ i. plus (s .job .now) (s .t) (rows-of (s .job .now) (s .base0) (s .m) (s .s .now) (s .s-at) (s .n) i)
+    (rows-of (s .job .now) (s .base) (s .m) (s .s .now) (s .s-at) (s .n) i)) done
 
 pub add-triangle-spec : {M : Type 1} → statement M
 add-triangle-spec =

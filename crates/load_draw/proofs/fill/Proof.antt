@@ -4,8 +4,8 @@ use Prim.Native.Nat.{_+_, _-_, _≤_}
 use native.Mathlib.Omega.{arith}
 use borrow.Author.Needs.{needs}
 use lib.ListN.{length, set, length-set}
-use Rattle.lists.specs.Part.{splice}
-use Rattle.protocol.specs.Load.{words-by, state-by}
+use Rattle.math.specs.lists.Part.{splice}
+use Rattle.spec_protocol.specs.Load.{words-by, state-by}
 use Rattle.load_draw.specs.Rules.{ruleOf, step, value-by}
 use Rattle.load_draw.proofs.More.{none-drawn, state-none, state-next, words-next}
 use Rattle.load_draw.proofs.fill.Statement.{statement}

@@ -5,9 +5,9 @@ use native.Mathlib.Numerals.{add-one}
 use borrow.Author.Needs.{needs}
 use lib.ListN.{length, set}
 use lib.Seq.{sets}
-use Rattle.lists.specs.Part.{splice}
-use Rattle.lists.proofs.Splice.{length-splice}
-use Rattle.protocol.specs.Load.{words-by}
+use Rattle.math.specs.lists.Part.{splice}
+use Rattle.math.proofs.lists.Splice.{length-splice}
+use Rattle.spec_protocol.specs.Load.{words-by}
 use Rattle.load_draw.specs.Rules.{ruleOf}
 use Rattle.load_draw.proofs.section.Statement.{statement}
 use Rattle.load_draw.proofs.section.Tie as tie

@@ -5,15 +5,15 @@ use Prim.Native.Nat.{ℕ, _+_, _-_, _≤_}
 use native.Mathlib.Omega.{arith}
 use borrow.Author.Needs.{needs}
 use lib.ListN.{length, getD}
-use Rattle.lists.specs.Part.{splice}
-use Rattle.lists.specs.Sum.{Σ}
-use Rattle.lists.specs.Table.{table}
-use Rattle.lists.proofs.Sum.{Σ-suc}
-use Rattle.lists.proofs.Splice.{length-splice, splice-nil}
-use Rattle.protocol.specs.Layout.{Section, canonical, sections}
-use Rattle.protocol.specs.Load.{drawn, after, state-by}
-use Rattle.protocol.specs.Load as S
-use Rattle.layout.specs.Sections.{section-at, listed}
+use Rattle.math.specs.lists.Part.{splice}
+use Rattle.math.specs.lists.Sum.{Σ}
+use Rattle.math.specs.lists.Table.{table}
+use Rattle.math.proofs.lists.Sum.{Σ-suc}
+use Rattle.math.proofs.lists.Splice.{length-splice, splice-nil}
+use Rattle.spec_protocol.specs.Layout.{Section, canonical, sections}
+use Rattle.spec_protocol.specs.Load.{drawn, after, state-by}
+use Rattle.spec_protocol.specs.Load as S
+use Rattle.layout_sections.specs.Sections.{section-at, listed}
 use Rattle.load_draw.specs.Rules.{ruleOf}
 use Rattle.load_draw.specs.declared.Rule.{Rule}
 use Rattle.load_draw.specs.declared.Rule.the-variants as R

@@ -1,6 +1,6 @@
 -- `sign` meets its contract.
 use mathlib.Core.Path.{refl}
-use Rattle.protocol.specs.Load.{sign}
+use Rattle.spec_protocol.specs.Load.{sign}
 use Rattle.load_draw.proofs.sign.Statement.{statement}
 use Rattle.load_draw.proofs.sign.Tie as tie
 

@@ -1,6 +1,6 @@
 -- `ternary` meets its contract.
 use borrow.Author.Needs.{needs}
-use Rattle.protocol.specs.Load.{ternary}
+use Rattle.spec_protocol.specs.Load.{ternary}
 use Rattle.load_draw.proofs.ternary.Statement.{statement}
 use Rattle.load_draw.proofs.ternary.Tie as tie
 

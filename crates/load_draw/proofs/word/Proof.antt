@@ -1,8 +1,8 @@
 -- `word` meets its contract.
 use mathlib.Core.Path.{refl}
 use borrow.Author.Tests.{lt-ltb, le-ltb}
-use Rattle.definitions.specs.Zq.{Q}
-use Rattle.protocol.specs.Load.{word}
+use Rattle.spec_leaves.specs.Zq.{Q}
+use Rattle.spec_protocol.specs.Load.{word}
 use Rattle.load_draw.proofs.word.Statement.{statement}
 use Rattle.load_draw.proofs.word.Tie as tie
 

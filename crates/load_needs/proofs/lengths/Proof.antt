@@ -4,8 +4,8 @@ use Prim.Native.Nat.{_+_}
 use native.Mathlib.Omega.{arith}
 use borrow.Author.Needs.{needs}
 use lib.ListN.{take, drop}
-use Rattle.protocol.specs.Layout.{span}
-use Rattle.load_needs.proofs.Refusals.{table-spans}
+use Rattle.spec_protocol.specs.Layout.{span}
+use Rattle.layout_sizes.proofs.Tables.{table-spans}
 use Rattle.load_needs.proofs.lengths.Statement.{statement}
 use Rattle.load_needs.proofs.lengths.Tie as tie
 

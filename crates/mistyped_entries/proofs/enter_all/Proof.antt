@@ -3,10 +3,10 @@ use mathlib.Core.Path.{_≡_, sym, subst}
 use Prim.Native.Nat.{_+_, _*_, _-_, _≤_, _<_}
 use native.Mathlib.Omega.{arith}
 use lib.ListN.{length}
-use Rattle.protocol.specs.Layout.{start, randomness-sections}
-use Rattle.relation.specs.Parameters.{parametersOf}
-use Rattle.congruence.specs.Congruence.{Found}
-use Rattle.mistyped_rows.specs.Rows.{Supplies}
+use Rattle.spec_protocol.specs.Layout.{start, randomness-sections}
+use Rattle.relation_env_params.specs.Parameters.{parametersOf}
+use Rattle.mistyped_solve.specs.Congruence.{Found}
+use Rattle.mistyped_solve.specs.Rows.{Supplies}
 use Rattle.verifier_common.proofs.Sent.{reckoned}
 use Rattle.mistyped_entries.specs.Lacking.{all-lacking}
 use Rattle.mistyped_entries.specs.Entered.{entered-count, Entered}
@@ -16,11 +16,12 @@ use Rattle.mistyped_entries.proofs.enter_all.Statement.{statement}
 use Rattle.mistyped_entries.proofs.enter_all.Tie as tie
 
 abbrev Inv-loop : tie.InvT-loop
-Inv-loop job randomness transcript p list₀ rows psi l count₀ i₀ list count i =
-    (i ≤ l) × (psi ≡ start (randomness-sections (parametersOf p)) 1) × (rows ≡ all-lacking job randomness transcript (p .«const_agg_length»)) × Entered job randomness transcript i list₀ count list
+Inv-loop job randomness transcript params list₀ rows psi l count₀ i₀ list count i =
+    (i ≤ l) × (psi ≡ start (randomness-sections (parametersOf params)) 1) × (rows ≡ all-lacking job randomness transcript (params .«const_agg_length»))
+    × Entered job randomness transcript i list₀ count list
 
 abbrev μ-loop : tie.MeasureT-loop
-μ-loop job randomness transcript p list₀ rows psi l count₀ i₀ list count i = l - i
+μ-loop job randomness transcript params list₀ rows psi l count₀ i₀ list count i = l - i
 
 loop-holds : tie.Need-loop-holds Inv-loop μ-loop
 loop-holds c = (omega arith, c .of-randomness .ensures, c .before .rows-lacking .ensures, entered-none _ _ _ _)
@@ -31,11 +32,12 @@ smallest-for-requires c κs =
     let w = s .pre .0 in
     let l = c .before .loop in (
       (few-rows w, weight-within w _ (l .inv .1) (l .i) (omega arith)),
-      canonical-lacking (s .args .job .now) (s .args .randomness .now) (s .args .transcript .now) (s .args .p .«const_agg_length») (few-rows w) (c .before .before .before .rows-lacking .result) (l .inv .2),
+      canonical-lacking (s .args .job .now) (s .args .randomness .now) (s .args .transcript .now) (s .args .params .«const_agg_length») (few-rows w)
+          (c .before .before .before .rows-lacking .result) (l .inv .2),
     )
 
 -- a turn's index
-below : (c : tie.In-loop Inv-loop μ-loop) → c .before .loop .i < c .before .before .before .before .before .before .before .before .args .p .«constraint_l»
+below : (c : tie.In-loop Inv-loop μ-loop) → c .before .loop .i < c .before .before .before .before .before .before .before .before .args .params .«constraint_l»
 below c = omega arith
 
 -- two more words lie within the list
@@ -53,8 +55,9 @@ loop-again c =
     let psi = c .before .before .before .before .before .before .before .of-randomness .result in
     let f = c .before .before .before .before .smallest-for in
     let e = c .before .before .enter in
-    let found = subst (λ r. Found (Supplies (a .randomness .now) (psi + l .i) (a .p .«constraint_l») r (a .p .«const_agg_length»)) (f .result)) (l .inv .2) (f .ensures) in
-    let next = entered-next w psi (l .inv .1) (l .i) (below (c .before .before .before .before .before)) (few-rows w) (a .list .now) (l .count) (l .list) (f .result) (omega (arith, room (c .before .before .before), entered-length (l .inv .3))) found (l .inv .3) in (
+    let found = subst (λ r. Found (Supplies (a .randomness .now) (psi + l .i) (a .params .«constraint_l») r (a .params .«const_agg_length»)) (f .result)) (l .inv .2) (f .ensures) in
+    let next = entered-next w psi (l .inv .1) (l .i) (below (c .before .before .before .before .before)) (few-rows w) (a .list .now) (l .count) (l .list) (f .result)
+    (omega (arith, room (c .before .before .before), entered-length (l .inv .3))) found (l .inv .3) in (
       omega (arith, below (c .before .before .before .before .before)),
       l .inv .1,
       l .inv .2,

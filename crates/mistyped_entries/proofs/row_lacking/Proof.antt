@@ -13,8 +13,9 @@ use Rattle.mistyped_entries.proofs.row_lacking.Tie as tie
 -- the rows at the places found
 found : (c : tie.After-of-transcript2)
     → let s = c .before .before .before .before .before .before .before .before .args in
-    Terms (s .job .now) (s .randomness .now) (s .transcript .now) (s .p .«const_agg_length») (s .p .«constraint_l»)
-    (c .before .before .before .before .of-job .result) (c .before .before .before .of-randomness .result) (c .before .before .of-randomness2 .result) (c .before .of-transcript .result) (c .of-transcript2 .result)
+    Terms (s .job .now) (s .randomness .now) (s .transcript .now) (s .params .«const_agg_length») (s .params .«constraint_l»)
+    (c .before .before .before .before .of-job .result) (c .before .before .before .of-randomness .result) (c .before .before .of-randomness2 .result)
+    (c .before .of-transcript .result) (c .of-transcript2 .result)
 found c =
     row-terms (c .before .before .before .before .before .before .before .before .pre .0) _ _ _ _ _
     (c .before .before .before .before .of-job .ensures)
@@ -31,7 +32,7 @@ at-room c = let s = c .before .before .before .before .before .before .before .b
 
 psi-room : (c : tie.After-of-transcript2)
     → let s = c .before .before .before .before .before .before .before .before .args in
-    c .before .before .before .of-randomness .result + s .k * s .p .«constraint_l» + s .p .«constraint_l» ≤ length (s .randomness .now)
+    c .before .before .before .of-randomness .result + s .k * s .params .«constraint_l» + s .params .«constraint_l» ≤ length (s .randomness .now)
 psi-room c = let s = c .before .before .before .before .before .before .before .before in found c .psi-room (s .args .k) (s .pre .1)
 
 om-room : (c : tie.After-of-transcript2)

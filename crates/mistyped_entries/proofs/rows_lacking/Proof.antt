@@ -2,17 +2,17 @@
 use mathlib.Core.Path.{_≡_, ap, _∙_}
 use Prim.Native.Nat.{_-_, _≤_}
 use native.Mathlib.Omega.{arith}
-use Rattle.lists.proofs.Padded.{padded-none, padded-next}
+use Rattle.math.proofs.lists.Padded.{padded-none, padded-next}
 use Rattle.verifier_common.proofs.Sent.{reckoned}
 use Rattle.mistyped_entries.specs.Lacking.{lacking, all-lacking}
 use Rattle.mistyped_entries.proofs.rows_lacking.Statement.{statement}
 use Rattle.mistyped_entries.proofs.rows_lacking.Tie as tie
 
 abbrev Inv-loop : tie.InvT-loop
-Inv-loop job randomness transcript p rows₀ k₀ rows k = (k ≤ p .«const_agg_length») × (p .«const_agg_length» ≤ 32) × (rows ≡ all-lacking job randomness transcript k)
+Inv-loop job randomness transcript params rows₀ k₀ rows k = (k ≤ params .«const_agg_length») × (params .«const_agg_length» ≤ 32) × (rows ≡ all-lacking job randomness transcript k)
 
 abbrev μ-loop : tie.MeasureT-loop
-μ-loop job randomness transcript p rows₀ k₀ rows k = p .«const_agg_length» - k
+μ-loop job randomness transcript params rows₀ k₀ rows k = params .«const_agg_length» - k
 
 loop-holds : tie.Need-loop-holds Inv-loop μ-loop
 loop-holds c =

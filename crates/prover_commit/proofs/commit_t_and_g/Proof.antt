@@ -1,7 +1,7 @@
 -- `commit_t_and_g` meets its contract.
 use native.Mathlib.Omega.{arith}
 use borrow.Author.Needs.{needs}
-use Rattle.workspace.proofs.Ready.{ready-sized}
+use Rattle.core_workspace.proofs.Ready.{ready-sized}
 use Rattle.prover_commit.proofs.commit_t_and_g.Statement.{statement}
 use Rattle.prover_commit.proofs.commit_t_and_g.Tie as tie
 
@@ -15,4 +15,4 @@ commit-t-and-g-spec =
     (λ c. search needs)
     (λ c. c .before .before .commit-plain .ensures)
     (λ c. search needs)
-    (λ c. c .before .before .commit-kept .ensures))
+    (λ c. c .before .before .commit-ntt .ensures))

@@ -2,9 +2,9 @@
 use mathlib.Core.Path.{refl}
 use native.Mathlib.Omega.{arith}
 use borrow.Author.Needs.{needs}
-use Rattle.definitions.specs.declared.answers.Proved.the-variants as E
-use Rattle.protocol.specs.Prover.{round₄, whole}
-use Rattle.workspace.proofs.Ready.{drawn-fewer}
+use Rattle.spec_leaves.specs.declared.answers.Proved.the-variants as E
+use Rattle.spec_protocol.specs.Prover.{round₄, whole}
+use Rattle.core_workspace.proofs.Ready.{drawn-fewer}
 use Rattle.prover_commit.proofs.Answers.{passed-on, gone-on, same-work}
 use Rattle.prover_commit.proofs.Commitments.{from-made}
 use Rattle.prover_fill.proofs.Scratch.{challenges-need, c-there, c-others, c-stays, b-stands}
@@ -12,13 +12,18 @@ use Rattle.prover_fill.proofs.commit_for_all.Statement.{statement}
 use Rattle.prover_fill.proofs.commit_for_all.Tie as tie
 
 commit-with-b-and-h-requires : tie.Need-commit-with-b-and-h-requires
-commit-with-b-and-h-requires c κs = (c .before .before .before .before .before .pre .0, drawn-fewer 7 5 (c .before .before .before .before .before .args .job .now) (c .before .before .before .before .before .args .randomness .now) (omega arith) (c .before .before .before .before .before .pre .1))
+commit-with-b-and-h-requires c κs = (
+  c .before .before .before .before .before .pre .0,
+  drawn-fewer 7 5 (c .before .before .before .before .before .args .job .now)
+      (c .before .before .before .before .before .args .randomness .now) (omega arith) (c .before .before .before .before .before .pre .1),
+)
 
 generate-challenges-requires : tie.Need-generate-challenges-requires
 generate-challenges-requires c κs =
     let m = c .before .before .before .before .before .commit-with-b-and-h in
     let b = c .before .before .before .before .before .before .before .before .before .before .before in
-    challenges-need _ (b .args .randomness .now) (b .args .witness .now) _ _ _ (b .pre .0) (b .pre .1) _ (m .ensures .1 .0) (from-made (m .result) _ (c .before .enum-told .given .1) (m .ensures .1 .1) .0)
+    challenges-need _ (b .args .randomness .now) (b .args .witness .now) _ _ _ (b .pre .0) (b .pre .1) _ (m .ensures .1 .0)
+    (from-made (m .result) _ (c .before .enum-told .given .1) (m .ensures .1 .1) .0)
 
 returns : tie.Need-returns
 returns c =
@@ -38,7 +43,10 @@ returns-2 c =
       gone-on (m .result) E.Made told (m .ensures .0) refl (same-work (b .args .job .now) R W round₄ whole refl),
       (
         c-stays _ R W _ _ _ (b .pre .0) (b .pre .1) _ (m .ensures .1 .0) (k .0) _ e,
-        (c-others _ R W _ _ _ (b .pre .0) (b .pre .1) _ (m .ensures .1 .0) (k .0) _ e, (b-stands _ R W _ _ _ (b .pre .0) (b .pre .1) _ (m .ensures .1 .0) (k .0) _ e (k .1), c-there _ R W _ _ _ (b .pre .0) (b .pre .1) _ (m .ensures .1 .0) (k .0) _ e)),
+        (
+          c-others _ R W _ _ _ (b .pre .0) (b .pre .1) _ (m .ensures .1 .0) (k .0) _ e,
+          (b-stands _ R W _ _ _ (b .pre .0) (b .pre .1) _ (m .ensures .1 .0) (k .0) _ e (k .1), c-there _ R W _ _ _ (b .pre .0) (b .pre .1) _ (m .ensures .1 .0) (k .0) _ e),
+        ),
       ),
     )
 

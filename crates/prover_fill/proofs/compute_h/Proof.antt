@@ -1,6 +1,6 @@
 -- `compute_h` meets its contract.
 use borrow.Author.Needs.{needs}
-use Rattle.prover_fill.proofs.ComputeH.{plain-fits, plain-kept, transforms-kept}
+use Rattle.prover_fill.proofs.ComputeH.{plain-fits, plain-unchanged, transforms-unchanged}
 use Rattle.prover_fill.proofs.compute_h.Statement.{statement}
 use Rattle.prover_fill.proofs.compute_h.Tie as tie
 
@@ -15,6 +15,6 @@ compute-h-spec =
     (λ c κs. plain-fits _ _ _ _ (c .before .before .before .before .before .pre))
     compute-h-requires-2
     (λ c. search needs)
-    (λ c. plain-kept _ _ _ _ (c .before .before .before .before .before .before .before .before .pre) _ (c .before .before .compute-h .ensures))
+    (λ c. plain-unchanged _ _ _ _ (c .before .before .before .before .before .before .before .before .pre) _ (c .before .before .compute-h .ensures))
     (λ c. search needs)
-    (λ c. transforms-kept _ _ _ _ (c .before .before .before .before .before .before .before .before .pre) _ (c .before .before .compute-h2 .ensures)))
+    (λ c. transforms-unchanged _ _ _ _ (c .before .before .before .before .before .before .before .before .pre) _ (c .before .before .compute-h2 .ensures)))

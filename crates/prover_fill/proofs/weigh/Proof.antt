@@ -5,13 +5,13 @@ use mathlib.Core.Bool.{cond}
 use mathlib.Core.List.{List}
 use Prim.Native.Nat.{ℕ}
 use lib.ListN.{length}
-use Rattle.lists.proofs.Splice.{length-splice}
-use Rattle.regions.specs.declared.Regions.{Regions}
-use Rattle.relation.specs.declared.env_params.EnvironmentParameters.{EnvironmentParameters}
-use Rattle.workspace.specs.Holds.{Kept}
+use Rattle.math.proofs.lists.Splice.{length-splice}
+use Rattle.layout_regions.specs.declared.Regions.{Regions}
+use Rattle.relation_env_params.specs.declared.env_params.EnvironmentParameters.{EnvironmentParameters}
+use Rattle.core_workspace.specs.Holds.{Unchanged}
 use Rattle.prover_commit.specs.Work.{with-h}
 use Rattle.prover_commit.proofs.Commitments.{given-changed, ready-for-h}
-use Rattle.prover_phi_and_b.specs.Stored.{with-φ, with-b″, weighed-scratch}
+use Rattle.prover_fill.specs.Stored.{with-φ, with-b″, weighed-scratch}
 use Rattle.prover_fill.proofs.WithH.{length-weighed}
 use Rattle.prover_fill.proofs.weigh.Statement.{statement}
 use Rattle.prover_fill.proofs.weigh.Tie as tie
@@ -19,7 +19,7 @@ use Rattle.prover_fill.proofs.weigh.Tie as tie
 -- after either way the scratch is the one that is named
 joined : (c : tie.Joined1)
     → let s = c .before .before .before .before .before .args in
-    c .if1 .scratch ≡ weighed-scratch (s .with-b) (s .job .now) (s .randomness .now) (s .witness .now) (s .p) (s .q) (s .scratch .now)
+    c .if1 .scratch ≡ weighed-scratch (s .with-b) (s .job .now) (s .randomness .now) (s .witness .now) (s .params) (s .regions) (s .scratch .now)
 joined c =
     let s = c .before .before .before .before .before .args in
     let J = s .job .now in
@@ -27,34 +27,37 @@ joined c =
     let W = s .witness .now in
     let S = s .scratch .now in
     ⊎-elim
-    (λ t. t .5 ∙ t .2 .ensures ∙ sym (ap (λ b. cond b (with-b″ (with-φ J R (s .q) S) W (s .p) (s .q)) (with-φ J R (s .q) S)) (t .0 .taken)))
-    (λ t. t .5 ∙ t .2 .ensures ∙ sym (ap (λ b. cond b (with-b″ (with-φ J R (s .q) S) W (s .p) (s .q)) (with-φ J R (s .q) S)) (t .0 .left)))
+    (λ t. t .5 ∙ t .2 .ensures ∙ sym (ap (λ b. cond b (with-b″ (with-φ J R (s .regions) S) W (s .params) (s .regions)) (with-φ J R (s .regions) S)) (t .0 .taken)))
+    (λ t. t .5 ∙ t .2 .ensures ∙ sym (ap (λ b. cond b (with-b″ (with-φ J R (s .regions) S) W (s .params) (s .regions)) (with-φ J R (s .regions) S)) (t .0 .left)))
     (c .if1 .came)
 
 add-h-requires : tie.Need-add-h-requires
 add-h-requires c κs =
     let b = c .before .before .before .before .before .before in
-    ready-for-h _ _ _ _ _ (given-changed _ _ _ _ _ (b .pre .0) _ (ap length (joined (c .before)) ∙ length-weighed (b .args .with-b) (b .args .job .now) (b .args .randomness .now) (b .args .witness .now) (b .args .p) (b .args .q) (b .args .scratch .now)))
+    ready-for-h _ _ _ _ _ (given-changed _ _ _ _ _ (b .pre .0) _
+    (ap length (joined (c .before)) ∙ length-weighed (b .args .with-b) (b .args .job .now) (b .args .randomness .now) (b .args .witness .now) (b .args .params)
+    (b .args .regions) (b .args .scratch .now)))
 
 -- h after a scratch that is another's equal
-moved : (W : List ℕ) (p : EnvironmentParameters) (q : Regions) (S S₁ E : List ℕ) → S ≡ S₁ → Kept (q .phi) (with-h W p q S) E → Kept (q .phi) (with-h W p q S₁) E
-moved W p q S S₁ E e k = subst (λ l. Kept (q .phi) (with-h W p q l) E) e k
+moved : (W : List ℕ) (params : EnvironmentParameters) (regions : Regions) (S S₁ E : List ℕ) → S ≡ S₁ → Unchanged (regions .phi) (with-h W params regions S) E
+    → Unchanged (regions .phi) (with-h W params regions S₁) E
+moved W params regions S S₁ E e k = subst (λ l. Unchanged (regions .phi) (with-h W params regions l) E) e k
 
-length-h : (W : List ℕ) (p : EnvironmentParameters) (q : Regions) (S E : List ℕ) → Kept (q .phi) (with-h W p q S) E → length E ≡ length S
-length-h W p q S E k = k .size ∙ length-splice S (q .a) _
+length-h : (W : List ℕ) (params : EnvironmentParameters) (regions : Regions) (S E : List ℕ) → Unchanged (regions .phi) (with-h W params regions S) E → length E ≡ length S
+length-h W params regions S E k = k .size ∙ length-splice S (regions .«a_or_h») _
 
 same-length : tie.Need-same-length
 same-length c =
     let b = c .before .before .before .before .before .before .before .before .before in
-    length-h (b .args .witness .now) (b .args .p) (b .args .q) _ _ (c .before .before .add-h .ensures .1)
+    length-h (b .args .witness .now) (b .args .params) (b .args .regions) _ _ (c .before .before .add-h .ensures .1)
     ∙ ap length (joined (c .before .before .before .before))
-    ∙ length-weighed (b .args .with-b) (b .args .job .now) (b .args .randomness .now) (b .args .witness .now) (b .args .p) (b .args .q) (b .args .scratch .now)
+    ∙ length-weighed (b .args .with-b) (b .args .job .now) (b .args .randomness .now) (b .args .witness .now) (b .args .params) (b .args .regions) (b .args .scratch .now)
 
 returns : tie.Need-returns
 returns c =
     let b = c .before .before .before .before .before .before .before .before .before in
     let h = c .before .before .add-h in
-    (h .ensures .0, moved (b .args .witness .now) (b .args .p) (b .args .q) _ _ _ (joined (c .before .before .before .before)) (h .ensures .1))
+    (h .ensures .0, moved (b .args .witness .now) (b .args .params) (b .args .regions) _ _ _ (joined (c .before .before .before .before)) (h .ensures .1))
 
 pub weigh-spec : {M : Type 1} → statement M
 weigh-spec =

@@ -4,7 +4,7 @@ use Prim.Native.Nat.{_≤_, _-_}
 use native.Mathlib.Omega.{arith}
 use borrow.Author.Needs.{needs}
 use lib.ListN.{length}
-use Rattle.section_reader.specs.Read.{Inside}
+use Rattle.layout_section_reader.specs.Read.{Inside}
 use Rattle.section_sizes.proofs.print_sections.Statement.{statement}
 use Rattle.section_sizes.proofs.print_sections.Tie as tie
 

@@ -4,12 +4,12 @@ use Prim.Native.Nat.{ℕ, _+_, _*_, _≤_, _<_, _^_}
 use native.Mathlib.Omega.{arith}
 use lib.Dec.{leb}
 use lib.ListN.{length}
-use Rattle.lists.specs.Table.{table}
-use Rattle.definitions.specs.Answer.{value128}
-use Rattle.definitions.specs.Rq.{Element}
-use Rattle.inner_product.specs.Run.{run}
-use Rattle.protocol.specs.Formulas.{count-left}
-use Rattle.protocol.proofs.CellsLeft.{count-at-most}
+use Rattle.math.specs.lists.Table.{table}
+use Rattle.spec_leaves.specs.Answer.{value128}
+use Rattle.spec_leaves.specs.Rq.{Element}
+use Rattle.ring_inner_product.specs.Run.{run}
+use Rattle.spec_protocol.specs.Formulas.{count-left}
+use Rattle.spec_protocol.proofs.CellsLeft.{count-at-most}
 use Rattle.verifier_common.proofs.Sent.{received-room, product-small}
 use Rattle.verifier_digits.proofs.Digits.{t-norm-is, g-norm-is, h-norm-is, Found, sum-is, cells-left-is}
 use Rattle.verifier_digits.proofs.take.Statement.{statement}
@@ -44,7 +44,7 @@ mul-digits-norm : tie.Need-mul-digits-norm
 mul-digits-norm c =
     let s = c .before .before .before .before .before .before .args in
     let w = c .before .before .before .before .before .before .pre in
-    omega (arith, product-small (s .p .multiplicity) (s .p .kappa) (w .sized .within .r .1) (w .sized .within .κ .1))
+    omega (arith, product-small (s .params .multiplicity) (s .params .kappa) (w .sized .within .r .1) (w .sized .within .κ .1))
 
 digits-norm-requires : tie.Need-digits-norm-requires
 digits-norm-requires c κs =
@@ -55,7 +55,7 @@ digits-norm-requires c κs =
       w .sized .within .b .0,
       w .sized .within .t₁ .1,
       few _ 256
-          (product-small (s .p .multiplicity) (s .p .kappa) (w .sized .within .r .1) (w .sized .within .κ .1)) (omega arith),
+          (product-small (s .params .multiplicity) (s .params .kappa) (w .sized .within .r .1) (w .sized .within .κ .1)) (omega arith),
     )
 
 digits-norm-requires-2 : tie.Need-digits-norm-requires-2
@@ -94,7 +94,8 @@ t-hi : (c : tie.After-digits-norm3) → c .before .before .before .before .digit
 t-hi c =
     let s = c .before .before .before .before .before .before .before .before .before .before .before .args in
     let w = c .before .before .before .before .before .before .before .before .before .before .before .pre in
-    norm-hi _ _ 256 (c .before .before .before .before .digits-norm .ensures .0 .1) (product-small (s .p .multiplicity) (s .p .kappa) (w .sized .within .r .1) (w .sized .within .κ .1)) (omega arith)
+    norm-hi _ _ 256 (c .before .before .before .before .digits-norm .ensures .0 .1) (product-small (s .params .multiplicity) (s .params .kappa) (w .sized .within .r .1) (w .sized .within .κ .1))
+    (omega arith)
 
 g-hi : (c : tie.After-digits-norm3) → c .before .before .digits-norm2 .result .norm .hi ≤ 524288
 g-hi c = norm-hi _ _ 136 (c .before .before .digits-norm2 .ensures .0 .1) (c .before .before .before .before .before .before .before .before .before .triangle .ensures .1) (omega arith)
@@ -133,29 +134,30 @@ t-left c =
     let s = c .before .before .before .before .before .before .before .before .before .before .before in
     let w = s .pre .sized .within in
     let d = c .before .before .before .before .digits-norm in
-    few-left (s .args .p .b) (s .args .p .«t_1») (s .args .p .multiplicity * s .args .p .kappa) 256 (d .result .«cells_left»)
+    few-left (s .args .params .b) (s .args .params .«t_1») (s .args .params .multiplicity * s .args .params .kappa) 256 (d .result .«cells_left»)
     (run (s .args .transcript .now) (c .before .before .before .before .before .before .of-transcript2 .result) 64)
     (d .ensures .1)
-    (product-small (s .args .p .multiplicity) (s .args .p .kappa) (w .r .1) (w .κ .1))
+    (product-small (s .args .params .multiplicity) (s .args .params .kappa) (w .r .1) (w .κ .1))
 
 g-left : (c : tie.After-digits-norm3) → c .before .before .digits-norm2 .result .«cells_left» ≤ 136
 g-left c =
     let s = c .before .before .before .before .before .before .before .before .before .before .before .args in
     let t = c .before .before .before .before .before .before .before .before .before .triangle in
     let d = c .before .before .digits-norm2 in
-    few-left (s .p .b) (s .p .«t_2») (t .result) 136 (d .result .«cells_left») (run (s .transcript .now) (c .before .before .before .of-transcript3 .result) 64) (d .ensures .1) (t .ensures .1)
+    few-left (s .params .b) (s .params .«t_2») (t .result) 136 (d .result .«cells_left») (run (s .transcript .now) (c .before .before .before .of-transcript3 .result) 64) (d .ensures .1)
+    (t .ensures .1)
 
 h-left : (c : tie.After-digits-norm3) → c .digits-norm3 .result .«cells_left» ≤ 136
 h-left c =
     let s = c .before .before .before .before .before .before .before .before .before .before .before .args in
     let t = c .before .before .before .before .before .before .before .before .before .triangle in
     let d = c .digits-norm3 in
-    few-left (s .p .b) (s .p .«t_1») (t .result) 136 (d .result .«cells_left») (run (s .transcript .now) (c .before .of-transcript4 .result) 64) (d .ensures .1) (t .ensures .1)
+    few-left (s .params .b) (s .params .«t_1») (t .result) 136 (d .result .«cells_left») (run (s .transcript .now) (c .before .of-transcript4 .result) 64) (d .ensures .1) (t .ensures .1)
 
 -- what is found of the four norms
 found : (c : tie.After-digits-norm3)
     → let s = c .before .before .before .before .before .before .before .before .before .before .before .args in
-    Found (s .transcript .now) (s .p) (c .before .before .before .before .before .before .before .before .before .triangle .result)
+    Found (s .transcript .now) (s .params) (c .before .before .before .before .before .before .before .before .before .triangle .result)
     (c .before .before .before .before .before .before .before .before .of-transcript .result) (c .before .before .before .before .before .before .of-transcript2 .result)
     (c .before .before .before .of-transcript3 .result) (c .before .of-transcript4 .result)
     (value128 (c .before .before .before .before .before .before .before .two-parts-norm .result)) (value128 (c .before .before .before .before .digits-norm .result .norm))
@@ -184,12 +186,12 @@ returns c =
     let m = a .before .before .before .before .before .before in
     let s = m .before .before .before .before .before .before .before .before .before .before .before .args in
     let f = found m in record {
-      sum = sum-is (s .transcript .now) (s .p) _ _ _ _ _ _ _ _ _ f _ _ _ (a .before .before .before .before .before .add .ensures .0)
+      sum = sum-is (s .transcript .now) (s .params) _ _ _ _ _ _ _ _ _ f _ _ _ (a .before .before .before .before .before .add .ensures .0)
           (a .before .before .before .before .add2 .ensures .0) (a .before .before .before .add3 .ensures .0);
-      t = a .before .before .at-most .ensures ∙ ap (λ x. leb x (value128 (s .p .«bound_b»))) (t-norm-is (s .transcript .now) (s .p) _ _ (f .t-place) (f .t-is));
-      g = a .before .at-most2 .ensures ∙ ap (λ x. leb x (value128 (s .p .«bound_c»))) (g-norm-is (s .transcript .now) (s .p) _ _ _ (f .g-place) (f .size) (f .g-is));
-      h = a .at-most3 .ensures ∙ ap (λ x. leb x (value128 (s .p .«bound_d»))) (h-norm-is (s .transcript .now) (s .p) _ _ _ (f .h-place) (f .size) (f .h-is));
-      left = cells-left-is (s .transcript .now) (s .p) _ _ _ _ _ _ _ (f .size) (f .t-place) (f .g-place) (f .h-place) (m .before .before .before .before .digits-norm .ensures .1)
+      t = a .before .before .at-most .ensures ∙ ap (λ x. leb x (value128 (s .params .«bound_b»))) (t-norm-is (s .transcript .now) (s .params) _ _ (f .t-place) (f .t-is));
+      g = a .before .at-most2 .ensures ∙ ap (λ x. leb x (value128 (s .params .«bound_c»))) (g-norm-is (s .transcript .now) (s .params) _ _ _ (f .g-place) (f .size) (f .g-is));
+      h = a .at-most3 .ensures ∙ ap (λ x. leb x (value128 (s .params .«bound_d»))) (h-norm-is (s .transcript .now) (s .params) _ _ _ (f .h-place) (f .size) (f .h-is));
+      left = cells-left-is (s .transcript .now) (s .params) _ _ _ _ _ _ _ (f .size) (f .t-place) (f .g-place) (f .h-place) (m .before .before .before .before .digits-norm .ensures .1)
           (m .before .before .digits-norm2 .ensures .1) (m .digits-norm3 .ensures .1);
     }
 

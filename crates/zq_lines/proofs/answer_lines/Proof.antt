@@ -3,8 +3,8 @@ use mathlib.Core.Path.{_≡_, refl, _∙_, sym, subst}
 use native.Mathlib.Omega.{arith}
 use lib.ListN.{length}
 use borrow.Author.Needs.{needs}
-use Rattle.line_reading.specs.Reading.{Bounded}
-use Rattle.line_reading.proofs.Small.{bounded-start, bounded-after}
+use Rattle.zq_lines_text.specs.Reading.{Bounded}
+use Rattle.zq_lines_text.proofs.Small.{bounded-start, bounded-after}
 use Rattle.zq_lines.specs.Turn.{TurnFrom}
 use Rattle.zq_lines.proofs.answer_lines.Statement.{statement}
 use Rattle.zq_lines.proofs.answer_lines.Tie as tie

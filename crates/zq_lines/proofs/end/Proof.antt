@@ -5,8 +5,8 @@ use native.Mathlib.Omega.{arith}
 use lib.ListN.{length}
 use lib.Seq.{length-take-le}
 use borrow.Author.Needs.{needs}
-use Rattle.line_answer.proofs.Chunks.{length-last}
-use Rattle.line_writing.proofs.Runs.{within}
+use Rattle.zq_lines_text.proofs.Chunks.{length-last}
+use Rattle.zq_lines_text.proofs.Runs.{within}
 use Rattle.zq_lines.proofs.end.Statement.{statement}
 use Rattle.zq_lines.proofs.end.Tie as tie
 

@@ -5,14 +5,17 @@ use native.Mathlib.Omega.{arith}
 use lib.ListN.{length, take}
 use lib.Seq.{length-take-le}
 use borrow.Author.Needs.{needs}
-use Rattle.line_reading.specs.Reading.{answers}
-use Rattle.line_answer.proofs.Chunks.{length-answers}
-use Rattle.line_writing.proofs.Runs.{within, written-first}
+use Rattle.zq_lines_text.specs.Reading.{answers}
+use Rattle.zq_lines_text.proofs.Chunks.{length-answers}
+use Rattle.zq_lines_text.proofs.Runs.{within, written-first}
 use Rattle.zq_lines.proofs.read_some.Statement.{statement}
 use Rattle.zq_lines.proofs.read_some.Tie as tie
 
 -- what the chunk has written fits the output
-bound : (c : tie.After-feed) → length (answers (c .before .before .before .before .before .before .before .before .before .before .before .before .before .args .s) (take (c .before .before .before .count .result) (c .before .before .before .before .before .before .before .before .before .read .last .1 .0))) ≤ length (c .before .before .before .before .before .before .before .before .before .before .before .before .before .args .out .now)
+bound : (c : tie.After-feed) → length
+    (answers (c .before .before .before .before .before .before .before .before .before .before .before .before .before .args .s)
+    (take (c .before .before .before .count .result) (c .before .before .before .before .before .before .before .before .before .read .last .1 .0))) ≤ length
+    (c .before .before .before .before .before .before .before .before .before .before .before .before .before .args .out .now)
 bound c =
     let s = c .before .before .before .before .before .before .before .before .before .before .before .before .before in
     let n = c .before .before .before .count .result in

@@ -2,7 +2,7 @@
 use mathlib.Core.Path.{_≡_, refl, sym, ap, _∙_}
 use Prim.Native.Nat.{ℕ, zero, suc}
 use borrow.Author.Needs.{needs}
-use Rattle.definitions.specs.Answer.{fine}
+use Rattle.spec_leaves.specs.Answer.{fine}
 use Rattle.mistyped.specs.Told.{mistypedAnswer, countedAnswer}
 use Rattle.mistyped.proofs.answers.counted.Statement.{statement}
 use Rattle.mistyped.proofs.answers.counted.Tie as tie

@@ -1,7 +1,7 @@
 -- `refusal_of` meets its contract.
 use mathlib.Core.Path.{sym, ap, ap₂, _∙_}
 use borrow.Author.Needs.{needs}
-use Rattle.definitions.specs.Answer.{number, place, refused}
+use Rattle.spec_leaves.specs.Answer.{number, place, refused}
 use Rattle.mistyped.specs.Told.{mistypedAnswer}
 use Rattle.mistyped.proofs.Verdicts.{numbered}
 use Rattle.mistyped.proofs.answers.refusal_of.Statement.{statement}

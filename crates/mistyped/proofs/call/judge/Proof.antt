@@ -1,7 +1,7 @@
 -- `judge` meets its contract.
 use mathlib.Core.Path.{sym, ap, _∙_}
 use borrow.Author.Needs.{needs}
-use Rattle.definitions.specs.Answer.{ofVerdict}
+use Rattle.spec_leaves.specs.Answer.{ofVerdict}
 use Rattle.mistyped.proofs.Verdicts.{accepted-without, refused-without}
 use Rattle.mistyped.proofs.Judged.{judged-without}
 use Rattle.mistyped.proofs.call.judge.Statement.{statement}
@@ -15,13 +15,15 @@ judge-failed-requires c κs =
 returns : tie.Need-returns
 returns c =
     let s = c .before .before .before .before .before .before .before in
-    judged-without (s .args .job .now) (s .args .randomness .now) (s .args .transcript .now) (s .args .list .now) (sym (ap ofVerdict (c .before .enum-told .given .1)) ∙ s .pre .1) (accepted-without _) (c .refused .result) (c .refused .ensures)
+    judged-without (s .args .job .now) (s .args .randomness .now) (s .args .transcript .now) (s .args .list .now) (sym (ap ofVerdict (c .before .enum-told .given .1)) ∙ s .pre .1)
+    (accepted-without _) (c .refused .result) (c .refused .ensures)
 
 returns-2 : tie.Need-returns-2
 returns-2 c =
     let s = c .before .before .before .before .before .before .before .before in
     let r = c .before .before .verdict .given in
-    judged-without (s .args .job .now) (s .args .randomness .now) (s .args .transcript .now) (s .args .list .now) (sym (ap ofVerdict (r .1)) ∙ s .pre .1) (refused-without (r .0 .0)) (c .refusal-of .result) (c .refusal-of .ensures)
+    judged-without (s .args .job .now) (s .args .randomness .now) (s .args .transcript .now) (s .args .list .now) (sym (ap ofVerdict (r .1)) ∙ s .pre .1)
+    (refused-without (r .0 .0)) (c .refusal-of .result) (c .refusal-of .ensures)
 
 pub judge-spec : {M : Type 1} → statement M
 judge-spec =

@@ -1,7 +1,7 @@
 -- `judge_failed` meets its contract.
 use mathlib.Core.Path.{sym, ap, _∙_}
 use borrow.Author.Needs.{needs}
-use Rattle.definitions.specs.Answer.{ofFailed}
+use Rattle.spec_leaves.specs.Answer.{ofFailed}
 use Rattle.mistyped.proofs.Verdicts.{failed-without}
 use Rattle.mistyped.proofs.Judged.{judged-without, judged-with}
 use Rattle.mistyped.proofs.call.judge_failed.Statement.{statement}
@@ -10,7 +10,8 @@ use Rattle.mistyped.proofs.call.judge_failed.Tie as tie
 returns : tie.Need-returns
 returns c =
     let s = c .before .before .before .before .before .before in
-    judged-without (s .args .job .now) (s .args .randomness .now) (s .args .transcript .now) (s .args .list .now) (s .pre .1) (failed-without (s .args .check) (c .before .match .keys2)) (c .refused .result) (c .refused .ensures)
+    judged-without (s .args .job .now) (s .args .randomness .now) (s .args .transcript .now) (s .args .list .now) (s .pre .1) (failed-without (s .args .check) (c .before .match .keys2))
+    (c .refused .result) (c .refused .ensures)
 
 returns-2 : tie.Need-returns-2
 returns-2 c =

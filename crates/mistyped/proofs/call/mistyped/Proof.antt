@@ -4,11 +4,11 @@ use Prim.Native.Nat.{_*_}
 use native.Mathlib.Omega.{arith}
 use borrow.Author.Needs.{needs}
 use lib.ListN.{length}
-use Rattle.definitions.specs.Answer.{fine, refused}
-use Rattle.protocol.specs.Parameters.{parameters}
-use Rattle.protocol.specs.Verifier.{verify-refusal}
-use Rattle.protocol.specs.Mistyped.{list-need}
-use Rattle.admission.specs.Admission.{Verifiable, ofAdmitted}
+use Rattle.spec_leaves.specs.Answer.{fine, refused}
+use Rattle.spec_protocol.specs.Parameters.{parameters}
+use Rattle.spec_protocol.specs.Verifier.{verify-refusal}
+use Rattle.spec_protocol.specs.Mistyped.{list-need}
+use Rattle.admission_slices.specs.Admission.{Verifiable, ofAdmitted}
 use Rattle.verifier.proofs.Whole.{admitted}
 use Rattle.mistyped.specs.Told.{mistypedAnswer}
 use Rattle.mistyped.proofs.Verdicts.{numbered}
@@ -18,27 +18,30 @@ use Rattle.mistyped.proofs.call.mistyped.Tie as tie
 
 -- a call that the verifier would not refuse before its work
 module _ (c : tie.After-struct-known) where
-  fit : let s = c .before .before .before .before .before .before .before .before .before .before .args in Verifiable (s .job .now) (s .randomness .now) (s .transcript .now) (length (s .scratch .now)) (c .before .before .p .given .0 .0)
+  fit : let s = c .before .before .before .before .before .before .before .before .before .before .args in Verifiable (s .job .now) (s .randomness .now) (s .transcript .now)
+      (length (s .scratch .now)) (c .before .before .params .given .0 .0)
   fit =
       let s = c .before .before .before .before .before .before .before .before .before .before .args in
       let e = c .before .before .before .before .admit .ensures in
-      admitted (s .job .now) (s .randomness .now) (s .transcript .now) (s .scratch .now) _ (e .0) _ (c .before .before .p .given .1) (e .1)
+      admitted (s .job .now) (s .randomness .now) (s .transcript .now) (s .scratch .now) _ (e .0) _ (c .before .before .params .given .1) (e .1)
 
-  unrefused : let s = c .before .before .before .before .before .before .before .before .before .before .args in fine ≡ verify-refusal (s .job .now) (s .randomness .now) (s .transcript .now) (length (s .scratch .now))
-  unrefused = sym (ap ofAdmitted (c .before .before .p .given .1)) ∙ c .before .before .before .before .admit .ensures .0
+  unrefused : let s = c .before .before .before .before .before .before .before .before .before .before .args in fine ≡ verify-refusal (s .job .now) (s .randomness .now)
+      (s .transcript .now) (length (s .scratch .now))
+  unrefused = sym (ap ofAdmitted (c .before .before .params .given .1)) ∙ c .before .before .before .before .admit .ensures .0
 
   -- the length that the list needs
-  need-is : 2 * c .before .before .p .given .0 .0 .«constraint_l» ≡ list-need (parameters (c .before .before .before .before .before .before .before .before .before .before .args .job .now))
+  need-is : 2 * c .before .before .params .given .0 .0 .«constraint_l» ≡ list-need (parameters (c .before .before .before .before .before .before .before .before .before .before .args .job .now))
   need-is = ap (λ P. 2 * P .l) (fit .handed .same)
 
 returns : tie.Need-returns
 returns c =
     let k = c .before .before in
     let s = k .before .before .before .before .before .before .before .before .before .before .args in
-    let e = short-list (s .job .now) (s .randomness .now) (s .transcript .now) (s .scratch .now) (s .list .now) (unrefused k) (omega (arith, c .before .if1 .taken, need-is k)) in (
-      refused-call (s .job .now) (s .randomness .now) (s .transcript .now) (s .scratch .now) (s .list .now) e (c .refused .result) (c .refused .ensures ∙ ap (λ n. mistypedAnswer (refused 2 n) 0) (need-is k)),
-      refused-scratch (s .job .now) (s .randomness .now) (s .transcript .now) (s .scratch .now) (s .list .now) e,
-    )
+    let e = short-list (s .job .now) (s .randomness .now) (s .transcript .now) (s .scratch .now) (s .list .now) (unrefused k) (omega (arith, c .before .if1 .taken, need-is k)) in
+    record {
+      told = refused-call (s .job .now) (s .randomness .now) (s .transcript .now) (s .scratch .now) (s .list .now) e _ (c .refused .ensures ∙ ap (λ n. mistypedAnswer (refused 2 n) 0) (need-is k));
+      scratch-left = refused-scratch (s .job .now) (s .randomness .now) (s .transcript .now) (s .scratch .now) (s .list .now) e;
+    }
 
 work-requires : tie.Need-work-requires
 work-requires c κs = let k = c .before .before .before in (fit k, c .before .before .if1 .left)
@@ -48,20 +51,24 @@ returns-2 c =
     let s = c .before .before .before .before .before .before .before .before .before .before .args in
     let r = c .before .before .refusal .given in
     let n = numbered (r .0 .0) in
-    let f = first-refusal (s .job .now) (s .randomness .now) (s .transcript .now) (s .scratch .now) (s .list .now) (r .0 .0) (sym (ap ofAdmitted (r .1)) ∙ c .before .before .before .before .admit .ensures .0) in (
-      refused-call (s .job .now) (s .randomness .now) (s .transcript .now) (s .scratch .now) (s .list .now) (f ∙ n .is) (c .refusal-of .result) (c .refusal-of .ensures ∙ ap (λ a. mistypedAnswer a 0) (n .is)),
-      refused-scratch (s .job .now) (s .randomness .now) (s .transcript .now) (s .scratch .now) (s .list .now) (f ∙ n .is),
-    )
+    let g = sym (ap ofAdmitted (r .1)) ∙ c .before .before .before .before .admit .ensures .0 in
+    let f = first-refusal (s .job .now) (s .randomness .now) (s .transcript .now) (s .scratch .now) (s .list .now) (r .0 .0) g in
+    record {
+      told = refused-call (s .job .now) (s .randomness .now) (s .transcript .now) (s .scratch .now) (s .list .now) (f ∙ n .is) _ (c .refusal-of .ensures ∙ ap (λ a. mistypedAnswer a 0) (n .is));
+      scratch-left = refused-scratch (s .job .now) (s .randomness .now) (s .transcript .now) (s .scratch .now) (s .list .now) (f ∙ n .is);
+    }
 
 returns-3 : tie.Need-returns-3
 returns-3 c =
     let k = c .before .before .before .before .before .before .before .before in
     let s = k .before .before .before .before .before .before .before .before .before .before .args in
     let w = c .before .before .before .before .work .ensures in
-    let e = long-list (s .job .now) (s .randomness .now) (s .transcript .now) (s .scratch .now) (s .list .now) (unrefused k) (omega (arith, c .before .before .before .before .before .before .before .if1 .left, need-is k)) in (
-      worked-call (s .job .now) (s .randomness .now) (s .transcript .now) (s .scratch .now) (s .list .now) e (w .0),
-      worked-scratch (s .job .now) (s .randomness .now) (s .transcript .now) (s .scratch .now) (s .list .now) e (w .1),
-    )
+    let long = c .before .before .before .before .before .before .before .if1 .left in
+    let e = long-list (s .job .now) (s .randomness .now) (s .transcript .now) (s .scratch .now) (s .list .now) (unrefused k) (omega (arith, long, need-is k)) in
+    record {
+      told = worked-call (s .job .now) (s .randomness .now) (s .transcript .now) (s .scratch .now) (s .list .now) e (w .0);
+      scratch-left = worked-scratch (s .job .now) (s .randomness .now) (s .transcript .now) (s .scratch .now) (s .list .now) e (w .1);
+    }
 
 pub mistyped-spec : {M : Type 1} → statement M
 mistyped-spec =

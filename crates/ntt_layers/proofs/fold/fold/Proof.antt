@@ -16,9 +16,9 @@ add-result c = omega (arith, product-bound (c .args .z / 134217728 % 4294967296)
 returns : tie.Need-returns
 unfolding fold
 returns c =
-    let q : c .args .z / 134217728 % 4294967296 ≡ c .args .z / 134217728 = omega arith in
+    let neginv : c .args .z / 134217728 % 4294967296 ≡ c .args .z / 134217728 = omega arith in
     let d : c .args .d % 4294967296 ≡ c .args .d = omega arith in
-    ap₂ (λ x y. x * y + c .args .z % 134217728) q d
+    ap₂ (λ x y. x * y + c .args .z % 134217728) neginv d
 
 pub fold-spec : {M : Type 1} → statement M
 fold-spec =

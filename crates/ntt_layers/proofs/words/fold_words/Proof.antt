@@ -4,8 +4,8 @@ use Prim.Native.Nat.{_-_, _≤_}
 use native.Mathlib.Omega.{arith}
 use borrow.Author.Needs.{needs}
 use lib.ListN.{getD}
-use Rattle.lists.specs.Table.{padded}
-use Rattle.lists.proofs.Padded.{padded-none, padded-next, padded-done}
+use Rattle.math.specs.lists.Table.{padded}
+use Rattle.math.proofs.lists.Padded.{padded-none, padded-next, padded-done}
 use Rattle.ntt_layers.specs.Fold.{fold}
 use Rattle.ntt_layers.specs.Words.{foldedOf}
 use Rattle.ntt_layers.proofs.words.fold_words.Statement.{statement}

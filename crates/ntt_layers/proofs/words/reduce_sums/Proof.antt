@@ -4,8 +4,8 @@ use Prim.Native.Nat.{_+_, _-_, _*_, _/_, _%_, _≤_}
 use native.Mathlib.Omega.{arith}
 use borrow.Author.Needs.{needs}
 use lib.ListN.{getD}
-use Rattle.lists.specs.Table.{padded}
-use Rattle.lists.proofs.Padded.{padded-none, padded-next, padded-done}
+use Rattle.math.specs.lists.Table.{padded}
+use Rattle.math.proofs.lists.Padded.{padded-none, padded-next, padded-done}
 use Rattle.ntt_layers.specs.Fold.{fold, reduced}
 use Rattle.ntt_layers.specs.Words.{reducedSum, reducedOf}
 use native.Mathlib.Nat.{mul-le-mul}
@@ -30,7 +30,7 @@ mul-reduce-2 c =
     let z = getD (s .t1) k 0 in
     let f : Fits w64 z = search needs in
     let d : 32 * s .d % 4294967296 ≤ 69600 = omega (arith, c .before .before .pre) in
-    let q : z / 4294967296 * (32 * s .d % 4294967296) ≤ 4294967295 * 69600 = mul-le-mul {n₁ = z / 4294967296} {m₁ = 32 * s .d % 4294967296} {n₂ = 4294967295} {m₂ = 69600} (omega arith) d in
+    let neginv : z / 4294967296 * (32 * s .d % 4294967296) ≤ 4294967295 * 69600 = mul-le-mul {n₁ = z / 4294967296} {m₁ = 32 * s .d % 4294967296} {n₂ = 4294967295} {m₂ = 69600} (omega arith) d in
     omega arith
 
 add-reduce : tie.Need-add-reduce Inv-loop μ-loop
@@ -40,7 +40,7 @@ add-reduce c =
     let z = getD (s .t1) k 0 in
     let f : Fits w64 z = search needs in
     let d : 32 * s .d % 4294967296 ≤ 69600 = omega (arith, c .before .before .pre) in
-    let q : z / 4294967296 * (32 * s .d % 4294967296) ≤ 4294967295 * 69600 = mul-le-mul {n₁ = z / 4294967296} {m₁ = 32 * s .d % 4294967296} {n₂ = 4294967295} {m₂ = 69600} (omega arith) d in
+    let neginv : z / 4294967296 * (32 * s .d % 4294967296) ≤ 4294967295 * 69600 = mul-le-mul {n₁ = z / 4294967296} {m₁ = 32 * s .d % 4294967296} {n₂ = 4294967295} {m₂ = 69600} (omega arith) d in
     omega arith
 
 reduce-requires : tie.Need-reduce-requires Inv-loop μ-loop
@@ -50,7 +50,7 @@ reduce-requires c κs =
     let z = getD (s .t1) k 0 in
     let f : Fits w64 z = search needs in
     let d : 32 * s .d % 4294967296 ≤ 69600 = omega (arith, c .before .before .pre) in
-    let q : z / 4294967296 * (32 * s .d % 4294967296) ≤ 4294967295 * 69600 = mul-le-mul {n₁ = z / 4294967296} {m₁ = 32 * s .d % 4294967296} {n₂ = 4294967295} {m₂ = 69600} (omega arith) d in
+    let neginv : z / 4294967296 * (32 * s .d % 4294967296) ≤ 4294967295 * 69600 = mul-le-mul {n₁ = z / 4294967296} {m₁ = 32 * s .d % 4294967296} {n₂ = 4294967295} {m₂ = 69600} (omega arith) d in
     (omega arith, c .before .before .pre)
 
 cast-out : tie.Need-cast-out Inv-loop μ-loop

@@ -4,8 +4,8 @@ use Prim.Native.Nat.{ℕ, _+_, _-_, _*_, _%_, _≤_, _<_}
 use native.Mathlib.Omega.{arith}
 use borrow.Author.Needs.{needs}
 use lib.ListN.{getD}
-use Rattle.lists.specs.Table.{padded}
-use Rattle.lists.proofs.Padded.{padded-none, padded-next, padded-done}
+use Rattle.math.specs.lists.Table.{padded}
+use Rattle.math.proofs.lists.Padded.{padded-none, padded-next, padded-done}
 use Rattle.ntt_layers.specs.Fold.{prime}
 use Rattle.ntt_layers.specs.Words.{remaindersOf}
 use native.Mathlib.Nat.{mul-le-mul}
@@ -33,11 +33,18 @@ mul-reduce : tie.Need-mul-reduce Inv-loop μ-loop
 mul-reduce c = omega (arith, within (c .wide .result) (c .before .before .before .args .factor) 0 (small c) (c .before .before .before .pre .1) (omega arith))
 
 add-reduce : tie.Need-add-reduce Inv-loop μ-loop
-add-reduce c = omega (arith, within (c .wide .result) (c .before .before .before .args .factor) (c .before .before .before .args .offset) (small c) (c .before .before .before .pre .1) (c .before .before .before .pre .2))
+add-reduce c = omega (
+  arith,
+  within (c .wide .result) (c .before .before .before .args .factor) (c .before .before .before .args .offset) (small c)
+      (c .before .before .before .pre .1) (c .before .before .before .pre .2),
+)
 
 reduce-requires : tie.Need-reduce-requires Inv-loop μ-loop
-reduce-requires c κs =
-    (within (c .wide .result) (c .before .before .before .args .factor) (c .before .before .before .args .offset) (small c) (c .before .before .before .pre .1) (c .before .before .before .pre .2), c .before .before .before .pre .0)
+reduce-requires c κs = (
+  within (c .wide .result) (c .before .before .before .args .factor) (c .before .before .before .args .offset) (small c) (c .before .before .before .pre .1)
+      (c .before .before .before .pre .2),
+  c .before .before .before .pre .0,
+)
 
 loop-again : tie.Need-loop-again Inv-loop μ-loop
 loop-again c =

@@ -3,10 +3,10 @@ use mathlib.Core.Path.{_≡_, sym, _∙_, ap, ap₂}
 use native.Mathlib.Omega.{arith}
 use borrow.Author.Needs.{needs}
 use lib.ListN.{length}
-use Rattle.definitions.specs.Answer.{Answer, fine, _then_}
-use Rattle.protocol.specs.Ranges.{length-refusal, beyond-refusal, crossed-refusal}
-use Rattle.admission.specs.Admission.{ofSliceChecked}
-use Rattle.admission.proofs.Stages.{stage₁, stage₂}
+use Rattle.spec_leaves.specs.Answer.{Answer, fine, _then_}
+use Rattle.spec_protocol.specs.Ranges.{length-refusal, beyond-refusal, crossed-refusal}
+use Rattle.admission_slices.specs.Admission.{ofSliceChecked}
+use Rattle.admission_slices.proofs.Stages.{stage₁, stage₂}
 use Rattle.ranges.proofs.Ready.{length-is}
 use Rattle.ranges.proofs.checks.check.Statement.{statement}
 use Rattle.ranges.proofs.checks.check.Tie as tie

@@ -3,8 +3,8 @@ use mathlib.Core.Path.{_≡_, sym, _∙_, ap}
 use mathlib.Core.Bool.{cond}
 use borrow.Author.Needs.{needs}
 use borrow.Author.Tests.{lt-ltb, le-ltb}
-use Rattle.definitions.specs.Answer.{Answer, fine, refused, _then_}
-use Rattle.protocol.specs.Ranges.{beyond-refusal, crossed-refusal}
+use Rattle.spec_leaves.specs.Answer.{Answer, fine, refused, _then_}
+use Rattle.spec_protocol.specs.Ranges.{beyond-refusal, crossed-refusal}
 use Rattle.ranges.proofs.checks.check_pairs.Statement.{statement}
 use Rattle.ranges.proofs.checks.check_pairs.Tie as tie
 

@@ -1,6 +1,6 @@
 -- `check_all` meets its contract.
 use borrow.Author.Needs.{needs}
-use Rattle.workspace.proofs.Kept.{kept-refl}
+use Rattle.core_workspace.proofs.Unchanged.{unchanged-refl}
 use Rattle.verifier.proofs.Whole.{stopped-is, goes-on-is}
 use Rattle.verifier.proofs.verify.check_all.Statement.{statement}
 use Rattle.verifier.proofs.verify.check_all.Tie as tie
@@ -11,7 +11,7 @@ returns c =
     let s = n .before .before .before .before .before .args in (
       stopped-is (s .job .now) (s .randomness .now) (s .transcript .now) (n .check-norms .result .checked) (n .check-norms .ensures .0) (c .before .match .keys2) (c .verdict-of .result)
           (c .verdict-of .ensures),
-      kept-refl _ _,
+      unchanged-refl _ _,
     )
 
 -- what is found of the digits
@@ -30,7 +30,7 @@ returns-2 c =
     let s = n .before .before .before .before .before in
     let k = n .check-norms .ensures in
     let e = r .check-rest .ensures in (
-      goes-on-is (s .args .job .now) (s .args .randomness .now) (s .args .transcript .now) (s .args .p) (s .pre .0 .posed .same) (n .check-norms .result .checked) (k .0) (t .enum-told .given .1)
+      goes-on-is (s .args .job .now) (s .args .randomness .now) (s .args .transcript .now) (s .args .params) (s .pre .0 .posed .same) (n .check-norms .result .checked) (k .0) (t .enum-told .given .1)
           (n .check-norms .result .digits) (k .1 (t .enum-told .given .1)) (r .check-rest .result) (e .0) (c .verdict-of2 .result) (c .verdict-of2 .ensures),
       e .1,
     )

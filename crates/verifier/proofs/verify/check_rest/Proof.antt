@@ -1,8 +1,8 @@
 -- `check_rest` meets its contract.
 use mathlib.Core.Path.{_∙_}
 use borrow.Author.Needs.{needs}
-use Rattle.workspace.proofs.Kept.{kept-trans}
-use Rattle.workspace.proofs.Ready.{ready-changed}
+use Rattle.core_workspace.proofs.Unchanged.{unchanged-trans}
+use Rattle.core_workspace.proofs.Ready.{ready-changed}
 use Rattle.verifier_commitments.specs.Order.{commitments}
 use Rattle.verifier_common.proofs.Verdicts.{goes-on, stops}
 use Rattle.verifier.proofs.verify.check_rest.Statement.{statement}
@@ -29,7 +29,7 @@ returns-2 c =
     let e = f .check-relations .ensures in
     let g = c .before .before .check-commitments .ensures in (
       g .0 ∙ goes-on (f .check-relations .result) (e .0) (t .enum-told .given .1) (commitments (s .job .now) (s .transcript .now)),
-      kept-trans _ (s .scratch .now) _ _ (e .1) (g .1),
+      unchanged-trans _ (s .scratch .now) _ _ (e .1) (g .1),
     )
 
 pub check-rest-spec : {M : Type 1} → statement M

@@ -8,7 +8,7 @@ work-and-clear-requires : tie.Need-work-and-clear-requires
 work-and-clear-requires c κs =
     let s = c .before .before .before .before .before .before .before .before .before .args in
     let e = c .before .before .before .before .admit .ensures in
-    admitted (s .job .now) (s .randomness .now) (s .transcript .now) (s .scratch .now) _ (e .0) _ (c .before .before .p .given .1) (e .1)
+    admitted (s .job .now) (s .randomness .now) (s .transcript .now) (s .scratch .now) _ (e .0) _ (c .before .before .params .given .1) (e .1)
 
 returns : tie.Need-returns
 returns c =
@@ -23,7 +23,7 @@ returns-2 : tie.Need-returns-2
 returns-2 c =
     let s = c .before .before .before .before .before .before .before .before .before .before .before .before .args in
     let e = c .before .before .before .before .before .before .before .admit .ensures in
-    let is = c .before .before .before .before .before .p .given .1 in
+    let is = c .before .before .before .before .before .params .given .1 in
     let w = c .before .before .work-and-clear .ensures in (
       worked-verdict (s .job .now) (s .randomness .now) (s .transcript .now) (s .scratch .now) _ (e .0) _ is (w .0),
       worked-scratch (s .job .now) (s .randomness .now) (s .transcript .now) (s .scratch .now) _ (e .0) _ is (w .1),

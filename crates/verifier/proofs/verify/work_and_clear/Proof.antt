@@ -1,7 +1,7 @@
 -- `work_and_clear` meets its contract.
 use mathlib.Core.Path.{refl, _∙_}
 use native.Mathlib.Omega.{arith}
-use Rattle.rq_matrix.proofs.Fill.{length-filled}
+use Rattle.ring_rq_matrix.proofs.Fill.{length-filled}
 use Rattle.verifier.proofs.Whole.{sent-of, ready-of, call-sized, few-regions, need-within, cleared}
 use Rattle.verifier.proofs.verify.work_and_clear.Statement.{statement}
 use Rattle.verifier.proofs.verify.work_and_clear.Tie as tie
@@ -20,7 +20,11 @@ scratch-length-requires c κs = call-sized _ _ _ _ _ (c .before .before .before 
 clear-requires : tie.Need-clear-requires
 clear-requires c κs =
     let s = c .before .before .before .before .before .before .before .before .before .before .before in
-    omega (arith, need-within _ _ _ _ _ (s .pre) _ (c .before .before .before .before .check-all .last .1 .1 .1 .1 .1 .0) (c .before .scratch-length .ensures) (c .before .before .before .before .check-all .ensures .1 .size))
+    omega (
+      arith,
+      need-within _ _ _ _ _ (s .pre) _ (c .before .before .before .before .check-all .last .1 .1 .1 .1 .1 .0) (c .before .scratch-length .ensures)
+          (c .before .before .before .before .check-all .ensures .1 .size),
+    )
 
 returns : tie.Need-returns
 returns c =

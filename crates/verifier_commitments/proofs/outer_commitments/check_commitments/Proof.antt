@@ -1,8 +1,8 @@
 -- `check_commitments` meets its contract.
 use mathlib.Core.Path.{_∙_}
 use borrow.Author.Needs.{needs}
-use Rattle.workspace.proofs.Kept.{kept-trans}
-use Rattle.workspace.proofs.Ready.{ready-changed}
+use Rattle.core_workspace.proofs.Unchanged.{unchanged-trans}
+use Rattle.core_workspace.proofs.Ready.{ready-changed}
 use Rattle.verifier_commitments.specs.Order.{second-commitment}
 use Rattle.verifier_common.proofs.Verdicts.{goes-on, stops}
 use Rattle.verifier_commitments.proofs.outer_commitments.check_commitments.Statement.{statement}
@@ -28,7 +28,7 @@ returns-2 c =
     let e = c .before .before .check-second-commitment .ensures in
     let g = f .check-first-commitment .ensures in (
       e .0 ∙ goes-on (f .check-first-commitment .result) (g .0) (t .enum-told .given .1) (second-commitment (s .job .now) (s .transcript .now)),
-      kept-trans _ (s .scratch .now) _ _ (g .1) (e .1),
+      unchanged-trans _ (s .scratch .now) _ _ (g .1) (e .1),
     )
 
 pub check-commitments-spec : {M : Type 1} → statement M

@@ -1,10 +1,10 @@
 -- `check_first_commitment` meets its contract.
 use mathlib.Core.Path.{_≡_, ap, _∙_}
 use borrow.Author.Needs.{needs}
-use Rattle.definitions.specs.Answer.{ofChecked}
-use Rattle.protocol.specs.Parameters.{Parameters, parameters}
-use Rattle.relation.specs.Parameters.{parametersOf}
-use Rattle.workspace.proofs.Kept.{kept-refl}
+use Rattle.spec_leaves.specs.Answer.{ofChecked}
+use Rattle.spec_protocol.specs.Parameters.{Parameters, parameters}
+use Rattle.relation_env_params.specs.Parameters.{parametersOf}
+use Rattle.core_workspace.proofs.Unchanged.{unchanged-refl}
 use Rattle.verifier_common.specs.Answers.{t-and-g-bounds, u1-differs}
 use Rattle.verifier_common.proofs.Verdicts.{goes-on, stops}
 use Rattle.verifier_digits.proofs.Digits.{t-and-g-is}
@@ -17,13 +17,13 @@ bounded : (c : tie.After-check-t-and-g)
     ofChecked (c .check-t-and-g .result) ≡ t-and-g-bounds (parameters (s .job .now)) (s .transcript .now)
 bounded c =
     let s = c .before .before .before .before in
-    c .check-t-and-g .ensures ∙ t-and-g-is (parametersOf (s .args .p)) (s .args .transcript .now) (s .args .digits) (s .pre .2) ∙ ap
+    c .check-t-and-g .ensures ∙ t-and-g-is (parametersOf (s .args .params)) (s .args .transcript .now) (s .args .digits) (s .pre .2) ∙ ap
     (λ (P : Parameters). t-and-g-bounds P (s .args .transcript .now)) (s .pre .0 .same)
 
 returns : tie.Need-returns
 returns c =
     let s = c .before .before .before .before .before .args in
-    (stops (c .before .check-t-and-g .result) (bounded (c .before)) (c .match .keys2) (u1-differs (s .job .now) (s .transcript .now)), kept-refl _ _)
+    (stops (c .before .check-t-and-g .result) (bounded (c .before)) (c .match .keys2) (u1-differs (s .job .now) (s .transcript .now)), unchanged-refl _ _)
 
 returns-2 : tie.Need-returns-2
 returns-2 c =

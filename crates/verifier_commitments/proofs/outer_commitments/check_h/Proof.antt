@@ -1,7 +1,7 @@
 -- `check_h` meets its contract.
 use mathlib.Core.Path.{sym, ap}
 use mathlib.Core.Bool.{cond}
-use Rattle.definitions.specs.Answer.{fine, refused}
+use Rattle.spec_leaves.specs.Answer.{fine, refused}
 use Rattle.verifier_commitments.proofs.outer_commitments.check_h.Statement.{statement}
 use Rattle.verifier_commitments.proofs.outer_commitments.check_h.Tie as tie
 

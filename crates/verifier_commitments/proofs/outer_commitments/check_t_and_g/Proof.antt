@@ -2,7 +2,7 @@
 use mathlib.Core.Path.{sym, ap, ap₂}
 use mathlib.Core.Bool.{Bool, cond}
 use borrow.Author.Tests.{not-true, not-false}
-use Rattle.definitions.specs.Answer.{Answer, fine, refused, _then_}
+use Rattle.spec_leaves.specs.Answer.{Answer, fine, refused, _then_}
 use Rattle.verifier_commitments.proofs.outer_commitments.check_t_and_g.Statement.{statement}
 use Rattle.verifier_commitments.proofs.outer_commitments.check_t_and_g.Tie as tie
 

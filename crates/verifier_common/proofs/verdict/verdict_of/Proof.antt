@@ -1,7 +1,7 @@
 -- `verdict_of` meets its contract.
 use mathlib.Core.Path.{sym, ap, _∙_}
 use borrow.Author.Needs.{needs}
-use Rattle.definitions.specs.Answer.{accepted, _then_, ofChecked}
+use Rattle.spec_leaves.specs.Answer.{accepted, _then_, ofChecked}
 use Rattle.verifier_common.proofs.Verdicts.{refusal-then, failed-then}
 use Rattle.verifier_common.proofs.verdict.verdict_of.Statement.{statement}
 use Rattle.verifier_common.proofs.verdict.verdict_of.Tie as tie

@@ -5,11 +5,11 @@ use Prim.Native.Nat.{ℕ, _+_, _-_, _*_, _≤_, _<_}
 use native.Mathlib.Decide.{ℕ-discrete}
 use native.Mathlib.Omega.{arith}
 use lib.ListN.{length, getD}
-use Rattle.definitions.specs.Answer.{fine, failed}
-use Rattle.protocol.specs.Checks.{first}
-use Rattle.protocol.specs.Parameters.{parameters}
-use Rattle.protocol.proofs.Fine.{require-holds, require-fails}
-use Rattle.protocol.proofs.First.{first-next}
+use Rattle.spec_leaves.specs.Answer.{fine, failed}
+use Rattle.spec_protocol.specs.Checks.{first}
+use Rattle.spec_protocol.specs.Parameters.{parameters}
+use Rattle.spec_protocol.proofs.Fine.{require-holds, require-fails}
+use Rattle.spec_protocol.proofs.First.{first-next}
 use Rattle.verifier_common.proofs.Sent.{reckoned}
 use Rattle.verifier_constant_terms.proofs.Terms.{test, check-22-is, Terms, terms, test-is}
 use Rattle.verifier_common.proofs.Verdicts.{first-failed}
@@ -17,11 +17,11 @@ use Rattle.verifier_constant_terms.proofs.constant_terms.check_constant
 use Rattle.verifier_constant_terms.proofs.constant_terms.check_constant_terms.Tie as tie
 
 abbrev Inv-loop : tie.InvT-loop
-Inv-loop job randomness transcript p b0 l psi om projection at k₀ k =
-    (k ≤ p .«const_agg_length») × (first k (test job randomness transcript) ≡ fine) × Terms job randomness transcript (p .«const_agg_length») l b0 psi om projection at
+Inv-loop job randomness transcript params b0 l psi om projection at k₀ k =
+    (k ≤ params .«const_agg_length») × (first k (test job randomness transcript) ≡ fine) × Terms job randomness transcript (params .«const_agg_length») l b0 psi om projection at
 
 abbrev μ-loop : tie.MeasureT-loop
-μ-loop job randomness transcript p b0 l psi om projection at k₀ k = p .«const_agg_length» - k
+μ-loop job randomness transcript params b0 l psi om projection at k₀ k = params .«const_agg_length» - k
 
 loop-holds : tie.Need-loop-holds Inv-loop μ-loop
 unfolding first
@@ -29,7 +29,8 @@ loop-holds c =
     let w = c .before .before .before .before .before .before .before .before .pre in (
       omega arith,
       refl,
-      terms w (c .before .before .before .before .of-job .result) (c .before .before .before .of-randomness .result) (c .before .before .of-randomness2 .result) (c .before .of-transcript .result) (c .of-transcript2 .result)
+      terms w (c .before .before .before .before .of-job .result) (c .before .before .before .of-randomness .result) (c .before .before .of-randomness2 .result)
+          (c .before .of-transcript .result) (c .of-transcript2 .result)
           (c .before .before .before .before .of-job .ensures)
           (c .before .before .before .of-randomness .ensures)
           (c .before .before .of-randomness2 .ensures)
@@ -39,16 +40,18 @@ loop-holds c =
 
 -- the room for row k
 at-room : (c : tie.Then1 Inv-loop μ-loop)
-    → c .before .before .before .of-transcript2 .result + 64 * c .before .before .loop .k < length (c .before .before .before .before .before .before .before .before .before .before .before .args .transcript .now)
+    → c .before .before .before .of-transcript2 .result + 64 * c .before .before .loop .k < length
+    (c .before .before .before .before .before .before .before .before .before .before .before .args .transcript .now)
 at-room c = let l = c .before .before .loop in l .inv .2 .at-room (l .k) (c .if1 .taken)
 
 psi-room : (c : tie.Then1 Inv-loop μ-loop)
     → let s = c .before .before .before .before .before .before .before .before .before .before .before .args in
-    c .before .before .before .before .before .before .of-randomness .result + c .before .before .loop .k * s .p .«constraint_l» + s .p .«constraint_l» ≤ length (s .randomness .now)
+    c .before .before .before .before .before .before .of-randomness .result + c .before .before .loop .k * s .params .«constraint_l» + s .params .«constraint_l» ≤ length (s .randomness .now)
 psi-room c = let l = c .before .before .loop in l .inv .2 .psi-room (l .k) (c .if1 .taken)
 
 om-room : (c : tie.Then1 Inv-loop μ-loop)
-    → c .before .before .before .before .before .of-randomness2 .result + c .before .before .loop .k * 256 + 256 ≤ length (c .before .before .before .before .before .before .before .before .before .before .before .args .randomness .now)
+    → c .before .before .before .before .before .of-randomness2 .result + c .before .before .loop .k * 256 + 256 ≤ length
+    (c .before .before .before .before .before .before .before .before .before .before .before .args .randomness .now)
 om-room c = let l = c .before .before .loop in l .inv .2 .om-room (l .k) (c .if1 .taken)
 
 constant-term-requires : tie.Need-constant-term-requires Inv-loop μ-loop
@@ -64,7 +67,7 @@ returns c =
     let at = c .before .before .before .before .before .before .of-transcript2 .result in
     let sent = getD (s .transcript .now) (at + 64 * l .k) 0 in
     let computed = c .before .constant-term .result in
-    let h : l .k < s .p .«const_agg_length» = c .before .before .before .if1 .taken in
+    let h : l .k < s .params .«const_agg_length» = c .before .before .before .if1 .taken in
     let h′ : l .k < parameters (s .job .now) .L = omega (arith, m .rows) in
     sym
     (sym (check-22-is (s .job .now) (s .randomness .now) (s .transcript .now))
@@ -79,7 +82,7 @@ loop-again c =
     let at = c .before .before .before .before .before .before .of-transcript2 .result in
     let sent = getD (s .transcript .now) (at + 64 * l .k) 0 in
     let computed = c .before .constant-term .result in
-    let h : l .k < s .p .«const_agg_length» = c .before .before .before .if1 .taken in (
+    let h : l .k < s .params .«const_agg_length» = c .before .before .before .if1 .taken in (
       omega (arith, h),
       first-next (l .k) (test (s .job .now) (s .randomness .now) (s .transcript .now)) (l .inv .1)
           (test-is m (l .k) computed h (c .before .constant-term .ensures) ∙ require-holds (ℕ-discrete sent computed) (failed 22 (l .k ∷ sent ∷ computed ∷ [])) (c .if2 .left)),

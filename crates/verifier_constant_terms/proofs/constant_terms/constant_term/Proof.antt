@@ -2,7 +2,7 @@
 use mathlib.Core.Path.{_≡_}
 use Prim.Native.Nat.{ℕ, _+_, _%_}
 use native.Mathlib.Omega.{arith}
-use Rattle.definitions.specs.Zq.{Q}
+use Rattle.spec_leaves.specs.Zq.{Q}
 use Rattle.verifier_constant_terms.specs.Terms.{products}
 use Rattle.verifier_constant_terms.proofs.constant_terms.constant_term.Statement.{statement}
 use Rattle.verifier_constant_terms.proofs.constant_terms.constant_term.Tie as tie

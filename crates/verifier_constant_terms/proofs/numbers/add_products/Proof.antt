@@ -1,14 +1,15 @@
 -- `add_products` meets its contract. The invariant: modulo Q the total is the sum and the first k products, and each product adds less than 2^39.
-use mathlib.Core.Path.{_≡_, sym, _∙_, ap, ap₂}
+use mathlib.Core.Path.{_≡_, refl, sym, _∙_, ap, ap₂}
 use Prim.Native.Nat.{ℕ, _+_, _-_, _*_, _/_, _%_, _≤_, _^_}
 use native.Mathlib.Nat.{add-zero, add-assoc}
 use native.Mathlib.Omega.{arith}
 use lib.ListN.{getD}
-use Rattle.lists.specs.Sum.{Σ}
-use Rattle.lists.proofs.Sum.{Σ-suc}
-use Rattle.definitions.specs.Zq.{Q, lackQ}
-use Rattle.definitions.proofs.Fits.{product-max}
-use Rattle.definitions.proofs.Suited.{suited, halves-fit}
+use Rattle.math.specs.lists.Sum.{Σ}
+use Rattle.math.proofs.lists.Sum.{Σ-suc}
+use Rattle.spec_leaves.specs.Zq.{Q, lackQ}
+use Rattle.spec_leaves.proofs.Fits.{product-max}
+use Rattle.spec_leaves.proofs.Suited.{suited, halves-fit}
+use Rattle.spec_leaves.proofs.Modulo.{add-mod}
 use Rattle.verifier_constant_terms.proofs.numbers.add_products.Statement.{statement}
 use Rattle.verifier_constant_terms.proofs.numbers.add_products.Tie as tie
 
@@ -20,15 +21,11 @@ halves-small p h = halves-fit lackQ p suited (omega arith)
 folds : (t p : ℕ) → (t + (p / 4294967296 * lackQ + p % 4294967296)) % Q ≡ (t + p) % Q
 folds t p = omega arith
 
--- numbers that are the same modulo Q are so with another added
-more : (t s p : ℕ) → t % Q ≡ s % Q → (t + p) % Q ≡ (s + p) % Q
-more t s p e = omega arith
-
 -- one more product
 next : (sum t p k : ℕ) (f : ℕ → ℕ) → t % Q ≡ (sum + Σ k f) % Q → p ≡ f k → (t + (p / 4294967296 * lackQ + p % 4294967296)) % Q ≡ (sum + Σ (k + 1) f) % Q
 next sum t p k f e g =
     folds t p
-    ∙ more t (sum + Σ k f) p e
+    ∙ add-mod Q t p (sum + Σ k f) p e refl
     ∙ ap (λ x. x % Q) (ap (λ y. sum + Σ k f + y) g ∙ add-assoc sum (Σ k f) (f k) ∙ ap (λ y. sum + y) (sym (Σ-suc k f)))
 
 abbrev Inv-loop : tie.InvT-loop

@@ -2,8 +2,8 @@
 use mathlib.Core.Path.{_≡_, sym, ap, _∙_}
 use mathlib.Core.Bool.{cond}
 use mathlib.Core.List.{[], _∷_}
-use Rattle.definitions.specs.Answer.{fine, failed, value128}
-use Rattle.commitments.proofs.Answers.{require-by}
+use Rattle.spec_leaves.specs.Answer.{fine, failed, value128}
+use Rattle.commitments_outer.proofs.Answers.{require-by}
 use Rattle.verifier_norms.specs.Order.{sum-within}
 use Rattle.verifier_norms.proofs.norm_checks.check_norm_sum.Statement.{statement}
 use Rattle.verifier_norms.proofs.norm_checks.check_norm_sum.Tie as tie

@@ -1,9 +1,9 @@
 -- `check_norms` meets its contract.
 use mathlib.Core.Path.{_≡_, sym, ap, _∙_}
 use borrow.Author.Needs.{needs}
-use Rattle.definitions.specs.Answer.{ofChecked, _then_}
-use Rattle.protocol.specs.Parameters.{Parameters, parameters}
-use Rattle.relation.specs.Parameters.{parametersOf}
+use Rattle.spec_leaves.specs.Answer.{ofChecked, _then_}
+use Rattle.spec_protocol.specs.Parameters.{Parameters, parameters}
+use Rattle.relation_env_params.specs.Parameters.{parametersOf}
 use Rattle.verifier_common.specs.Answers.{projection-norm, constant-terms, norm-sum}
 use Rattle.verifier_common.proofs.Sent.{received}
 use Rattle.verifier_common.proofs.Verdicts.{goes-on, stops, never-passed}
@@ -58,7 +58,7 @@ returns-3 c =
     let s = k .before .before .before .before .before .before .before in
     let T = s .args .transcript .now in (
       c .check-norm-sum .ensures
-          ∙ check-23-is (parametersOf (s .args .p)) T (d .result) (d .ensures)
+          ∙ check-23-is (parametersOf (s .args .params)) T (d .result) (d .ensures)
           ∙ ap (λ (P : Parameters). norm-sum P T) (s .pre .posed .same)
           ∙ goes-on (k .check-constant-terms .result) (answer-22 k) (c .before .before .enum-told2 .given .1) (norm-sum (parameters (s .args .job .now)) T),
       λ passed. d .ensures,

@@ -4,8 +4,8 @@ use mathlib.Core.Bool.{cond}
 use mathlib.Core.List.{[], _∷_}
 use native.Mathlib.Omega.{arith}
 use borrow.Author.Tests.{leb-true, leb-false}
-use Rattle.definitions.specs.Answer.{fine, failed, value128}
-use Rattle.relation.specs.Parameters.{parametersOf}
+use Rattle.spec_leaves.specs.Answer.{fine, failed, value128}
+use Rattle.relation_env_params.specs.Parameters.{parametersOf}
 use Rattle.verifier_common.specs.Answers.{projection-norm}
 use Rattle.verifier_common.proofs.Sent.{received-room}
 use Rattle.verifier_norms.proofs.Norms.{upper, check-21-below, check-21-is}
@@ -21,7 +21,7 @@ returns c =
     let s = c .before .before .before .before .before in
     let o = c .before .before .before .of-transcript in
     let t = s .pre in
-    sym (check-21-below (s .args .transcript .now) (s .args .p) (o .result) (value128 (c .before .before .norm-of .result)) (o .ensures)
+    sym (check-21-below (s .args .transcript .now) (s .args .params) (o .result) (value128 (c .before .before .norm-of .result)) (o .ensures)
     (received-room t 1 (o .result) (omega arith) (o .ensures))
     (c .before .before .norm-of .ensures .0)
     (leb-true _ _ (sym (c .before .at-most .ensures) ∙ c .if1 .taken)))
@@ -33,12 +33,13 @@ times-128-requires c κs =
 -- 21, by what the second `at_most` answers
 found : (c : tie.After-at-most2)
     → let s = c .before .before .before .before .before .before .before .args in
-    projection-norm (parametersOf (s .p)) (s .transcript .now)
+    projection-norm (parametersOf (s .params)) (s .transcript .now)
     ≡ cond (c .at-most2 .result) fine (failed 21 (value128 (c .before .before .before .before .norm-of .result) ∷ value128 (c .before .times-128 .result) ∷ []))
 found c =
     let w = c .before .before .before .before .before .before .before .pre in
     let o = c .before .before .before .before .before .of-transcript in
-    check-21-is (c .before .before .before .before .before .before .before .args .transcript .now) (c .before .before .before .before .before .before .before .args .p) (o .result) (value128 (c .before .before .before .before .norm-of .result)) (value128 (c .before .times-128 .result)) (c .at-most2 .result) (o .ensures)
+    check-21-is (c .before .before .before .before .before .before .before .args .transcript .now) (c .before .before .before .before .before .before .before .args .params)
+    (o .result) (value128 (c .before .before .before .before .norm-of .result)) (value128 (c .before .times-128 .result)) (c .at-most2 .result) (o .ensures)
     (received-room w 1 (o .result) (omega arith) (o .ensures))
     (c .before .before .before .before .norm-of .ensures .0)
     (c .before .times-128 .ensures)

@@ -1,7 +1,7 @@
 -- `times_128` meets its contract.
 use native.Mathlib.Omega.{arith}
 use borrow.Author.Needs.{needs}
-use Rattle.definitions.specs.Answer.{value128}
+use Rattle.spec_leaves.specs.Answer.{value128}
 use Rattle.verifier_norms.proofs.numbers.times_128.Statement.{statement}
 use Rattle.verifier_norms.proofs.numbers.times_128.Tie as tie
 

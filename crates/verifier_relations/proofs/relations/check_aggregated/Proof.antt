@@ -1,8 +1,8 @@
 -- `check_aggregated` meets its contract.
 use native.Mathlib.Omega.{arith}
 use borrow.Author.Needs.{needs}
-use Rattle.workspace.proofs.Kept.{kept-trans}
-use Rattle.workspace.proofs.Ready.{drawn-fewer}
+use Rattle.core_workspace.proofs.Unchanged.{unchanged-trans}
+use Rattle.core_workspace.proofs.Ready.{drawn-fewer}
 use Rattle.verifier_relations.proofs.Scratch.{Summed, double-made, φ″-made, summed}
 use Rattle.verifier_relations.proofs.relations.check_aggregated.Statement.{statement}
 use Rattle.verifier_relations.proofs.relations.check_aggregated.Tie as tie
@@ -17,19 +17,19 @@ phi-requires c κs =
     let s = c .before .before .before .before .before .before .before .before .before in
     let a = s .args in
     let e = c .before .before .before .double-prime .ensures in (
-      double-made (a .job .now) (a .randomness .now) (a .p) (a .q) (a .scratch .now) (s .pre .1) _ e .ready,
+      double-made (a .job .now) (a .randomness .now) (a .params) (a .regions) (a .scratch .now) (s .pre .1) _ e .ready,
       drawn-fewer 7 5 (a .job .now) (a .randomness .now) (omega arith) (s .pre .0 .drawn),
-      φ″-made (a .job .now) (a .randomness .now) (a .p) (a .q) (a .scratch .now) (s .pre .1) _ e,
+      φ″-made (a .job .now) (a .randomness .now) (a .params) (a .regions) (a .scratch .now) (s .pre .1) _ e,
     )
 
 -- φ'', a'' and φ are in the scratch
 made : (c : tie.After-phi)
     → let s = c .before .before .before .before .before .before .before .before .before .before .args in
-    Summed (s .job .now) (s .randomness .now) (s .p) (s .q) (s .scratch .now) (c .phi .last .1 .1 .1 .1 .0)
+    Summed (s .job .now) (s .randomness .now) (s .params) (s .regions) (s .scratch .now) (c .phi .last .1 .1 .1 .1 .0)
 made c =
     let s = c .before .before .before .before .before .before .before .before .before .before in
     let a = s .args in
-    summed (a .job .now) (a .randomness .now) (a .p) (a .q) (a .scratch .now) _ _ (s .pre .1) (c .before .before .before .before .double-prime .ensures) (c .phi .ensures) (s .pre .2)
+    summed (a .job .now) (a .randomness .now) (a .params) (a .regions) (a .scratch .now) _ _ (s .pre .1) (c .before .before .before .before .double-prime .ensures) (c .phi .ensures) (s .pre .2)
 
 check-phi-and-relation-requires : tie.Need-check-phi-and-relation-requires
 check-phi-and-relation-requires c κs =
@@ -39,7 +39,7 @@ check-phi-and-relation-requires c κs =
 returns : tie.Need-returns
 returns c =
     let e = c .before .before .check-phi-and-relation .ensures in
-    (e .0, kept-trans _ _ _ _ (made (c .before .before .before .before .before .before) .kept) (e .1))
+    (e .0, unchanged-trans _ _ _ _ (made (c .before .before .before .before .before .before) .unchanged) (e .1))
 
 pub check-aggregated-spec : {M : Type 1} → statement M
 check-aggregated-spec =

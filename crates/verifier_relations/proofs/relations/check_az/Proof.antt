@@ -5,9 +5,9 @@ use mathlib.Core.List.{[]}
 use Prim.Native.Nat.{_+_, _-_, _*_, _≤_, _^_}
 use native.Mathlib.Omega.{arith}
 use borrow.Author.Tests.{not-true, not-false}
-use Rattle.definitions.specs.Answer.{fine, failed}
-use Rattle.protocol.specs.Checks.{first}
-use Rattle.protocol.proofs.First.{first-next}
+use Rattle.spec_leaves.specs.Answer.{fine, failed}
+use Rattle.spec_protocol.specs.Checks.{first}
+use Rattle.spec_protocol.proofs.First.{first-next}
 use Rattle.verifier_common.proofs.Sent.{reckoned}
 use Rattle.verifier_relations.specs.Weighed.{challenges-in}
 use Rattle.verifier_relations.proofs.Sides.{az-test, row-bounds, row-requires, column-requires, az-tested, az-fails, az-passes}
@@ -16,10 +16,10 @@ use Rattle.verifier_relations.proofs.relations.check_az.Statement.{stat
 use Rattle.verifier_relations.proofs.relations.check_az.Tie as tie
 
 abbrev Inv-loop : tie.InvT-loop
-Inv-loop job transcript p q scratch a-at z-at t-at n kappa k₀ k = (k ≤ kappa) × (first k (az-test job transcript (challenges-in scratch q)) ≡ fine)
+Inv-loop job transcript params regions scratch a-at z-at t-at n kappa k₀ k = (k ≤ kappa) × (first k (az-test job transcript (challenges-in scratch regions)) ≡ fine)
 
 abbrev μ-loop : tie.MeasureT-loop
-μ-loop job transcript p q scratch a-at z-at t-at n kappa k₀ k = kappa - k
+μ-loop job transcript params regions scratch a-at z-at t-at n kappa k₀ k = kappa - k
 
 of-job-requires : tie.Need-of-job-requires Inv-loop μ-loop
 of-job-requires c κs = (reckoned (c .before .before .before .pre .0), omega arith)
@@ -37,7 +37,7 @@ loop-holds c = (omega arith, refl)
 -- the places of row k are small
 bounds : (c : tie.In-loop Inv-loop μ-loop)
     → let s = c .before .before .before .before .before .before .before .before .args in
-    (c .before .loop .k * s .p .rank ≤ 1024) × (c .before .before .before .before .of-job .result + 64 * (c .before .loop .k * s .p .rank) ≤ 2 ^ 62)
+    (c .before .loop .k * s .params .rank ≤ 1024) × (c .before .before .before .before .of-job .result + 64 * (c .before .loop .k * s .params .rank) ≤ 2 ^ 62)
 bounds c =
     let s = c .before .before .before .before .before .before .before .before in
     row-bounds _ _ _ _ _ (s .pre .0) (s .pre .1) _ _ (omega arith) (c .before .before .before .before .of-job .ensures) (c .loop-test .taken)
@@ -54,7 +54,8 @@ add-row c = omega (arith, bounds c .1)
 inner-product-requires : tie.Need-inner-product-requires Inv-loop μ-loop
 inner-product-requires c κs =
     let s = c .before .before .before .before .before .before .before .before in
-    row-requires _ _ _ _ _ (s .pre .0) (s .pre .1) _ _ _ (omega arith) (omega arith) (c .before .before .before .before .of-job .ensures) (c .before .before .before .of-transcript .ensures) (c .loop-test .taken)
+    row-requires _ _ _ _ _ (s .pre .0) (s .pre .1) _ _ _ (omega arith) (omega arith) (c .before .before .before .before .of-job .ensures)
+    (c .before .before .before .of-transcript .ensures) (c .loop-test .taken)
 
 column-sum-requires : tie.Need-column-sum-requires Inv-loop μ-loop
 column-sum-requires c κs =
@@ -64,11 +65,11 @@ column-sum-requires c κs =
 -- the test of row k
 tested : (c : tie.After-same Inv-loop μ-loop)
     → let s = c .before .before .before .before .before .before .before .before .before .before .before .args in
-    az-test (s .job .now) (s .transcript .now) (challenges-in (s .scratch .now) (s .q)) (c .before .before .before .before .loop .k) ≡ cond (c .same .result) fine (failed 24 [])
+    az-test (s .job .now) (s .transcript .now) (challenges-in (s .scratch .now) (s .regions)) (c .before .before .before .before .loop .k) ≡ cond (c .same .result) fine (failed 24 [])
 tested c =
     let l = c .before .before .before .before in
     let s = l .before .before .before .before .before .before .before in
-    az-tested (s .args .job .now) (s .args .transcript .now) (s .args .p) (s .args .q) (s .args .scratch .now) (s .pre .0) (s .pre .1) _ _ _ (l .loop .k) _ _ (c .same .result)
+    az-tested (s .args .job .now) (s .args .transcript .now) (s .args .params) (s .args .regions) (s .args .scratch .now) (s .pre .0) (s .pre .1) _ _ _ (l .loop .k) _ _ (c .same .result)
     (l .before .before .before .of-job .ensures) (l .before .before .of-transcript .ensures) (l .before .of-transcript2 .ensures)
     (c .before .before .inner-product .ensures) (c .before .column-sum .ensures) (c .same .ensures)
 
@@ -80,21 +81,26 @@ add-k c =
 loop-again : tie.Need-loop-again Inv-loop μ-loop
 loop-again c =
     let l = c .before .before .before .before .before in
-    let s = l .before .before .before .before .before .before .before .args in
-    (omega arith, first-next (l .loop .k) (az-test (s .job .now) (s .transcript .now) (challenges-in (s .scratch .now) (s .q))) (l .loop .inv .1) (tested (c .before) ∙ ap (λ t. cond t fine (failed 24 [])) (not-false (c .before .same .result) (c .if1 .left))))
+    let s = l .before .before .before .before .before .before .before .args in (
+      omega arith,
+      first-next (l .loop .k) (az-test (s .job .now) (s .transcript .now) (challenges-in (s .scratch .now) (s .regions))) (l .loop .inv .1)
+          (tested (c .before) ∙ ap (λ t. cond t fine (failed 24 [])) (not-false (c .before .same .result) (c .if1 .left))),
+    )
 
 returns : tie.Need-returns Inv-loop μ-loop
 returns c =
     let l = c .before .before .before .before .before in
     let s = l .before .before .before .before .before .before .before in
-    az-fails (s .args .job .now) (s .args .transcript .now) (s .args .p) (s .args .q) (s .args .scratch .now) (s .pre .0) (s .pre .1) (challenges-in (s .args .scratch .now) (s .args .q)) (l .loop .k) (c .before .before .before .before .loop-test .taken) (l .loop .inv .1)
+    az-fails (s .args .job .now) (s .args .transcript .now) (s .args .params) (s .args .regions) (s .args .scratch .now) (s .pre .0) (s .pre .1)
+    (challenges-in (s .args .scratch .now) (s .args .regions)) (l .loop .k) (c .before .before .before .before .loop-test .taken) (l .loop .inv .1)
     (tested (c .before) ∙ ap (λ t. cond t fine (failed 24 [])) (not-true (c .before .same .result) (c .if1 .taken)))
 
 returns-2 : tie.Need-returns-2 Inv-loop μ-loop
 returns-2 c =
     let l = c .before in
     let s = l .before .before .before .before .before .before .before in
-    az-passes (s .args .job .now) (s .args .transcript .now) (s .args .p) (s .args .q) (s .args .scratch .now) (s .pre .0) (s .pre .1) (challenges-in (s .args .scratch .now) (s .args .q)) (l .loop .k) (omega arith) (l .loop .inv .1)
+    az-passes (s .args .job .now) (s .args .transcript .now) (s .args .params) (s .args .regions) (s .args .scratch .now) (s .pre .0) (s .pre .1)
+    (challenges-in (s .args .scratch .now) (s .args .regions)) (l .loop .k) (omega arith) (l .loop .inv .1)
 
 pub check-az-spec : {M : Type 1} → statement M
 check-az-spec =

@@ -3,8 +3,8 @@ use mathlib.Core.Path.{_≡_, ap, sym, _∙_}
 use mathlib.Core.Bool.{cond}
 use mathlib.Core.List.{[]}
 use native.Mathlib.Omega.{arith}
-use Rattle.definitions.specs.Answer.{fine, failed}
-use Rattle.relation.specs.Parameters.{parametersOf}
+use Rattle.spec_leaves.specs.Answer.{fine, failed}
+use Rattle.relation_env_params.specs.Parameters.{parametersOf}
 use Rattle.verifier_common.proofs.Sent.{h-within}
 use Rattle.verifier_relations.specs.Weighed.{challenges-in, lines-in, phi-of}
 use Rattle.verifier_relations.proofs.Sides.{lines-requires, weighted-requires, phi-answer}
@@ -21,20 +21,22 @@ of-transcript-requires-2 c κs = (c .before .before .before .pre .0 .sized, omeg
 sum-of-lines-requires : tie.Need-sum-of-lines-requires
 sum-of-lines-requires c κs =
     let s = c .before .before .before .before in
-    lines-requires (s .args .transcript .now) (s .args .p) (s .args .q) (s .args .scratch .now) (s .pre .0) _ (s .pre .1) (s .pre .2) (c .before .of-transcript .ensures)
+    lines-requires (s .args .transcript .now) (s .args .params) (s .args .regions) (s .args .scratch .now) (s .pre .0) _ (s .pre .1) (s .pre .2) (c .before .of-transcript .ensures)
 
 sum-of-weighted-requires : tie.Need-sum-of-weighted-requires
 sum-of-weighted-requires c κs =
     let s = c .before .before .before .before .before in
-    weighted-requires (s .args .transcript .now) (s .args .p) (s .args .q) (s .args .scratch .now) (s .pre .0) _ (s .pre .1) (h-within _ _ (s .pre .0) _ (c .before .of-transcript2 .ensures))
+    weighted-requires (s .args .transcript .now) (s .args .params) (s .args .regions) (s .args .scratch .now) (s .pre .0) _ (s .pre .1)
+    (h-within _ _ (s .pre .0) _ (c .before .of-transcript2 .ensures))
 
 -- the check by the boolean's value
 answer : (c : tie.After-same)
     → let s = c .before .before .before .before .before .before .before .before .args in
-    cond (c .same .result) fine (failed 26 []) ≡ phi-of (parametersOf (s .p)) (s .transcript .now) (challenges-in (s .scratch .now) (s .q)) (lines-in (parametersOf (s .p)) (s .scratch .now) (s .q))
+    cond (c .same .result) fine (failed 26 []) ≡ phi-of (parametersOf (s .params)) (s .transcript .now) (challenges-in (s .scratch .now) (s .regions))
+    (lines-in (parametersOf (s .params)) (s .scratch .now) (s .regions))
 answer c =
     let s = c .before .before .before .before .before .before .before .before in
-    phi-answer (s .args .transcript .now) (s .args .p) (s .args .q) (s .args .scratch .now) (s .pre .0) _ _ _ _ _ (c .same .result)
+    phi-answer (s .args .transcript .now) (s .args .params) (s .args .regions) (s .args .scratch .now) (s .pre .0) _ _ _ _ _ (c .same .result)
     (c .before .before .before .before .before .of-transcript .ensures) (c .before .before .before .before .of-transcript2 .ensures)
     (c .before .before .before .sum-of-lines .ensures) (c .before .before .sum-of-weighted .ensures) (c .before .add .ensures) (c .same .ensures)
 

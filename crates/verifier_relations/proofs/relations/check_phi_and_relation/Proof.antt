@@ -2,10 +2,10 @@
 use mathlib.Core.Path.{_≡_, _∙_}
 use native.Mathlib.Omega.{arith}
 use borrow.Author.Needs.{needs}
-use Rattle.workspace.specs.Aggregated.{a-words}
-use Rattle.workspace.proofs.Kept.{kept-refl}
-use Rattle.workspace.proofs.Ready.{drawn-fewer}
-use Rattle.definitions.specs.Answer.{ofChecked}
+use Rattle.core_workspace.specs.Aggregated.{a-words}
+use Rattle.core_workspace.proofs.Unchanged.{unchanged-refl}
+use Rattle.core_workspace.proofs.Ready.{drawn-fewer}
+use Rattle.spec_leaves.specs.Answer.{ofChecked}
 use Rattle.verifier_common.specs.Answers.{phi, relation}
 use Rattle.verifier_common.proofs.Sent.{received}
 use Rattle.verifier_common.proofs.Verdicts.{goes-on, stops}
@@ -20,8 +20,8 @@ check-phi-requires c κs =
     let a = s .args in
     let w = s .pre .0 .0 .posed in (
       received w,
-      c-within (a .job .now) (a .transcript .now) (a .p) (a .q) _ w (s .pre .0 .1),
-      φ-within (a .job .now) (a .transcript .now) (a .p) (a .q) _ w (s .pre .0 .1),
+      c-within (a .job .now) (a .transcript .now) (a .params) (a .regions) _ w (s .pre .0 .1),
+      φ-within (a .job .now) (a .transcript .now) (a .params) (a .regions) _ w (s .pre .0 .1),
     )
 
 -- 26 of the challenges and the lines in the scratch is that of the randomness
@@ -29,7 +29,7 @@ phi-is : (c : tie.After-check-phi) → let s = c .before .before .before .before
 phi-is c =
     let s = c .before .before .before .before .before .before in
     let a = s .args in
-    c .check-phi .ensures ∙ phi-held (a .job .now) (a .randomness .now) (a .transcript .now) (a .p) (a .q) _ (s .pre .0 .1 .same) (s .pre .0 .2) (s .pre .1 .0)
+    c .check-phi .ensures ∙ phi-held (a .job .now) (a .randomness .now) (a .transcript .now) (a .params) (a .regions) _ (s .pre .0 .1 .same) (s .pre .0 .2) (s .pre .1 .0)
 
 a-requires : tie.Need-a-requires
 a-requires c κs =
@@ -39,22 +39,23 @@ a-requires c κs =
 -- a is in the scratch
 whole : (c : tie.After-a)
     → let s = c .before .before .before .before .before .before .before .before .before .before .args in
-    Made (s .job .now) (s .p) (s .q) (s .scratch .now) (c .a .last .1 .1 .1 .1 .0) (s .q .a) (a-words (s .job .now) (s .randomness .now))
+    Made (s .job .now) (s .params) (s .regions) (s .scratch .now) (c .a .last .1 .1 .1 .1 .0) (s .regions .«a_or_h») (a-words (s .job .now) (s .randomness .now))
 whole c =
     let s = c .before .before .before .before .before .before .before .before .before .before in
-    a-made (s .args .job .now) (s .args .randomness .now) (s .args .p) (s .args .q) (s .args .scratch .now) (s .pre .0 .1) _ (c .a .ensures)
+    a-made (s .args .job .now) (s .args .randomness .now) (s .args .params) (s .args .regions) (s .args .scratch .now) (s .pre .0 .1) _ (c .a .ensures)
 
 returns : tie.Need-returns
 returns c =
     let s = c .before .before .before .before .before .before .before .args in
-    (stops (c .before .check-phi .result) (phi-is (c .before)) (c .match .keys2) (relation (s .job .now) (s .randomness .now) (s .transcript .now)), kept-refl _ _)
+    (stops (c .before .check-phi .result) (phi-is (c .before)) (c .match .keys2) (relation (s .job .now) (s .randomness .now) (s .transcript .now)), unchanged-refl _ _)
 
 returns-2 : tie.Need-returns-2
 returns-2 c =
     let k = c .before .before .before .before .before .before .before .before in
     let s = c .before .before .before .before .before .before .before .before .before .before .before .before .before .before .args in (
-      c .check-relation .ensures ∙ goes-on (k .check-phi .result) (phi-is k) (c .before .before .before .before .before .before .enum-told .given .1) (relation (s .job .now) (s .randomness .now) (s .transcript .now)),
-      whole (c .before .before .before .before) .kept,
+      c .check-relation .ensures ∙ goes-on (k .check-phi .result) (phi-is k) (c .before .before .before .before .before .before .enum-told .given .1)
+          (relation (s .job .now) (s .randomness .now) (s .transcript .now)),
+      whole (c .before .before .before .before) .unchanged,
     )
 
 pub check-phi-and-relation-spec : {M : Type 1} → statement M
@@ -66,6 +67,7 @@ check-phi-and-relation-spec =
     (λ c. search needs)
     returns
     a-requires
-    (λ c κs. let g = c .before .before .before in (c .before .before .before .before .before .before .before .before .before .before .before .before .before .pre .0 .0, whole g .ready, whole g .holds))
+    (λ c κs. let g = c .before .before .before in
+    (c .before .before .before .before .before .before .before .before .before .before .before .before .before .pre .0 .0, whole g .ready, whole g .holds))
     (λ c. search needs)
     returns-2)

@@ -1,10 +1,10 @@
 -- `check_relations` meets its contract.
 use mathlib.Core.Path.{_∙_}
 use borrow.Author.Needs.{needs}
-use Rattle.protocol.specs.Parameters.{parameters}
-use Rattle.protocol.specs.Layout.{scratch-need}
-use Rattle.workspace.proofs.Kept.{kept-trans}
-use Rattle.workspace.proofs.Ready.{ready-changed}
+use Rattle.spec_protocol.specs.Parameters.{parameters}
+use Rattle.spec_protocol.specs.Layout.{scratch-need}
+use Rattle.core_workspace.proofs.Unchanged.{unchanged-trans}
+use Rattle.core_workspace.proofs.Ready.{ready-changed}
 use Rattle.verifier_relations.specs.Order.{aggregated}
 use Rattle.verifier_common.proofs.Verdicts.{goes-on, stops}
 use Rattle.verifier_relations.proofs.relations.check_relations.Statement.{statement}
@@ -29,7 +29,8 @@ returns-2 c =
     let s = o .before .before .before .before .before .before .args in
     let after = aggregated (s .job .now) (s .randomness .now) (s .transcript .now) in (
       a .check-aggregated .ensures .0 ∙ goes-on (o .check-openings .result) (o .check-openings .ensures .0) (a .before .before .enum-told .given .1) after,
-      kept-trans (scratch-need (parameters (s .job .now))) (s .scratch .now) (o .check-openings .last .1 .1 .1 .1 .1 .0) (a .check-aggregated .last .1 .1 .1 .1 .1 .0) (o .check-openings .ensures .1 .0) (a .check-aggregated .ensures .1),
+      unchanged-trans (scratch-need (parameters (s .job .now))) (s .scratch .now) (o .check-openings .last .1 .1 .1 .1 .1 .0) (a .check-aggregated .last .1 .1 .1 .1 .1 .0)
+          (o .check-openings .ensures .1 .0) (a .check-aggregated .ensures .1),
     )
 
 pub check-relations-spec : {M : Type 1} → statement M

@@ -1,4 +1,0 @@
-pub mod Stages
-pub mod Found
-pub mod Ready
-pub mod Fit

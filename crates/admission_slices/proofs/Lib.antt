@@ -1,0 +1,5 @@
+pub mod Stages
+pub mod Found
+pub mod Ready
+pub mod Fit
+mod Lengths

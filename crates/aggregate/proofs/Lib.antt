@@ -1,4 +1,0 @@
-pub mod Grid
-pub mod Sums
-pub mod Laws
-pub mod Formed

@@ -1,0 +1,3 @@
+pub mod SpreadLaws
+pub mod ColumnLaws
+pub mod NttColumns

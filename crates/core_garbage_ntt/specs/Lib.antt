@@ -1,0 +1,2 @@
+pub mod NttGarbage
+pub mod NttLines

@@ -1,0 +1,4 @@
+mod Terms
+mod Blocks
+pub mod Spread
+pub mod Groups

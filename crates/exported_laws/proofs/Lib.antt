@@ -1,4 +1,0 @@
-pub mod Demand3
-pub mod Binding
-pub mod Load
-pub mod Ranges

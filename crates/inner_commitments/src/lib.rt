@@ -1,2 +1,0 @@
-// The inner commitments t (commitments/ajtai_commitment.rs).
-pub mod ajtai_commitment;

@@ -1,2 +1,0 @@
-mod Terms
-mod Blocks

@@ -1,3 +1,0 @@
-pub mod SpreadLaws
-pub mod ColumnLaws
-pub mod KeptColumns

@@ -1,3 +1,0 @@
-pub mod Stored
-pub mod Sums
-pub mod Laws

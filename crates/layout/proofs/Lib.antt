@@ -1,5 +1,0 @@
-mod Walk
-mod Search
-pub mod Then
-pub mod Spans
-pub mod Laid

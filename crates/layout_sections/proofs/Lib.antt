@@ -1,0 +1,4 @@
+mod Walk
+mod Search
+pub mod Then
+pub mod Spans

@@ -1,0 +1,3 @@
+mod Products
+pub mod Tables
+pub mod Sized

@@ -1,4 +1,0 @@
-pub mod Result
-mod Owned
-pub mod Rows
-pub mod Determined

@@ -1,4 +1,0 @@
-pub mod Small
-pub mod Parsing
-pub mod Laws
-pub mod Example

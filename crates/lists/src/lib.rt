@@ -1,1 +1,0 @@
-// Lists as functions of an index: definitions in specs/, their laws in proofs/. No code.

@@ -1,2 +1,0 @@
-pub mod Plus
-pub mod Step

@@ -1,5 +1,0 @@
-pub mod Need
-mod Refused
-pub mod Found
-pub mod Verdicts
-pub mod Passing

@@ -1,2 +1,0 @@
-mod Places
-pub mod Cut

@@ -1,0 +1,10 @@
+pub mod Table
+pub mod Padded
+pub mod Sum
+pub mod Part
+pub mod Splice
+pub mod Cat
+pub mod Rows
+pub mod Prefix
+pub mod Additive
+pub mod Fill

@@ -1,0 +1,5 @@
+pub mod Division
+pub mod Class
+pub mod Taken
+pub mod Inserted
+pub mod Words

@@ -1,0 +1,3 @@
+pub mod Congruence
+pub mod Rows
+pub mod Insert

@@ -1,2 +1,0 @@
-// Squared norms against their bounds: numbers of two words.
-pub mod bound;

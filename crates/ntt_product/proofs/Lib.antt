@@ -1,0 +1,3 @@
+pub mod CrtLaws
+pub mod Residue
+pub mod Inner

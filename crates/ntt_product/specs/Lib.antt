@@ -1,0 +1,2 @@
+pub mod Crt
+pub mod NttForm

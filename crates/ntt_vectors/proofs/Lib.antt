@@ -1,0 +1,4 @@
+pub mod Stored
+pub mod ValueSums
+pub mod Laws
+pub mod SumsLaws

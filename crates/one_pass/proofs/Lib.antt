@@ -1,3 +1,0 @@
-pub mod Forms
-pub mod Vectors
-pub mod Made

@@ -1,2 +1,0 @@
-// The search for the first bad word of operands.
-pub mod scan;

@@ -1,2 +1,0 @@
-// What a leaf call finds of its operands.
-pub mod leaf;

@@ -1,0 +1,5 @@
+pub mod Ends
+pub mod Picked
+pub mod Choices
+pub mod Tests
+pub mod Worked

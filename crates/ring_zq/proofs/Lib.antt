@@ -1,0 +1,4 @@
+mod Signed
+pub mod Words
+pub mod Part
+mod Order

@@ -1,9 +1,0 @@
--- A digit from the value, whose sign it takes, and the size that it is taken from.
-use mathlib.Core.Bool.{xor}
-use Prim.Native.Nat.{ℕ}
-use Rattle.definitions.specs.Zq.{isLargerThanHalf}
-use Rattle.definitions.specs.Digits.{signed, remBelow, remSize}
-
--- the digit of a size in base b, with the sign of the value a
-unfoldable pub digitOf : ℕ → ℕ → ℕ → ℕ
-digitOf b a s = signed (xor (isLargerThanHalf a) (remBelow b s)) (remSize b s)

@@ -1,3 +1,0 @@
-mod Products
-mod Tables
-pub mod Sized

@@ -1,4 +1,0 @@
-// What the parameters fix: the sections of each slice, where each starts, and the lengths that the buffers need.
-pub mod buffers;
-pub mod offsets;
-pub mod slices;

@@ -1,0 +1,16 @@
+pub mod Checks
+pub mod Parameters
+pub mod Layout
+pub mod Views
+pub mod Region
+pub mod Formulas
+pub mod Prover
+pub mod Verifier
+pub mod Conditions
+pub mod CellsBack
+pub mod Unchanged
+pub mod Ranges
+pub mod Load
+pub mod Mistyped
+pub mod Many
+pub mod Laid

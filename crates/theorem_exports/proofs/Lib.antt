@@ -1,0 +1,9 @@
+pub mod Demand3
+pub mod Binding
+pub mod Forks
+pub mod Load
+pub mod Ranges
+pub mod ManyOpenings
+pub mod ManyForks
+pub mod Zero
+pub mod WholeOfRuns

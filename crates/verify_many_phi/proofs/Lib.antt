@@ -1,0 +1,4 @@
+pub mod Stores
+pub mod Shares
+pub mod Parts
+mod Sums

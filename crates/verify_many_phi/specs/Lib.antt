@@ -1,0 +1,3 @@
+pub mod Alpha
+pub mod AlphaPart
+pub mod Beta

@@ -1,0 +1,2 @@
+pub mod ARowLaws
+pub mod Windows

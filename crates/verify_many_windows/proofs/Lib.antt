@@ -1,0 +1,5 @@
+pub mod DigitLaws
+pub mod Products
+pub mod WindowDigits
+pub mod Progress
+pub mod WindowLaws

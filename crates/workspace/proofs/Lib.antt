@@ -1,5 +1,0 @@
-pub mod Kept
-pub mod Holds
-pub mod Aggregated
-pub mod Ready
-pub mod Steps

@@ -1,0 +1,5 @@
+pub mod Text
+pub mod Line
+pub mod Reading
+pub mod Written
+pub mod Output
