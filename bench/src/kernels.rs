@@ -259,7 +259,7 @@ fn worst(b: u32) -> Parameters {
 }
 
 /// The same with parameters of any kind.
-fn with(random: &mut Random, call: Call, p: Parameters) -> Kernel {
+pub fn with(random: &mut Random, call: Call, p: Parameters) -> Kernel {
     let instance = loads::instance(p, random.word());
     let (job, randomness) = (instance.job_words(), instance.randomness_words());
     let rust_job = rust::Job::new(&job);
@@ -333,12 +333,16 @@ pub const KERNELS: &[Entry] = &[
     ("verify, n 16, r 4", |random| whole(random, Call::Verify, 16, 4)),
     ("prove, n 64, r 16", |random| whole(random, Call::Prove, 64, 16)),
     ("verify, n 64, r 16", |random| whole(random, Call::Verify, 64, 16)),
+    ("prove, n 64, r 16, K = l = 64", |random| with(random, Call::Prove, Parameters { ring: 64, constant: 64, ..parameters(64, 16) })),
+    ("verify, n 64, r 16, K = l = 64", |random| with(random, Call::Verify, Parameters { ring: 64, constant: 64, ..parameters(64, 16) })),
     ("prove, n 1, r 16, base 65538, 32 parts, κ1 and κ2 1", |random| with(random, Call::Prove, worst(65538))),
     ("verify, n 1, r 16, base 65538, 32 parts, κ1 and κ2 1", |random| with(random, Call::Verify, worst(65538))),
     ("prove, n 1, r 16, base 3, 32 parts, κ1 and κ2 1", |random| with(random, Call::Prove, worst(3))),
     ("verify, n 1, r 16, base 3, 32 parts, κ1 and κ2 1", |random| with(random, Call::Verify, worst(3))),
     ("prove, n 16, r 4, L 7, against our prove with L 8", |_| steps::aggregations(Call::Prove, 7, 8)),
     ("verify, n 16, r 4, L 7, against our verify with L 8", |_| steps::aggregations(Call::Verify, 7, 8)),
+    ("prove, n 16, r 4, L 9, against our prove with L 8", |_| steps::aggregations(Call::Prove, 9, 8)),
+    ("verify, n 16, r 4, L 9, against our verify with L 8", |_| steps::aggregations(Call::Verify, 9, 8)),
     ("prove, n 16, r 4, L 31, against our prove with L 32", |_| steps::aggregations(Call::Prove, 31, 32)),
     ("verify, n 16, r 4, L 31, against our verify with L 32", |_| steps::aggregations(Call::Verify, 31, 32)),
     ("prove, n 16, r 4, K + L 65, against our prove with K + L 64", |_| steps::constraints(Call::Prove, 61, 60)),

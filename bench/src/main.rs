@@ -1,12 +1,13 @@
 //! Times the proved calls against the published Rust, in one process, alternating, counts their instructions, and prints a table.
 //!
 //! `bench` takes every kernel, `bench only START` those whose names start so.
-//! `bench count KERNEL SIDE` runs a series of one side of a kernel, for callgrind.
+//! `bench count KERNEL SIDE` runs a series of one side of a kernel, for callgrind. `bench point NAME=VALUE...` times prove and verify at other parameters.
 
 mod fast;
 mod kernels;
 mod loads;
 mod many;
+mod points;
 #[cfg(prime)]
 mod prime;
 mod steps;
@@ -19,6 +20,7 @@ fn main() {
         [] => table::print(""),
         ["only", start] => table::print(start),
         ["count", kernel, side] => table::run_series(kernel, side),
-        _ => panic!("usage: bench [only START | count KERNEL SIDE]"),
+        ["point", ref values @ ..] => points::print(values),
+        _ => panic!("usage: bench [only START | count KERNEL SIDE | point NAME=VALUE...]"),
     }
 }

@@ -6,7 +6,7 @@ use std::process::Command;
 use std::time::Instant;
 
 /// The least time of a call in nanoseconds: ours and the Rust's, series after series in turn.
-fn time(kernel: &mut Kernel) -> (f64, f64) {
+pub fn time(kernel: &mut Kernel) -> (f64, f64) {
     let mut least = (f64::MAX, f64::MAX);
     let calls = kernel.calls as f64;
     for _ in 0..kernel.rounds {
@@ -80,10 +80,10 @@ pub fn print(start: &str) {
     println!("|---|---:|---:|---:|---:|---:|---:|");
     for (k, ((name, _), ((ours, theirs), calls, rounds))) in rows.iter().zip(&timed).enumerate() {
         eprintln!("[{}/{}] instructions: {name}", k + 1, rows.len());
-        print!("| {name} | {ours:.0} | {theirs:.0} | {:.2} |", ours / theirs);
+        print!("| {name} | {ours:.0} | {theirs:.0} | {:.3} |", ours / theirs);
         // a call that is timed a few times only takes too long under callgrind
         match (*rounds > 20).then(|| counted(name, *calls as f64)) {
-            Some((ours, theirs)) => println!(" {ours:.0} | {theirs:.0} | {:.2} |", ours / theirs),
+            Some((ours, theirs)) => println!(" {ours:.0} | {theirs:.0} | {:.3} |", ours / theirs),
             None => println!(" not counted | not counted | |"),
         }
     }
