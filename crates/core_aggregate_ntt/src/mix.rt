@@ -150,7 +150,7 @@ pub fn aggregate_ntt(
     ensures { λ _. ⌜ now (scratch .exit) ≡ splice (now (scratch .entry)) to (mixed-words (now (job .entry)) constraints (now (weights .entry)) alpha beta (now (scratch .entry)) aggregated width) ⌝ }
 {
     let w = table::twiddles();
-    let mut transformed = [0u32; 12288];
+    let mut transformed = [0u32; 18432];
     weights_to_ntt_form(
         weights,
         alpha,
@@ -172,7 +172,7 @@ pub fn aggregate_ntt(
     );
 }
 
-// From four terms and eight elements on the transforms cost less than plain products. There is room for 64 weights.
+// From four terms and eight elements on the transforms cost less than plain products. There is room for 96 weights.
 pub fn ntt_is_faster(width: usize, alphas: usize, betas: usize) -> bool
     requires { ⌜ (alphas ≤ 2 ^ 18) × (betas ≤ 2 ^ 18) ⌝ }
     ensures { λ r. ⌜ r ≡ ntt-faster width alphas betas ⌝ }
@@ -184,7 +184,7 @@ pub fn ntt_is_faster(width: usize, alphas: usize, betas: usize) -> bool
         false
     } else if terms < 4 {
         false
-    } else if terms > 64 {
+    } else if terms > 96 {
         false
     } else {
         8 <= width

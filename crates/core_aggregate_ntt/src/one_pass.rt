@@ -36,7 +36,7 @@ pub fn mix_vector(
     ensures { λ _. ⌜ now (totals .exit) ≡ with-lines (now (totals .entry)) (now (scratch .entry)) aggregated (now (witness .entry)) «s_at» n ⌝ }
 {
     let count = aggregated.count;
-    let mut forms = [0u64; 1536];
+    let mut forms = [0u64; 6144];
     let mut m = 0;
     while m < n {
         let constraint = Strided {
@@ -157,7 +157,7 @@ pub fn phi_and_b_ntt(
     witness: &[u32],
     s: usize,
 )
-    requires { ⌜ Passable (now job) constraints (now weights) alpha beta (now scratch) regions count r n (now witness) s × Weights (constraints .count) count × (count ≤ 8) ⌝ }
+    requires { ⌜ Passable (now job) constraints (now weights) alpha beta (now scratch) regions count r n (now witness) s × Weights (constraints .count) count × (count ≤ 32) ⌝ }
     ensures { λ _. ⌜ now (scratch .exit) ≡ with-φ-and-b″ (now (job .entry)) constraints (now (weights .entry)) alpha beta (now (scratch .entry)) regions count r n (now (witness .entry)) s ⌝ }
 {
     let width = r * n;
@@ -168,7 +168,7 @@ pub fn phi_and_b_ntt(
         count,
     };
     let w = table::twiddles();
-    let mut transformed = [0u32; 12288];
+    let mut transformed = [0u32; 18432];
     mix::weights_to_ntt_form(
         weights,
         alpha,
@@ -178,7 +178,7 @@ pub fn phi_and_b_ntt(
         &w,
         &mut transformed,
     );
-    let mut totals = [0u32; 512];
+    let mut totals = [0u32; 2048];
     mix_vectors(
         job,
         constraints,
@@ -204,12 +204,12 @@ pub fn phi_and_b_ntt(
     );
 }
 
-// The one pass is chosen where weights in NTT form are, of up to eight k.
+// The one pass is chosen where weights in NTT form are, of up to 32 k.
 pub fn one_pass_is_faster(width: usize, alphas: usize, betas: usize) -> bool
     requires { ⌜ (alphas ≤ 2 ^ 18) × (betas ≤ 2 ^ 18) ⌝ }
     ensures { λ r. ⌜ r ≡ one-pass-faster width alphas betas ⌝ }
 {
-    if betas > 8 {
+    if betas > 32 {
         false
     } else {
         mix::ntt_is_faster(width, alphas, betas)

@@ -162,5 +162,5 @@ module _ (x : List ℕ) (x-at : ℕ) (xs : List ℕ) (xs-at : ℕ) (y : List ℕ
       (ap₂ (λ s t. inverseNttOf s t (value-sums x (x-at + 128) y (y-at + 128) n)) (sums-are 0 x-at y-at (omega arith) (omega arith) (omega arith))
       (sums-are 1 (x-at + 64) (y-at + 64) (omega arith) (omega arith) (omega arith))
       ∙ ap (inverseNttOf (sumsOf 0 n a b) (sumsOf 1 n a b)) (sums-are 2 (x-at + 128) (y-at + 128) (omega arith) (omega arith) (omega arith))
-      ∙ inverse-words n few a b (kx .small) (ky .small))
+      ∙ inverse-words n (omega arith) a b (kx .small) (ky .small))
       ∙ element-words (dot RqOps n (run xs xs-at 64) (run ys ys-at 64))

@@ -23,7 +23,7 @@ Inv-loop job constraints scratch₀ aggregated to weights witness s-at n w total
     (m ≤ n)
     × (scratch ≡ splice scratch₀ to (flat (table m (column-mixed job constraints scratch₀ aggregated weights))))
     × (length scratch ≡ length scratch₀)
-    × (length forms ≡ 1536)
+    × (length forms ≡ 6144)
     × Lines scratch₀ aggregated witness s-at forms m
 
 abbrev μ-loop : tie.MeasureT-loop
@@ -33,7 +33,7 @@ loop-holds : tie.Need-loop-holds Inv-loop μ-loop
 loop-holds c =
     let b = c .before .before .before .before .before .before in
     let s = b .args in
-    (omega arith, stored-none _ _ _, refl, length-replicate {A = ℕ} 1536 0, lines-none (s .scratch .now) (s .aggregated) (s .witness .now) (s .s-at) (b .pre .1 .forms))
+    (omega arith, stored-none _ _ _, refl, length-replicate {A = ℕ} 6144 0, lines-none (s .scratch .now) (s .aggregated) (s .witness .now) (s .s-at) (b .pre .1 .forms))
 
 mix-and-form-requires : tie.Need-mix-and-form-requires Inv-loop μ-loop
 mix-and-form-requires c κs =
@@ -97,7 +97,7 @@ returns c =
       lines-total (s .scratch .now) (s .aggregated) (s .witness .now) (s .s-at)
           (λ j. omega (arith, c .before .before .before .before .before .before .before .before .before .before .before .slice-known .given j))
           (λ j. omega (arith, c .before .before .before .before .before .before .before .before .before .shared-slice-known3 .given j)) (s .totals .now) _ (l .forms) (s .n)
-          (b .pre .2) (omega (arith, b .pre .1 .forms, l .inv .3)) (rw n at (l .inv .4)) (c .before .before .add-totals .ensures),
+          (omega arith) (omega (arith, b .pre .1 .forms, l .inv .3)) (rw n at (l .inv .4)) (c .before .before .add-totals .ensures),
     )
 
 pub mix-vector-spec : {M : Type 1} → statement M

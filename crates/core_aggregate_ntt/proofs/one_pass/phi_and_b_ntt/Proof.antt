@@ -23,7 +23,7 @@ mul-step c =
 weights-to-ntt-form-requires : tie.Need-weights-to-ntt-form-requires
 weights-to-ntt-form-requires c κs =
     let p = c .before .before .before .before .before .before .before .pre in
-    (c .before .before .twiddles .ensures, (p .0 .0 .1, p .0 .0 .2, p .1, omega (arith, length-replicate {A = ℕ} 12288 0)))
+    (c .before .before .twiddles .ensures, (p .0 .0 .1, p .0 .0 .2, p .1, omega (arith, length-replicate {A = ℕ} 18432 0)))
 
 mix-vectors-requires : tie.Need-mix-vectors-requires
 mix-vectors-requires c κs =
@@ -33,7 +33,7 @@ mix-vectors-requires c κs =
       c .before .before .before .before .before .before .before .before .twiddles .ensures,
       pass-room (s .job .now) (s .constraints) (s .weights .now) (s .alpha) (s .beta) (s .scratch .now) (s .regions) (s .count) (s .r) (s .n) (s .witness .now) (s .s) (b .pre .0) _ _ (b .pre .1)
           (b .pre .2) (omega arith) (omega arith)
-          (both-values _ (s .weights .now) (s .alpha) (s .beta) (s .constraints .count) (s .count) (transformed .0) (transformed .1)) (omega (arith, length-replicate {A = ℕ} 512 0)),
+          (both-values _ (s .weights .now) (s .alpha) (s .beta) (s .constraints .count) (s .count) (transformed .0) (transformed .1)) (omega (arith, length-replicate {A = ℕ} 2048 0)),
       b .pre .0 .1 .6,
       b .pre .0 .1 .5,
     )
@@ -43,7 +43,7 @@ store-forms-requires c κs =
     let b = c .before .before .before .before .before .before .before .before .before .before .before .before .before .before .before .before .before .before .before in
     let made = c .before .before .before .before .before .mix-vectors .ensures in
     let p = b .pre .0 .1 in
-    (p .0, p .1, omega (arith, p .3, length-filled _ _ _ _ (made .0)), omega (arith, made .1 .1, length-replicate {A = ℕ} 512 0), p .5)
+    (p .0, p .1, omega (arith, p .3, length-filled _ _ _ _ (made .0)), omega (arith, made .1 .1, length-replicate {A = ℕ} 2048 0), p .5)
 
 returns : tie.Need-returns
 returns c =
