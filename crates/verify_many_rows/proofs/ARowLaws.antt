@@ -26,8 +26,7 @@ use Rattle.core_workspace.specs.Holds.{Unchanged}
 use Rattle.core_workspace.proofs.Unchanged.{unchanged-refl, unchanged-stored}
 use Rattle.ntt_vectors.specs.NttForm.{NttForm, AllValues, ntt-words, ntt-dot}
 use Rattle.ntt_vectors.proofs.Stored.{length-ntt-words}
-use Rattle.ntt_vectors.proofs.Laws.{ntt-form-before, ntt-dot-is}
-use Rattle.verify_many_phi.proofs.Stores.{ntt-form-same, values-same}
+use Rattle.ntt_vectors.proofs.Laws.{values-same, ntt-form-before, ntt-form-same, ntt-dot-is}
 use Rattle.verify_many_windows.proofs.Products.{row-of-a}
 use Rattle.verify_many_windows.specs.Product.{stored-for}
 use Rattle.verify_many_windows.specs.Rowable.{Rowable}
@@ -146,7 +145,7 @@ module _ (P : Parameters) (S S′ new : List ℕ) (m ρ place : ℕ) (few : ρ <
       by (no more) = part-splice-before 0 S place new (i * scratch-need P + o) k (omega (arith, at, fits, mul-le-mul-right {m = i} {n = m} (scratch-need P) (omega arith)))
 
   z-stays : (i : ℕ) (X : List ℕ) (from : ℕ) → NttForm S (i * scratch-need P) X from (P .n) → NttForm S′ (i * scratch-need P) X from (P .n)
-  z-stays i X from = ntt-form-same S S′ (i * scratch-need P) X from (P .n) same-length (starts-stay i)
+  z-stays i X from = ntt-form-same S (i * scratch-need P) X from S′ (P .n) same-length (starts-stay i)
 
   values-stay : (i : ℕ) → AllValues S (i * scratch-need P) (P .n) → AllValues S′ (i * scratch-need P) (P .n)
   values-stay i = values-same S S′ (i * scratch-need P) (P .n) same-length (starts-stay i)

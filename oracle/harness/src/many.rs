@@ -153,7 +153,7 @@ enum Kind {
 
 /// Eight transcripts for one job; the limits of 21 and 23 are those that the transcripts themselves reach, and a little more.
 fn desk(random: &mut Random, mut parameters: Parameters, kind: Kind) -> Desk {
-    // from n 5 on the rows of A are taken by kept transforms, and from K 3 on alpha's part of φ is made for all together
+    // from n 5 on the rows of A are taken by kept transforms
     (parameters.n, parameters.r) = (random.pick(&[1, 2, 5]), 1 + random.below(2));
     if parameters.ring > 0 {
         parameters.ring = 1 + random.below(4);
