@@ -1,2 +1,4 @@
 pub mod Sparse
+mod Row
 pub mod Product
+mod Extension

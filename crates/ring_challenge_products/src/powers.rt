@@ -2,25 +2,44 @@
 use ring_rq::rq::Rq;
 use ring_zq::zq::Zq;
 ghost use mathlib.Core.Path.{_≡_};
+ghost use mathlib.Core.Bool.{cond};
 ghost use Prim.Native.Nat.{_+_, _*_, _≤_, _<_};
+ghost use lib.Dec.{eqb};
 ghost use lib.ListN.{length};
-ghost use Rattle.spec_leaves.specs.Zq.{Canonical};
+ghost use Rattle.spec_leaves.specs.Zq.{isLargerThanHalf, size};
 ghost use Rattle.ring_challenge_products.specs.Powers.{place, taken, Sparse, AllSparse, RowOf, PowersOf};
 
 // The place of the zeros.
 const ZEROS: u32 = 192;
 
+// The place of 1 or −1.
+fn first(v: u32) -> u32
+    ensures { λ r. ⌜ (r ≡ cond (isLargerThanHalf v) 128 64) × (64 ≤ r) × (r ≤ 128) ⌝ }
+{
+    if Zq(v).is_larger_than_half() {
+        128
+    } else {
+        64
+    }
+}
+
+// How much further on the entries are doubled, where the size is 2.
+fn twice(v: u32) -> u32
+    ensures { λ r. ⌜ (r ≡ cond (eqb (size v) 2) 256 0) × (r ≤ 256) ⌝ }
+{
+    if Zq(v).size() == 2 { 256 } else { 0 }
+}
+
 // The place of v·X^j.
 fn place(v: u32, j: u32) -> u32
-    requires { ⌜ Canonical v × (j < 64) ⌝ }
+    requires { ⌜ j < 64 ⌝ }
     ensures { λ r. ⌜ (r ≡ place v j) × (r ≤ 384) ⌝ }
 {
     if v == 0 {
-        return ZEROS;
+        ZEROS
+    } else {
+        first(v) - j + twice(v)
     }
-    let first = if Zq(v).is_larger_than_half() { 128 } else { 64 };
-    let twice = if Zq(v).size() == 2 { 256 } else { 0 };
-    first - j + twice
 }
 
 // 1 for a coefficient that is not 0.
