@@ -21,7 +21,7 @@ use Rattle.ring_rq_product.specs.Product.{AllWords, extended, extendedCoeff}
 use Rattle.ring_rq_product.proofs.Coefficient.{length-extended, extended-words}
 use Rattle.ring_challenge_products.specs.Powers.{turned, entry}
 use Rattle.ring_challenge_products.specs.Sums.{Entries, Extension}
-use Rattle.ring_challenge_products.proofs.Product.{first, second, third, fourth, once, twice}
+use Rattle.ring_challenge_products.proofs.Product.{first, second, third, fourth, once, twice, reduced}
 
 -- the first numbers of a list
 abbrev front : List ℕ → ℕ → List ℕ
@@ -30,6 +30,11 @@ front l n = table n (λ m. getD l m 0)
 -- the entries as they are stored
 abbrev pub stored : List ℕ → List ℕ → List ℕ
 stored o t = splice (splice (splice (splice (replicate 448 0) 0 (front o 128)) 128 (front o 64)) 256 (front t 128)) 384 (front t 64)
+
+-- one copy after the other
+pub stored-by : (o t e₁ e₂ e₃ e₄ : List ℕ) → e₁ ≡ splice (replicate 448 0) 0 (front o 128) → e₂ ≡ splice e₁ 128 (front o 64) → e₃ ≡ splice e₂ 256 (front t 128) → e₄ ≡ splice e₃ 384 (front t 64)
+    → e₄ ≡ stored o t
+stored-by o t e₁ e₂ e₃ e₄ p q r s = s ∙ ap (λ l. splice l 384 (front t 64)) (r ∙ ap (λ l. splice l 256 (front t 128)) (q ∙ ap (λ l. splice l 128 (front o 64)) p))
 
 module _ (o t : List ℕ) where
   -- the lists on the way
@@ -94,10 +99,7 @@ module _ (a o t e : List ℕ) (words : (i : ℕ) → i < 64 → coeff a i < 2 ^ 
   lower-half : (i : ℕ) → i < 64 → getD o i 0 % Q ≡ zneg (coeff a i) % Q
   unfolding extended
   lower-half i h =
-      ap (λ v. v % Q) (ap (λ l. getD l i 0) eo ∙ getD-table 128 (extendedCoeff a) i 0 (omega arith) ∙ simp (lt-ltb i 64 h)) ∙ reduced (lack-neg (coeff a i) (words i h))
-    where
-      reduced : {x y : ℕ} → x % Q ≡ y → x % Q ≡ y % Q
-      reduced {x} {y} p = omega arith
+      ap (λ v. v % Q) (ap (λ l. getD l i 0) eo ∙ getD-table 128 (extendedCoeff a) i 0 (omega arith) ∙ simp (lt-ltb i 64 h)) ∙ reduced (lack (coeff a i)) (zneg (coeff a i)) (lack-neg (coeff a i) (words i h))
 
   upper-half : (i : ℕ) → i < 64 → getD o (64 + i) 0 ≡ coeff a i
   unfolding extended

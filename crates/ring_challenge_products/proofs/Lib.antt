@@ -2,3 +2,4 @@ pub mod Sparse
 mod Row
 pub mod Product
 mod Extension
+mod Grown

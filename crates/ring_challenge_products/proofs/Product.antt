@@ -173,7 +173,7 @@ bounded (suc n) g k h = up _ _ n (Σ-term 64 (λ k. Σ (suc n) (g k)) k h)
     up x s n l = omega arith
 
 -- a remainder is its own
-reduced : (x y : ℕ) → x % Q ≡ y → x % Q ≡ y % Q
+pub reduced : (x y : ℕ) → x % Q ≡ y → x % Q ≡ y % Q
 reduced x y e = omega arith
 
 -- the products with the places of elements are those with the elements

@@ -1,5 +1,5 @@
 -- A row of places while it is filled.
-use mathlib.Core.Path.{_≡_, refl, sym, ap, ap₂, _∙_}
+use mathlib.Core.Path.{_≡_, refl, sym, ap, ap₂, subst, _∙_}
 use mathlib.Core.Bool.{Bool, true, false, cond}
 use mathlib.Core.List.{List}
 use Prim.Native.Nat.{ℕ, _+_, _*_, _≤_, _<_}
@@ -11,8 +11,10 @@ use lib.ListN.{length, getD, set, replicate, length-set, length-replicate, getD-
 use lib.Seq.{getD-set-same, getD-set-other}
 use Rattle.math.specs.lists.Sum.{Σ}
 use Rattle.math.proofs.lists.Sum.{Σ-suc, Σ-ext, Σ-zero, Σ-mono, Σ-changed}
+use Rattle.math.specs.lists.Part.{part, splice}
+use Rattle.math.proofs.lists.Splice.{getD-part, part-splice-before, part-splice-same}
 use Rattle.spec_leaves.specs.Rq.{coeff}
-use Rattle.ring_challenge_products.specs.Powers.{place, taken, Sparse, RowOf}
+use Rattle.ring_challenge_products.specs.Powers.{place, taken, Sparse, AllSparse, RowOf, PowersOf}
 
 -- the places of the first j coefficients, of which so many are not 0
 pub record Begun (row a : List ℕ) (j count : ℕ) : Type 0 where
@@ -107,4 +109,27 @@ pub begun-all : (row a : List ℕ) (j count : ℕ) → Begun row a j count → j
 begun-all row a j count b e = record {
   below = λ t h. b .below t (omega arith);
   same = λ f z. b .same f z ∙ ap (λ n. Σ n (λ i. f (place (coeff a i) i))) e;
+}
+
+-- one row more
+pub rows-next : (c : List ℕ) (at i : ℕ) (before row after : List ℕ) → ((q : ℕ) → q < i → RowOf (part before (64 * q) 64) (part c (at + 64 * q) 64)) → length row ≡ 64
+    → 64 * i + 64 ≤ length before → RowOf row (part c (at + 64 * i) 64) → after ≡ splice before (64 * i) row
+    → (q : ℕ) → q < i + 1 → RowOf (part after (64 * q) 64) (part c (at + 64 * q) 64)
+rows-next c at i before row after all n room this e q h = go (ℕ-discrete q i)
+  where
+    go : Dec (q ≡ i) → RowOf (part after (64 * q) 64) (part c (at + 64 * q) 64)
+    go (yes p) =
+        let read : part after (64 * i) 64 ≡ row = ap₂ (λ (l : List ℕ) (m : ℕ). part l (64 * i) m) e (sym n) ∙ part-splice-same 0 before (64 * i) row (omega arith) in
+        subst (λ q. RowOf (part after (64 * q) 64) (part c (at + 64 * q) 64)) (sym p) (subst (λ l. RowOf l (part c (at + 64 * i) 64)) (sym read) this)
+    go (no d) =
+        let read : part after (64 * q) 64 ≡ part before (64 * q) 64 = ap (λ l. part l (64 * q) 64) e ∙ part-splice-before 0 before (64 * i) row (64 * q) 64 (omega arith) in
+        subst (λ l. RowOf l (part c (at + 64 * q) 64)) (sym read) (all q (omega arith))
+
+-- all rows
+pub powers-of : (powers c : List ℕ) (at r : ℕ) → 64 * r ≤ length powers → AllSparse c at r → ((q : ℕ) → q < r → RowOf (part powers (64 * q) 64) (part c (at + 64 * q) 64))
+    → PowersOf powers c at r
+powers-of powers c at r room s rows = record {
+  places = record { room = room; below = λ i t h l. rw (getD-part 0 powers (64 * i) 64 t (omega arith)) at (rows i h .below t l) };
+  sparse = s;
+  rows = rows;
 }

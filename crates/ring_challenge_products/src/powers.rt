@@ -16,11 +16,7 @@ const ZEROS: u32 = 192;
 fn first(v: u32) -> u32
     ensures { λ r. ⌜ (r ≡ cond (isLargerThanHalf v) 128 64) × (64 ≤ r) × (r ≤ 128) ⌝ }
 {
-    if Zq(v).is_larger_than_half() {
-        128
-    } else {
-        64
-    }
+    if Zq(v).is_larger_than_half() { 128 } else { 64 }
 }
 
 // How much further on the entries are doubled, where the size is 2.

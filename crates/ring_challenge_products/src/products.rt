@@ -67,7 +67,8 @@ fn add_seven(
     ensures { λ _. ⌜ Grown (now (sums .entry)) (now (sums .exit)) (seven-sum (now (e .entry)) a b c d p q s) ⌝ }
 {
     for k in 0..64 {
-        sums[k] = sums[k] + (e[a + k] + e[b + k] + e[c + k] + e[d + k] + e[p + k] + e[q + k] + e[s + k]);
+        sums[k] = sums[k]
+            + (e[a + k] + e[b + k] + e[c + k] + e[d + k] + e[p + k] + e[q + k] + e[s + k]);
     }
 }
 
