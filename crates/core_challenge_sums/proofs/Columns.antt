@@ -1,7 +1,7 @@
 -- The sums of products of z's values and those of Σ c_i·x_i: one element more, and the inverse NTT.
 use mathlib.Core.Path.{_≡_, refl, sym, ap, ap₂, subst, _∙_}
 use mathlib.Core.List.{List}
-use Prim.Native.Nat.{ℕ, _+_, _*_, _≤_, _<_}
+use Prim.Native.Nat.{ℕ, _+_, _*_, _%_, _≤_, _<_}
 use native.Mathlib.Nat.{zero-add, mul-le-mul-left}
 use native.Mathlib.Decide.{decLt}
 use native.Mathlib.Omega.{arith}
@@ -14,8 +14,10 @@ use Rattle.math.proofs.lists.Table.{length-table, getD-table}
 use Rattle.math.proofs.lists.Part.{part-flatMap}
 use Rattle.math.proofs.lists.Sum.{Σ-ext}
 use Rattle.math.proofs.algebra.Dot.{dot-ext}
-use Rattle.spec_leaves.specs.Rq.{Element}
-use Rattle.spec_leaves.specs.Ring.{RqOps, words, element}
+use Rattle.spec_leaves.specs.Zq.{Q}
+use Rattle.spec_leaves.specs.Rq.{Element, coeff}
+use Rattle.spec_leaves.specs.Ring.{RqOps, words, element, canonical-mod, table-element}
+use Rattle.ring_challenge_products.specs.Powers.{row-product, powers-product}
 use Rattle.spec_leaves.proofs.Bridge.{element-words, words-element, coeff-canonical}
 use Rattle.spec_protocol.specs.Formulas.{dot, flat}
 use Rattle.spec_protocol.proofs.Flat.{length-words, flat-canonical}
@@ -54,19 +56,27 @@ whole-words l e h = ap (λ l. part l 0 64) h ∙ ap (λ n. take n (words e)) (sy
 words-small : (e : Element) → Words (words e)
 words-small e k l = omega (arith, coeff-canonical e k)
 
+-- the words of a product with powers
+pub product-words : (powers words′ : List ℕ) (at r n m : ℕ) → powers-product powers words′ (at + 64 * m) (64 * n) r ≡ words (combined words′ at r n powers m)
+unfolding combined powers-product
+product-words powers words′ at r n m = sym (words-element (powers-product powers words′ (at + 64 * m) (64 * n) r) (table-element (λ k. total k % Q) (λ k. canonical-mod (total k))))
+  where
+    total : ℕ → ℕ
+    total k = Σ r (λ i. coeff (row-product powers i (part words′ (at + 64 * m + 64 * n * i) 64)) k)
+
 -- the vectors of constraint k end within the slice
 pub row-within : (words : List ℕ) (x : Strided) (width k : ℕ) → Rows words x width → k < x .count → x .at + x .step * k + 64 * width ≤ length words
 row-within words x width k h l = subst (λ step. x .at + step * k + 64 * width ≤ length words) (sym (h .1)) (omega (arith, h .0 .within, mul-le-mul-left width l))
 
-module _ (words′ : List ℕ) (at r n : ℕ) (c : List ℕ) (c-at : ℕ) (z : List ℕ) where
+module _ (words′ : List ℕ) (at r n : ℕ) (powers z : List ℕ) where
   abbrev e : ℕ → Element
-  e = combined words′ at r n c c-at
+  e = combined words′ at r n powers
 
   abbrev sums : List ℕ
-  sums = terms-added (replicate 192 0) z 0 (combined-words words′ at r n c c-at) 0 64 n
+  sums = terms-added (replicate 192 0) z 0 (combined-words words′ at r n powers) 0 64 n
 
   -- the words of the inverse NTT
-  pub line-words : (s r′ : List ℕ) → s ≡ sums → r′ ≡ inverse-from s 0 → r′ ≡ words (combined-line words′ at r n c c-at z)
+  pub line-words : (s r′ : List ℕ) → s ≡ sums → r′ ≡ inverse-from s 0 → r′ ≡ words (combined-line words′ at r n powers z)
   unfolding combined-line
   line-words s r′ made back = back ∙ ap (λ s. inverse-from s 0) made ∙ sym (words-element (inverse-from sums 0) (inverse-from-element sums 0))
 
@@ -79,17 +89,17 @@ module _ (words′ : List ℕ) (at r n : ℕ) (c : List ℕ) (c-at : ℕ) (z : L
     holds k l =
         let o : ℕ = 0 in
         ap (λ j. getD sums j 0) (zero-add k)
-        ∙ term-at (replicate 192 0) z 0 (combined-words words′ at r n c c-at) 0 64 n k l
+        ∙ term-at (replicate 192 0) z 0 (combined-words words′ at r n powers) 0 64 n k l
         ∙ ap₂ _+_ (getD-replicate 192 k o o l)
-        (Σ-ext n (λ m. getD z (0 + 192 * m + k) 0 * getD (ntt-form (part (combined-words words′ at r n c c-at) (0 + 64 * m) 64)) k 0)
+        (Σ-ext n (λ m. getD z (0 + 192 * m + k) 0 * getD (ntt-form (part (combined-words words′ at r n powers) (0 + 64 * m) 64)) k 0)
         (λ m. getD (ntt-form (a m)) k 0 * getD (ntt-form (words (e m))) k 0)
         (λ m b. ap₂ _*_ (ntt-form-value z 0 Z z-at n form m k b l) (ap (λ p. getD (ntt-form p) k 0) (part-of-words n e m b))))
         ∙ zero-add (Σ n (λ m. getD (ntt-form (a m)) k 0 * getD (ntt-form (words (e m))) k 0))
 
-    pub line-is : combined-line words′ at r n c c-at z ≡ dot n (run Z z-at 64) e
+    pub line-is : combined-line words′ at r n powers z ≡ dot n (run Z z-at 64) e
     unfolding combined-line
     line-is =
         ap element
-        (inverse-holds sums 0 n a (λ m. words (e m)) (omega (arith, length-terms (replicate 192 0) z 0 (combined-words words′ at r n c c-at) 0 64 n)) holds few (form .small) (λ m. words-small (e m)))
+        (inverse-holds sums 0 n a (λ m. words (e m)) (omega (arith, length-terms (replicate 192 0) z 0 (combined-words words′ at r n powers) 0 64 n)) holds few (form .small) (λ m. words-small (e m)))
         ∙ element-words (dot n (run Z z-at 64) (λ m. element (words (e m))))
         ∙ dot-ext RqOps n (run Z z-at 64) (run Z z-at 64) (λ m. element (words (e m))) e (λ m l. refl) (λ m l. element-words (e m))

@@ -3,6 +3,8 @@ use core_aggregate_ntt::mix;
 use ntt_transform::table;
 use ntt_vectors::sums;
 use ntt_vectors::vectors;
+use ring_challenge_products::powers;
+use ring_challenge_products::products;
 use ring_inner_product::Strided;
 use ring_rq::rq::Rq;
 ghost use mathlib.Core.Path.{_≡_};
@@ -14,23 +16,22 @@ ghost use Rattle.ntt_vectors.specs.NttForm.{AllValues};
 ghost use Rattle.core_aggregate_ntt.specs.Terms.{term-added, terms-added, SumsSmall};
 ghost use Rattle.core_challenge_sums.specs.Lines.{combined, combined-words, combined-line, weighed-lines, Combinable, Weighable, φ-lines, LinesRoom};
 
-// The product of element m of Σ c_i·x_i, of r vectors x_i of n elements, and of z's in NTT form, added to 192 sums.
+// The product of element m of Σ c_i·x_i, of the powers of r challenges c_i and of r vectors x_i of n elements, and of z's in NTT form, added to 192 sums.
 pub fn add_column(
     from: &[u32],
     at: usize,
     r: usize,
     n: usize,
     m: usize,
-    c: &[u32],
-    c_at: usize,
+    powers: &[u32],
     z: &[u32],
     w: &[u32],
     sums: &mut [u64],
 )
-    requires { ⌜ (now w ≡ twiddleTable) × Combinable (now from) at r n (now c) «c_at» × (m < n) × AllValues (now z) (192 * m) 1 × SumsSmall (now sums) 1 ⌝ }
-    ensures { λ _. ⌜ now (sums .exit) ≡ term-added (now (sums .entry)) (now (z .entry)) (192 * m) (words (combined (now (from .entry)) at r n (now (c .entry)) «c_at» m)) ⌝ }
+    requires { ⌜ (now w ≡ twiddleTable) × Combinable (now from) at r n (now powers) × (m < n) × AllValues (now z) (192 * m) 1 × SumsSmall (now sums) 1 ⌝ }
+    ensures { λ _. ⌜ now (sums .exit) ≡ term-added (now (sums .entry)) (now (z .entry)) (192 * m) (words (combined (now (from .entry)) at r n (now (powers .entry)) m)) ⌝ }
 {
-    let e = ring_inner_product::inner_product(from, at + 64 * m, 64 * n, c, c_at, 64, r).coeffs;
+    let e = products::inner_product(powers, from, at + 64 * m, 64 * n, r).coeffs;
     mix::add_term(&e, 0, z, 192 * m, w, sums);
 }
 
@@ -40,38 +41,28 @@ pub fn add_columns(
     at: usize,
     r: usize,
     n: usize,
-    c: &[u32],
-    c_at: usize,
+    powers: &[u32],
     z: &[u32],
     w: &[u32],
     sums: &mut [u64],
 )
-    requires { ⌜ (now w ≡ twiddleTable) × Combinable (now from) at r n (now c) «c_at» × AllValues (now z) 0 n × SumsSmall (now sums) n ⌝ }
-    ensures { λ _. ⌜ now (sums .exit) ≡ terms-added (now (sums .entry)) (now (z .entry)) 0 (combined-words (now (from .entry)) at r n (now (c .entry)) «c_at») 0 64 n ⌝ }
+    requires { ⌜ (now w ≡ twiddleTable) × Combinable (now from) at r n (now powers) × AllValues (now z) 0 n × SumsSmall (now sums) n ⌝ }
+    ensures { λ _. ⌜ now (sums .exit) ≡ terms-added (now (sums .entry)) (now (z .entry)) 0 (combined-words (now (from .entry)) at r n (now (powers .entry))) 0 64 n ⌝ }
 {
     let mut m = 0;
     while m < n {
-        add_column(from, at, r, n, m, c, c_at, z, w, sums);
+        add_column(from, at, r, n, m, powers, z, w, sums);
         m += 1;
     }
 }
 
 // ⟨z, Σ c_i·x_i⟩ of r vectors x_i of n elements, z in NTT form.
-pub fn line(
-    from: &[u32],
-    at: usize,
-    r: usize,
-    n: usize,
-    c: &[u32],
-    c_at: usize,
-    z: &[u32],
-    w: &[u32],
-) -> Rq
-    requires { ⌜ (now w ≡ twiddleTable) × Combinable (now from) at r n (now c) «c_at» × AllValues (now z) 0 n ⌝ }
-    ensures { λ e. ⌜ e .coeffs ≡ words (combined-line (now (from .entry)) at r n (now (c .entry)) «c_at» (now (z .entry))) ⌝ }
+pub fn line(from: &[u32], at: usize, r: usize, n: usize, powers: &[u32], z: &[u32], w: &[u32]) -> Rq
+    requires { ⌜ (now w ≡ twiddleTable) × Combinable (now from) at r n (now powers) × AllValues (now z) 0 n ⌝ }
+    ensures { λ e. ⌜ e .coeffs ≡ words (combined-line (now (from .entry)) at r n (now (powers .entry)) (now (z .entry))) ⌝ }
 {
     let mut sums = [0u64; 192];
-    add_columns(from, at, r, n, c, c_at, z, w, &mut sums);
+    add_columns(from, at, r, n, powers, z, w, &mut sums);
     sums::inverse(&sums, 0, w)
 }
 
@@ -81,15 +72,14 @@ pub fn weigh(
     constraints: Strided,
     r: usize,
     n: usize,
-    c: &[u32],
-    c_at: usize,
+    powers: &[u32],
     z: &[u32],
     weights: &[u32],
     weights_at: usize,
     w: &[u32],
 ) -> Rq
-    requires { ⌜ (now w ≡ twiddleTable) × Weighable (now from) constraints r n (now c) «c_at» (now weights) «weights_at» × AllValues (now z) 0 n ⌝ }
-    ensures { λ e. ⌜ e .coeffs ≡ words (weighed-lines (now (from .entry)) constraints r n (now (c .entry)) «c_at» (now (z .entry)) (now (weights .entry)) «weights_at») ⌝ }
+    requires { ⌜ (now w ≡ twiddleTable) × Weighable (now from) constraints r n (now powers) (now weights) «weights_at» × AllValues (now z) 0 n ⌝ }
+    ensures { λ e. ⌜ e .coeffs ≡ words (weighed-lines (now (from .entry)) constraints r n (now (powers .entry)) (now (z .entry)) (now (weights .entry)) «weights_at») ⌝ }
 {
     let step = constraints.step;
     let count = constraints.count;
@@ -98,7 +88,7 @@ pub fn weigh(
     let mut place = weights_at;
     let mut k = 0;
     while k < count {
-        let weighed = line(from, at, r, n, c, c_at, z, w).mul(ring_words::load(weights, place));
+        let weighed = line(from, at, r, n, powers, z, w).mul(ring_words::load(weights, place));
         let next = total.add(weighed);
         total = next;
         at += step;
@@ -129,29 +119,9 @@ pub fn sum_of_lines(
     let w = table::twiddles();
     let mut z = [0u32; 12288];
     vectors::to_ntt_form(transcript, z_at, n, &w, &mut z, 0);
-    let first = weigh(
-        job,
-        constraints,
-        r,
-        n,
-        scratch,
-        c_at,
-        &z,
-        randomness,
-        alpha,
-        &w,
-    );
-    let second = weigh(
-        scratch,
-        aggregated,
-        r,
-        n,
-        scratch,
-        c_at,
-        &z,
-        randomness,
-        beta,
-        &w,
-    );
+    let mut places = [0u32; 4096];
+    powers::store(scratch, c_at, r, &mut places);
+    let first = weigh(job, constraints, r, n, &places, &z, randomness, alpha, &w);
+    let second = weigh(scratch, aggregated, r, n, &places, &z, randomness, beta, &w);
     first.add(second)
 }

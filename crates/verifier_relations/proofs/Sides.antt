@@ -26,6 +26,7 @@ use Rattle.ring_rq_matrix.proofs.Formula.{sum-of-t, sum-of-g, sum-of-h, sum-of-
 use Rattle.core_aggregate.specs.Weighed.{mixed, rows-at}
 use Rattle.core_aggregate.proofs.Grid.{row-run}
 use Rattle.core_aggregate.proofs.Laws.{job-at, randomness-at, φ-sum-is}
+use Rattle.ring_challenge_products.specs.Powers.{AllSparse}
 use Rattle.core_challenge_sums.specs.Lines as Sums
 use Rattle.core_challenge_sums.specs.Lines.{LinesRoom}
 use Rattle.layout_regions.specs.declared.Regions.{Regions}
@@ -40,6 +41,7 @@ use Rattle.core_workspace.proofs.Ready.{φ-end, a-end, g-end, c-end, t-end, u-e
 use Rattle.verifier_common.specs.Answers.{az, z-inner, phi}
 use Rattle.verifier_common.specs.Work.{Received, Posed, equal}
 use Rattle.verifier_relations.specs.Weighed.{challenges-in, ChallengesWithin, LinesWithin, az-of, z-inner-of, phi-of, φ-lines}
+use Rattle.verifier_relations.proofs.Sparse.{challenges-sparse}
 use Rattle.verifier_common.proofs.Runs.{require-equal}
 use Rattle.verifier_common.proofs.Verdicts.{first-failed}
 use Rattle.verifier_common.proofs.Sent.{transcript-at, reckoned, received, placed, z-within, z-run, t-within}
@@ -76,16 +78,22 @@ module _ (J X : List ℕ) (params : EnvironmentParameters) (regions : Regions) (
       ))
 
   -- what `core_challenge_sums::sum_of_lines` requires
-  pub constraints-require : (R : List ℕ) (at alpha beta z-at : ℕ) → Drawn 5 J R → length R < 2 ^ 61 → at ≡ 31 + start (job-sections (parametersOf params)) 4
-      → alpha ≡ start (randomness-sections (parametersOf params)) 3 → beta ≡ start (randomness-sections (parametersOf params)) 4 → z-at ≡ transcript-at (parametersOf params) 4
+  pub constraints-require : (R : List ℕ) (at alpha beta z-at : ℕ) → Drawn 5 J R → Holds S (regions .challenges) (c-words J R) → length R < 2 ^ 61
+      → at ≡ 31 + start (job-sections (parametersOf params)) 4 → alpha ≡ start (randomness-sections (parametersOf params)) 3
+      → beta ≡ start (randomness-sections (parametersOf params)) 4 → z-at ≡ transcript-at (parametersOf params) 4
       → let width = params .multiplicity * params .rank in
       LinesRoom J (rows-at at width (params .«constraint_k»)) R alpha beta S (rows-at (regions .phi2) width (params .«const_agg_length»)) (params .multiplicity) (params .rank)
       (regions .challenges) X z-at
-  constraints-require R at alpha beta z-at d short a b c e =
+  constraints-require R at alpha beta z-at d holds short a b c e =
       let m = φ-requires J R S params regions ready at alpha beta d short a b c in
-      let r : params .multiplicity ≤ 64 = omega (arith, reckoned s .within .r .1) in
-      let n : params .rank ≤ 64 = reckoned s .within .n .1 in
-      ((m .0, c-within, r, n, m .1), (m .3, c-within, r, n, m .2), z-within X params (received s) z-at e)
+      record {
+        in-job = (m .0, m .1);
+        in-scratch = (m .3, m .2);
+        challenges = (c-within, subst (λ Q. AllSparse S (regions .challenges) (Q .r)) (sym (ready .same)) (challenges-sparse J R S (regions .challenges) holds));
+        vector = z-within X params (received s) z-at e;
+        few = omega (arith, reckoned s .within .r .1);
+        narrow = reckoned s .within .n .1;
+      }
 
   -- the rows of A lie within the job
   pub A-rows : (a-at : ℕ) → a-at ≡ 31 + start (job-sections (parametersOf params)) 6 → a-at + 64 * (params .kappa * params .rank) ≤ length J

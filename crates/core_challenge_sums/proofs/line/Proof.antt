@@ -19,7 +19,7 @@ inverse-requires c κs =
 returns : tie.Need-returns
 returns c =
     let s = c .before .before .before .before .before .before .before .before .before .args in
-    line-words (s .from .now) (s .at) (s .r) (s .n) (s .c .now) (s .c-at) (s .z .now) _ _ (c .before .before .before .add-columns .ensures) (c .inverse .ensures)
+    line-words (s .from .now) (s .at) (s .r) (s .n) (s .powers .now) (s .z .now) _ _ (c .before .before .before .add-columns .ensures) (c .inverse .ensures)
 
 pub line-spec : {M : Type 1} → statement M
 line-spec =

@@ -16,18 +16,18 @@ use Rattle.core_challenge_sums.proofs.weigh.Statement.{statement}
 use Rattle.core_challenge_sums.proofs.weigh.Tie as tie
 
 -- the line of constraint k
-abbrev line-of : List ℕ → (at step r n : ℕ) → List ℕ → ℕ → List ℕ → ℕ → Element
-line-of from at step r n c c-at z k = combined-line from (at + step * k) r n c c-at z
+abbrev line-of : List ℕ → (at step r n : ℕ) → List ℕ → List ℕ → ℕ → Element
+line-of from at step r n powers z k = combined-line from (at + step * k) r n powers z
 
 abbrev Inv-loop : tie.InvT-loop
-Inv-loop from r n c c-at z weights weights-at w step count total₀ at₀ place₀ k₀ total at place k =
+Inv-loop from r n powers z weights weights-at w step count total₀ at₀ place₀ k₀ total at place k =
     (k ≤ count)
     × (at ≡ at₀ + step * k)
     × (place ≡ weights-at + 64 * k)
-    × (total .coeffs ≡ words (sum k (λ j. line-of from at₀ step r n c c-at z j ⊗ run weights weights-at 64 j)))
+    × (total .coeffs ≡ words (sum k (λ j. line-of from at₀ step r n powers z j ⊗ run weights weights-at 64 j)))
 
 abbrev μ-loop : tie.MeasureT-loop
-μ-loop from r n c c-at z weights weights-at w step count total₀ at₀ place₀ k₀ total at place k = count - k
+μ-loop from r n powers z weights weights-at w step count total₀ at₀ place₀ k₀ total at place k = count - k
 
 line-requires : tie.Need-line-requires Inv-loop μ-loop
 line-requires c κs =
@@ -58,10 +58,10 @@ loop-again : tie.Need-loop-again Inv-loop μ-loop
 loop-again c =
     let s = c .before .before .before .before .before .before .before .before .before .before .before .before .args in
     let l = c .before .before .before .before .before .loop in
-    let x = line-of (s .from .now) (s .constraints .at) (s .constraints .step) (s .r) (s .n) (s .c .now) (s .c-at) (s .z .now) in
+    let x = line-of (s .from .now) (s .constraints .at) (s .constraints .step) (s .r) (s .n) (s .powers .now) (s .z .now) in
     let line =
-    stands-for _ (combined-line (s .from .now) (l .at) (s .r) (s .n) (s .c .now) (s .c-at) (s .z .now)) (c .before .before .before .line .ensures)
-    ∙ ap (λ at. combined-line (s .from .now) at (s .r) (s .n) (s .c .now) (s .c-at) (s .z .now)) (l .inv .1) in
+    stands-for _ (combined-line (s .from .now) (l .at) (s .r) (s .n) (s .powers .now) (s .z .now)) (c .before .before .before .line .ensures)
+    ∙ ap (λ at. combined-line (s .from .now) at (s .r) (s .n) (s .powers .now) (s .z .now)) (l .inv .1) in
     let weight = ap element (c .before .before .load .ensures) ∙ ap (λ at. element (part (s .weights .now) at 64)) (l .inv .2) in (
       omega arith,
       omega arith,
@@ -74,7 +74,7 @@ returns c =
     let s = c .before .before .before .before .before .before .before .before .args in
     let l = c .before .loop in
     let done : l .k ≡ s .constraints .count = omega arith in
-    let x = line-of (s .from .now) (s .constraints .at) (s .constraints .step) (s .r) (s .n) (s .c .now) (s .c-at) (s .z .now) in
+    let x = line-of (s .from .now) (s .constraints .at) (s .constraints .step) (s .r) (s .n) (s .powers .now) (s .z .now) in
     l .inv .3 ∙ ap (λ k. words (sum k (λ j. x j ⊗ run (s .weights .now) (s .weights-at) 64 j))) done
 
 pub weigh-spec : {M : Type 1} → statement M

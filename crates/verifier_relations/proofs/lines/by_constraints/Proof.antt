@@ -36,7 +36,7 @@ sum-of-lines-requires c κs =
     let s = c .before .before .before .before .before .before .before .before .before in
     let a = s .args in
     constraints-require (a .job .now) (a .transcript .now) (a .params) (a .regions) (a .scratch .now) (s .pre .0 .posed) (s .pre .1) (a .randomness .now) _ _ _ _
-    (drawn-fewer 7 5 (a .job .now) (a .randomness .now) (omega arith) (s .pre .0 .drawn)) (omega arith) (c .before .before .before .of-job .ensures) (c .before .before .of-randomness .ensures)
+    (drawn-fewer 7 5 (a .job .now) (a .randomness .now) (omega arith) (s .pre .0 .drawn)) (s .pre .2 .0 .0) (omega arith) (c .before .before .before .of-job .ensures) (c .before .before .of-randomness .ensures)
     (c .before .of-randomness2 .ensures) (c .of-transcript .ensures)
 
 returns : tie.Need-returns
