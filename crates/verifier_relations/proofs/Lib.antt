@@ -1,2 +1,3 @@
+mod Sparse
 pub mod Scratch
 pub mod Sides
