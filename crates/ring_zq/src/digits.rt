@@ -12,9 +12,16 @@ ghost use Rattle.spec_leaves.specs.Digits.{remBelow, remSize, nextSize, signed,
 // The size of a remainder, which is below zero where it is above half the base.
 fn rem_size(base: u32, rem: u32) -> u32
     requires { ⌜ rem < base ⌝ }
-    ensures { λ r. ⌜ r ≡ cond (ltb (base / 2) rem) (base - rem) rem ⌝ }
+    ensures { λ r. ⌜ (r ≡ cond (ltb (base / 2) rem) (base - rem) rem) × (r ≤ base / 2) ⌝ }
 {
     if base / 2 < rem { base - rem } else { rem }
+}
+
+// Whether one of the two holds, and not both.
+fn differ(a: bool, b: bool) -> bool
+    ensures { λ r. ⌜ r ≡ xor a b ⌝ }
+{
+    if a { !b } else { b }
 }
 
 // The digit that a remainder gives, with the value's sign. Written so that it runs on several at a time.
@@ -22,13 +29,12 @@ pub fn digit_of(negative: bool, base: u32, rem: u32) -> u32
     requires { ⌜ rem < base ⌝ }
     ensures { λ r. ⌜ r ≡ signed (xor negative (ltb (base / 2) rem)) (cond (ltb (base / 2) rem) (base - rem) rem) ⌝ }
 {
-    let below = base / 2 < rem;
     let size = rem_size(base, rem);
-    let negated = Zq(size).neg().0;
-    if negative {
-        if below { size } else { negated }
-    } else if below {
-        negated
+    if size == 0 {
+        return 0;
+    }
+    if differ(negative, base / 2 < rem) {
+        Zq::Q - size
     } else {
         size
     }

@@ -11,17 +11,17 @@ pub struct Quotient {
     pub rest: u32,
 }
 
-// 2^32 divided by the base, rounded down.
+// 2^32 − 1 divided by the base, rounded down.
 pub fn reciprocal(base: u32) -> u32
     requires { ⌜ 1 < base ⌝ }
-    ensures { λ r. ⌜ r ≡ 4294967296 / base ⌝ }
+    ensures { λ r. ⌜ r ≡ 4294967295 / base ⌝ }
 {
-    (RADIX / base as u64) as u32
+    4294967295 / base
 }
 
 // The quotient and the rest of x by the base. The product with the reciprocal gives the quotient or one less.
 pub fn divide(x: u32, base: u32, reciprocal: u32) -> Quotient
-    requires { ⌜ (1 < base) × (reciprocal ≡ 4294967296 / base) ⌝ }
+    requires { ⌜ (1 < base) × (reciprocal ≡ 4294967295 / base) ⌝ }
     ensures { λ r. ⌜ (r .quotient ≡ x / base) × (r .rest ≡ x % base) ⌝ }
 {
     let near = x as u64 * reciprocal as u64 / RADIX;
