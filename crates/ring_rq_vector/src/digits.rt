@@ -12,7 +12,14 @@ ghost use Rattle.spec_protocol.specs.Formulas.{flat, digit-element};
 
 // The digits of the element at `at`, lowest first, as elements from `to_at` on, up to `parts`. Those from where nothing goes on are zero and are not stored; how many are
 // stored is the answer.
-pub fn decompose_used(from: &[u32], at: usize, base: u32, parts: usize, to: &mut [u32], to_at: usize) -> usize
+pub fn decompose_used(
+    from: &[u32],
+    at: usize,
+    base: u32,
+    parts: usize,
+    to: &mut [u32],
+    to_at: usize,
+) -> usize
     requires { ⌜ (at + 64 ≤ length (now from)) × («to_at» + 64 * parts ≤ length (now to)) × (1 < base) ⌝ }
     ensures { λ r. ⌜ (r ≤ parts) × (now (to .exit) ≡ splice (now (to .entry)) «to_at» (flat (table r (digit-element base (element (part (now (from .entry)) at 64)))))) ⌝ }
     ensures { λ r. ⌜ ((k : ℕ) → r ≤ k → k < parts → digit-element base (element (part (now (from .entry)) at 64)) k ≡ RqOps .nil) ⌝ }
