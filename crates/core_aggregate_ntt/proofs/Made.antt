@@ -31,6 +31,13 @@ use Rattle.core_aggregate_ntt.proofs.Mixed.{ntt-mixed-all}
 use Rattle.core_aggregate_ntt.proofs.Faster.{faster-weights}
 use Rattle.core_aggregate_ntt.specs.Pass.{PassRoom, φ-mixed, HasLines, formed-with, φ″-rows, Passable, with-φ, with-b″, with-φ-and-b″, one-pass-faster}
 
+-- one of two by a test
+pub chosen-first : {A : Type 0} (b : Bool) (x y z : A) → b ≡ true → z ≡ x → z ≡ cond b x y
+chosen-first b x y z h e = e ∙ sym (ap (λ t. cond t x y) h)
+
+pub chosen-second : {A : Type 0} (b : Bool) (x y z : A) → b ≡ false → z ≡ y → z ≡ cond b x y
+chosen-second b x y z h e = e ∙ sym (ap (λ t. cond t x y) h)
+
 module _ (J : List ℕ) (x : Strided) (R : List ℕ) (alpha beta : ℕ) (S : List ℕ) (regions : Regions) (L r n : ℕ) (W : List ℕ) (s : ℕ) (p : Passable J x R alpha beta S regions L r n W s) where
   -- the rows of φ''
   abbrev y : Strided
@@ -42,7 +49,7 @@ module _ (J : List ℕ) (x : Strided) (R : List ℕ) (alpha beta : ℕ) (S : Lis
     in-job = λ m l. rows-run J x (r * n) m (p .0 .0) short l;
     in-scratch = λ m l. rows-run S y (r * n) m (p .0 .3) small l;
     before = λ m k l d. omega (arith, p .0 .4, mul-le-mul-left (r * n) d);
-    near = (omega (arith, p .0 .0 .0 .within, mul-le-mul-left (r * n) (w .0)), omega (arith, p .0 .3 .0 .within, mul-le-mul-left (r * n) (w .1)));
+    near = (omega (arith, p .0 .0 .0 .within, p .0 .0 .0 .narrow), omega (arith, p .0 .3 .0 .within, p .0 .3 .0 .narrow));
     room = p .0 .5;
     vectors = p .1 .4;
     values = values;

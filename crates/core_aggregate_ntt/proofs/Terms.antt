@@ -11,7 +11,7 @@ use Rattle.math.specs.lists.Sum.{Σ}
 use Rattle.math.proofs.lists.Table.{length-table, getD-table, table-ext, table-getD, is-table}
 use Rattle.math.proofs.lists.Sum.{Σ-suc, Σ-bound}
 use Rattle.math.proofs.lists.Splice.{length-splice, getD-splice-within}
-use Rattle.ntt_product.specs.NttForm.{mostProducts}
+use Rattle.ntt_product.specs.NttForm.{nttOf, mostProducts}
 use Rattle.ntt_product.proofs.Residue.{Words, product-small}
 use Rattle.ring_inner_product.specs.Run.{Run}
 use Rattle.ntt_vectors.specs.NttForm.{ntt-form, NttForm, AllValues}
@@ -134,6 +134,22 @@ terms-after weights from at step now K L e v h small = let z : ℕ = 0 in record
 -- where a run of elements one after the other ends
 pub run-end : (words : List ℕ) (at n : ℕ) → Run words at 64 n → 1 ≤ n → at + 64 * n ≤ length words
 run-end words at n r h = omega (arith, r .within (n - 1) (omega arith))
+
+-- and of elements that begin at a place that is the run's, where there are any
+pub first-end : (words : List ℕ) (at n first : ℕ) → Run words at 64 n → (0 < n → first ≡ at) → (n ≡ 0 → first ≡ 0) → first + 64 * n ≤ length words
+first-end words at n first r some none = by (decLt 0 n)
+  where
+    by : Dec (0 < n) → first + 64 * n ≤ length words
+    by (yes h) = omega (arith, some h, run-end words at n r h)
+    by (no h) = omega (arith, none (omega arith))
+
+-- their NTT form is the run's
+pub form-from : (slice : List ℕ) (p : ℕ) (xs : List ℕ) (at n first : ℕ) → ((j : ℕ) → getD xs j 0 ≤ 4294967295) → (0 < n → first ≡ at) → NttForm slice p xs first n → NttForm slice p xs at n
+form-from slice p xs at n first words some h = record {
+  ntt = λ i m a b. h .ntt i m a b ∙ ap (λ q. nttOf i (part xs (q + 64 * m) 64)) (some (omega arith));
+  small = λ m k l. part-words xs words (at + 64 * m) k l;
+  within = h .within;
+}
 
 -- the values of weights of both kinds
 pub both-values : (slice W : List ℕ) (alpha beta K L : ℕ) → NttForm slice 0 W alpha K → NttForm slice (192 * K) W beta L → AllValues slice 0 (K + L)

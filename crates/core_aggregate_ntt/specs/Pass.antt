@@ -84,6 +84,11 @@ with-b″ scratch regions count r n witness s = splice scratch (regions .b2) (b�
 abbrev pub with-φ-and-b″ : List ℕ → Strided → List ℕ → (alpha beta : ℕ) → List ℕ → Regions → (count r n : ℕ) → List ℕ → ℕ → List ℕ
 with-φ-and-b″ job constraints weights alpha beta scratch regions count r n witness s = with-b″ (with-φ job constraints weights alpha beta scratch regions count r n) regions count r n witness s
 
+-- the scratch with φ, and with b'' where it is asked for
+abbrev pub with-pass : (with-b : Bool) → List ℕ → Strided → List ℕ → (alpha beta : ℕ) → List ℕ → Regions → (count r n : ℕ) → List ℕ → ℕ → List ℕ
+with-pass with-b job constraints weights alpha beta scratch regions count r n witness s =
+    cond with-b (with-φ-and-b″ job constraints weights alpha beta scratch regions count r n witness s) (with-φ job constraints weights alpha beta scratch regions count r n)
+
 -- weights in NTT form are chosen, of 32 k at most
 abbrev pub one-pass-faster : (width alphas betas : ℕ) → Bool
 one-pass-faster width alphas betas = cond (ltb 32 betas) false (ntt-faster width alphas betas)

@@ -6,7 +6,7 @@ use Prim.Native.Nat.{ℕ, _+_, _-_, _*_, _≤_, _<_}
 use lib.Dec.{leb, ltb}
 use lib.ListN.{length, getD, replicate}
 use Rattle.math.specs.lists.Table.{table}
-use Rattle.math.specs.lists.Part.{part, splice}
+use Rattle.math.specs.lists.Part.{part}
 use Rattle.math.specs.lists.Sum.{Σ}
 use Rattle.spec_leaves.specs.Rq.{Element}
 use Rattle.spec_leaves.specs.Ring.{element}
@@ -15,7 +15,7 @@ use Rattle.ring_inner_product.specs.declared.Strided.{Strided}
 use Rattle.ring_inner_product.specs.Run.{Run, Within, further}
 use Rattle.core_aggregate.specs.Weighed.{Rows}
 use Rattle.ntt_product.specs.NttForm.{mostProducts}
-use Rattle.ntt_vectors.specs.NttForm.{ntt-form, ntt-words, NttForm, AllValues}
+use Rattle.ntt_vectors.specs.NttForm.{ntt-form, NttForm, AllValues}
 use Rattle.ntt_vectors.specs.Sums.{inverse-from}
 
 -- the product of a weight in NTT form and an element added to the sums
@@ -66,22 +66,17 @@ MixRoom job constraints scratch aggregated width to weights =
 
 -- weights alpha and weights beta, 96 at most
 abbrev pub Weights : (alphas betas : ℕ) → Type 0
-Weights alphas betas = (1 ≤ alphas) × (1 ≤ betas) × (alphas + betas ≤ 96)
+Weights alphas betas = alphas + betas ≤ 96
 
 -- the weights of both kinds lie within the slice, and their values have room
 abbrev pub WeightsRoom : List ℕ → (alpha alphas beta betas : ℕ) → List ℕ → Type 0
 WeightsRoom weights alpha alphas beta betas transformed =
     Run weights alpha 64 alphas × Run weights beta 64 betas × Weights alphas betas × (192 * (alphas + betas) ≤ length transformed)
 
--- a slice with the values of the weights of both kinds, one after the other
-abbrev pub with-weights : List ℕ → (alpha alphas beta betas : ℕ) → List ℕ → List ℕ
-with-weights weights alpha alphas beta betas transformed = splice (splice transformed 0 (ntt-words weights alpha alphas)) (192 * alphas) (ntt-words weights beta betas)
-
--- it holds their NTT form
+-- a slice holds the NTT form of the weights of both kinds, one after the other
 abbrev pub NttWeights : List ℕ → List ℕ → (alpha alphas beta betas : ℕ) → Type 0
 NttWeights transformed weights alpha alphas beta betas = NttForm transformed 0 weights alpha alphas × NttForm transformed (192 * alphas) weights beta betas
 
--- weights of both kinds, four to 96 together, and eight elements or more
+-- four to 96 weights of both kinds together, and eight elements or more
 abbrev pub ntt-faster : (width alphas betas : ℕ) → Bool
-ntt-faster width alphas betas =
-    cond (ltb alphas 1) false (cond (ltb betas 1) false (cond (ltb (alphas + betas) 4) false (cond (ltb 96 (alphas + betas)) false (leb 8 width))))
+ntt-faster width alphas betas = cond (ltb (alphas + betas) 4) false (cond (ltb 96 (alphas + betas)) false (leb 8 width))

@@ -20,7 +20,7 @@ mix-all-requires c κs =
     let b = c .before .before .before .before .before .before .before .before .before .before .before in
     let s = b .args in
     let p = b .pre in
-    let transformed = c .before .before .before .before .weights-to-ntt-form .ensures .1 in
+    let transformed = c .before .before .before .before .weights-to-ntt-form .ensures in
     let values = both-values _ (s .weights .now) (s .alpha) (s .beta) (s .constraints .count) (s .aggregated .count) (transformed .0) (transformed .1) in
     (c .before .before .before .before .before .before .before .twiddles .ensures, (p .0 .0, p .0 .3, p .0 .4, p .0 .5, values, omega arith))
 
@@ -28,7 +28,7 @@ returns : tie.Need-returns
 returns c =
     let b = c .before .before .before .before .before .before .before .before .before .before .before .before .before .before in
     let s = b .args in
-    let transformed = c .before .before .before .before .before .before .before .weights-to-ntt-form .ensures .1 in
+    let transformed = c .before .before .before .before .before .before .before .weights-to-ntt-form .ensures in
     c .before .before .mix-all .ensures
     ∙ ap (splice (s .scratch .now) (s .to))
     (ntt-mixed-all (s .job .now) (s .constraints) (s .scratch .now) (s .aggregated) (s .width) _ (s .weights .now) (s .alpha) (s .beta) (omega arith) (transformed .0) (transformed .1)

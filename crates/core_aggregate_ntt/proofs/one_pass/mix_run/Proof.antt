@@ -1,4 +1,4 @@
--- `mix_vector` meets its contract. The invariant: the first m elements are stored, and the sums of every k are those of m products.
+-- `mix_run` meets its contract. The invariant: the first m elements are stored, and the sums of every k are those of m products.
 use mathlib.Core.Path.{_≡_, refl, ap, _∙_}
 use Prim.Native.Nat.{ℕ, _+_, _-_, _*_, _≤_, _<_}
 use native.Mathlib.Omega.{arith}
@@ -15,8 +15,8 @@ use Rattle.ring_inner_product.specs.Run.{further}
 use Rattle.core_aggregate_ntt.proofs.Mixed.{ntt-mixed-before}
 use Rattle.core_aggregate_ntt.specs.Pass.{column-mixed}
 use Rattle.core_aggregate_ntt.proofs.OnePassForms.{run-same, Lines, lines-none, lines-next, lines-small, lines-total}
-use Rattle.core_aggregate_ntt.proofs.one_pass.mix_vector.Statement.{statement}
-use Rattle.core_aggregate_ntt.proofs.one_pass.mix_vector.Tie as tie
+use Rattle.core_aggregate_ntt.proofs.one_pass.mix_run.Statement.{statement}
+use Rattle.core_aggregate_ntt.proofs.one_pass.mix_run.Tie as tie
 
 abbrev Inv-loop : tie.InvT-loop
 Inv-loop job constraints scratch₀ aggregated to weights witness s-at n w totals count forms₀ m₀ scratch forms m =
@@ -100,8 +100,8 @@ returns c =
           (omega arith) (omega (arith, b .pre .1 .forms, l .inv .3)) (rw n at (l .inv .4)) (c .before .before .add-totals .ensures),
     )
 
-pub mix-vector-spec : {M : Type 1} → statement M
-mix-vector-spec =
+pub mix-run-spec : {M : Type 1} → statement M
+mix-run-spec =
     tie.close
     (tie.spec
     Inv-loop
