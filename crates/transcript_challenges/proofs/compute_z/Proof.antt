@@ -41,7 +41,8 @@ loop-again c =
     let s = c .before .before .before .before .before .before .before .before .before .before .before .before .before .before .args in
     let l = c .before .before .before .before .before .before .before .loop in
     let z = z-of (s .s .now) (s .s-at) (s .c .now) (s .c-at) (s .r) (s .n) in
-    let column = c .before .before .before .before .inner-product .ensures ∙ powers-inner-product _ (s .s .now) (s .s-at + 64 * l .m) (64 * s .n) (s .c .now) (s .c-at) (s .r) (c .before .before .before .before .before .before .before .before .before .store .ensures .0) in
+    let powers = c .before .before .before .before .before .before .before .before .before .store .ensures .0 in
+    let column = c .before .before .before .before .inner-product .ensures ∙ powers-inner-product _ (s .s .now) (s .s-at + 64 * l .m) (64 * s .n) (s .c .now) (s .c-at) (s .r) powers in
     let next = words-of-column _ (s .s .now) (s .s-at) (s .n) (l .m) (s .r) (run (s .c .now) (s .c-at) 64) column in
     let filled = fill-next (s .out .now) (s .out-at) _ _ _ (l .m) (l .place) z (l .inv .2) (l .inv .1) next (c .before .before .store2 .ensures) in
     (omega arith, omega arith, filled, length-filled _ (s .out .now) (s .out-at) (flat (table (l .m + 1) z)) filled)
