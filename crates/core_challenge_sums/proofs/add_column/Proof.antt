@@ -29,9 +29,9 @@ add-term-requires c κs =
 returns : tie.Need-returns
 returns c =
     let s = c .before .before .before .before .before .before .before .before .before .before .before .before .args in
+    let made = c .before .before .before .before .before .before .inner-product .ensures ∙ product-words (s .powers .now) (s .from .now) (s .at) (s .r) (s .n) (s .m) in
     c .before .before .add-term .ensures
-    ∙ ap (term-added (s .sums .now) (s .z .now) (192 * s .m))
-    (whole-words _ (combined (s .from .now) (s .at) (s .r) (s .n) (s .powers .now) (s .m)) (c .before .before .before .before .before .before .inner-product .ensures ∙ product-words (s .powers .now) (s .from .now) (s .at) (s .r) (s .n) (s .m)))
+    ∙ ap (term-added (s .sums .now) (s .z .now) (192 * s .m)) (whole-words _ (combined (s .from .now) (s .at) (s .r) (s .n) (s .powers .now) (s .m)) made)
 
 pub add-column-spec : {M : Type 1} → statement M
 add-column-spec =

@@ -13,13 +13,16 @@ weigh-requires : tie.Need-weigh-requires
 weigh-requires c κs =
     let p = c .before .before .before .before .before .before .before .before .before .before .before .before .before .before .before .pre in
     let z = ntt-form-values _ _ _ _ _ (c .before .before .before .before .before .before .before .to-ntt-form .ensures .1) in
-    (c .before .before .before .before .before .before .before .before .before .before .twiddles .ensures, (p .in-job .0, c .before .before .before .before .store .ensures .0 .places, p .few, p .narrow, p .in-job .1), z)
+    let places = c .before .before .before .before .store .ensures .0 .places in
+    (c .before .before .before .before .before .before .before .before .before .before .twiddles .ensures, (p .in-job .0, places, p .few, p .narrow, p .in-job .1), z)
 
 weigh-requires-2 : tie.Need-weigh-requires-2
 weigh-requires-2 c κs =
     let p = c .before .before .before .before .before .before .before .before .before .before .before .before .before .before .before .before .before .before .before .pre in
     let z = ntt-form-values _ _ _ _ _ (c .before .before .before .before .before .before .before .before .before .before .before .to-ntt-form .ensures .1) in
-    (c .before .before .before .before .before .before .before .before .before .before .before .before .before .before .twiddles .ensures, (p .in-scratch .0, c .before .before .before .before .before .before .before .before .store .ensures .0 .places, p .few, p .narrow, p .in-scratch .1), z)
+    let places = c .before .before .before .before .before .before .before .before .store .ensures .0 .places in
+    let w = c .before .before .before .before .before .before .before .before .before .before .before .before .before .before .twiddles .ensures in
+    (w, (p .in-scratch .0, places, p .few, p .narrow, p .in-scratch .1), z)
 
 returns : tie.Need-returns
 returns c =

@@ -36,8 +36,8 @@ sum-of-lines-requires c κs =
     let s = c .before .before .before .before .before .before .before .before .before in
     let a = s .args in
     constraints-require (a .job .now) (a .transcript .now) (a .params) (a .regions) (a .scratch .now) (s .pre .0 .posed) (s .pre .1) (a .randomness .now) _ _ _ _
-    (drawn-fewer 7 5 (a .job .now) (a .randomness .now) (omega arith) (s .pre .0 .drawn)) (s .pre .2 .0 .0) (omega arith) (c .before .before .before .of-job .ensures) (c .before .before .of-randomness .ensures)
-    (c .before .of-randomness2 .ensures) (c .of-transcript .ensures)
+    (drawn-fewer 7 5 (a .job .now) (a .randomness .now) (omega arith) (s .pre .0 .drawn)) (s .pre .2 .0 .0) (omega arith) (c .before .before .before .of-job .ensures)
+    (c .before .before .of-randomness .ensures) (c .before .of-randomness2 .ensures) (c .of-transcript .ensures)
 
 returns : tie.Need-returns
 returns c =
@@ -45,7 +45,8 @@ returns c =
     let a = s .args in
     c .sum-of-lines .ensures
     ∙ ap words (lines-summed (a .job .now) (a .randomness .now) (a .transcript .now) (a .params) (a .regions) (a .scratch .now) (s .pre .1 .same) (s .pre .2 .0 .0) _ _ _ _
-    (c .before .before .before .before .of-job .ensures) (c .before .before .before .of-randomness .ensures) (c .before .before .of-randomness2 .ensures) (c .before .of-transcript .ensures) (s .pre .2 .1))
+    (c .before .before .before .before .of-job .ensures) (c .before .before .before .of-randomness .ensures) (c .before .before .of-randomness2 .ensures)
+    (c .before .of-transcript .ensures) (s .pre .2 .1))
 
 pub by-constraints-spec : {M : Type 1} → statement M
 by-constraints-spec =

@@ -24,8 +24,8 @@ sum-of-lines-requires c κs =
     let a = s .args in
     let w = s .pre .0 .posed in
     let m = φ-made (a .job .now) (a .randomness .now) (a .params) (a .regions) (a .scratch .now) (s .pre .1) _ (c .before .before .before .before .phi .ensures) .ready in
-    lines-requires (a .transcript .now) (a .params) (a .regions) (c .before .before .before .before .phi .last .1 .1 .1 .1 .0) (received w) _ (c-within (a .job .now) (a .transcript .now) (a .params) (a .regions) _ w m)
-    (φ-within (a .job .now) (a .transcript .now) (a .params) (a .regions) _ w m) (c .before .of-transcript .ensures)
+    lines-requires (a .transcript .now) (a .params) (a .regions) (c .before .before .before .before .phi .last .1 .1 .1 .1 .0) (received w) _
+    (c-within (a .job .now) (a .transcript .now) (a .params) (a .regions) _ w m) (φ-within (a .job .now) (a .transcript .now) (a .params) (a .regions) _ w m) (c .before .of-transcript .ensures)
 
 returns : tie.Need-returns
 returns c =

@@ -32,7 +32,8 @@ check-phi-and-relation-requires : tie.Need-check-phi-and-relation-requires
 check-phi-and-relation-requires c κs =
     let s = c .before .before .before .before .before .before .before .before .before .before .before .before .before in
     let a = s .args in
-    let d = double-made (a .job .now) (a .randomness .now) (a .params) (a .regions) (a .scratch .now) (s .pre .1) _ (c .before .before .before .before .before .before .before .double-prime .ensures) in
+    let double = c .before .before .before .before .before .before .before .double-prime .ensures in
+    let d = double-made (a .job .now) (a .randomness .now) (a .params) (a .regions) (a .scratch .now) (s .pre .1) _ double in
     let e = c .before .before .before .sum-of-lines .ensures in
     ((s .pre .0, ready-changed _ _ _ _ (d .ready) _ (e .1 .0 .size), e .1 .1), e .0)
 
@@ -40,7 +41,8 @@ returns : tie.Need-returns
 returns c =
     let s = c .before .before .before .before .before .before .before .before .before .before .before .before .before .before .before .before in
     let a = s .args in
-    let d = double-made (a .job .now) (a .randomness .now) (a .params) (a .regions) (a .scratch .now) (s .pre .1) _ (c .before .before .before .before .before .before .before .before .before .before .double-prime .ensures) in
+    let double = c .before .before .before .before .before .before .before .before .before .before .double-prime .ensures in
+    let d = double-made (a .job .now) (a .randomness .now) (a .params) (a .regions) (a .scratch .now) (s .pre .1) _ double in
     let e = c .before .before .check-phi-and-relation .ensures in
     (e .0, unchanged-trans _ _ _ _ (unchanged-trans _ _ _ _ (d .unchanged) (c .before .before .before .before .before .before .sum-of-lines .ensures .1 .0)) (e .1))
 
