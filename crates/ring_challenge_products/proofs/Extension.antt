@@ -99,7 +99,8 @@ module _ (a o t e : List ℕ) (words : (i : ℕ) → i < 64 → coeff a i < 2 ^ 
   lower-half : (i : ℕ) → i < 64 → getD o i 0 % Q ≡ zneg (coeff a i) % Q
   unfolding extended
   lower-half i h =
-      ap (λ v. v % Q) (ap (λ l. getD l i 0) eo ∙ getD-table 128 (extendedCoeff a) i 0 (omega arith) ∙ simp (lt-ltb i 64 h)) ∙ reduced (lack (coeff a i)) (zneg (coeff a i)) (lack-neg (coeff a i) (words i h))
+      ap (λ v. v % Q) (ap (λ l. getD l i 0) eo ∙ getD-table 128 (extendedCoeff a) i 0 (omega arith) ∙ simp (lt-ltb i 64 h))
+      ∙ reduced (lack (coeff a i)) (zneg (coeff a i)) (lack-neg (coeff a i) (words i h))
 
   upper-half : (i : ℕ) → i < 64 → getD o (64 + i) 0 ≡ coeff a i
   unfolding extended

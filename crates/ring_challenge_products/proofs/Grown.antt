@@ -51,9 +51,9 @@ module _ (sums : List ℕ) where
           joined _ _ _ _ _ _ _ _ _ _ _ _ _ _ _ _ _ _ _ (h .each k l) (g .each k l) (ap (λ n. Σ n f) more ∙ Σ-seven (7 * b) f) (read k 0 p₀ _ e₀ (omega arith)) (read k 1 p₁ _ e₁ (omega arith))
           (read k 2 p₂ _ e₂ (omega arith)) (read k 3 p₃ _ e₃ (omega arith)) (read k 4 p₄ _ e₄ (omega arith)) (read k 5 p₅ _ e₅ (omega arith)) (read k 6 p₆ _ e₆ (omega arith))
 
--- a place of the row
-pub place-small : (powers : List ℕ) (at t place x : ℕ) → Row powers at → t < 42 → place ≡ at + t → x ≡ getD powers place 0 → x ≤ 384
-place-small powers at t place x r h e p = omega (arith, r .below t h, p, ap (λ i. getD powers i 0) e)
+-- place i of seven
+pub place-small : (powers : List ℕ) (at b : ℕ) → Row powers at → b < 6 → (i place : ℕ) → i < 7 → place ≡ at + (7 * b + i) → getD powers place 0 ≤ 384
+place-small powers at b r h i place l e = omega (arith, r .below (7 * b + i) (omega arith), ap (λ j. getD powers j 0) e)
 
 -- such sums stay small
 pub row-small : (powers : List ℕ) (at : ℕ) (e : List ℕ) (n k : ℕ) → Row powers at → Entries e → n ≤ 42 → k < 64 → row-sum powers at e n k ≤ n * 2 ^ 33

@@ -2,7 +2,6 @@
 use ring_rq::rq::Rq;
 use ring_rq_product::product;
 use ring_rq_product::sums;
-use ring_zq::wide::wide_usize;
 ghost use mathlib.Core.Path.{_≡_};
 ghost use Prim.Native.Nat.{_+_, _*_, _≤_, _^_};
 ghost use lib.ListN.{length, getD};
@@ -77,19 +76,16 @@ fn add_row(sums: &mut [u64], powers: &[u32], at: usize, e: &[u64])
     requires { ⌜ UpTo (2 ^ 61) (now sums) × Row (now powers) at × Entries (now e) ⌝ }
     ensures { λ _. ⌜ Grown (now (sums .entry)) (now (sums .exit)) (row-sum (now (powers .entry)) at (now (e .entry)) 42) ⌝ }
 {
-    for b in 0..6 {
-        let t = at + 7 * b;
-        add_seven(
-            sums,
-            e,
-            wide_usize(powers[t]),
-            wide_usize(powers[t + 1]),
-            wide_usize(powers[t + 2]),
-            wide_usize(powers[t + 3]),
-            wide_usize(powers[t + 4]),
-            wide_usize(powers[t + 5]),
-            wide_usize(powers[t + 6]),
-        );
+    for g in 0..6 {
+        let t = at + 7 * g;
+        let a = powers[t] as usize;
+        let b = powers[t + 1] as usize;
+        let c = powers[t + 2] as usize;
+        let d = powers[t + 3] as usize;
+        let p = powers[t + 4] as usize;
+        let q = powers[t + 5] as usize;
+        let s = powers[t + 6] as usize;
+        add_seven(sums, e, a, b, c, d, p, q, s);
     }
 }
 

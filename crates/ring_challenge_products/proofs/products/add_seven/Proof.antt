@@ -1,7 +1,7 @@
 -- `add_seven` meets its contract. The invariant: the first k sums have grown.
 use mathlib.Core.Path.{_≡_, refl, sym, ap, _∙_}
 use mathlib.Core.List.{List}
-use Prim.Native.Nat.{ℕ, _+_, _-_, _≤_, _<_, _^_}
+use Prim.Native.Nat.{ℕ, _+_, _-_, _*_, _≤_, _<_, _^_}
 use native.Mathlib.Nat.{zero-add}
 use native.Mathlib.Omega.{arith}
 use lib.ListN.{length, getD, set, length-set}
@@ -28,14 +28,29 @@ loop-holds c = (omega arith, sym (splice-nil _ _), refl)
 e-at : (e : List ℕ) (x k : ℕ) → Entries e → x ≤ 384 → k < 64 → getD e (x + k) 0 ≤ 2 ^ 33
 e-at e x k f h l = f .small (x + k) (omega arith)
 
+-- seven of them
+seven-small : (c : tie.Start Inv-loop μ-loop) (k : ℕ) → k < 64
+    → seven-sum (c .args .e .now) (c .args .a) (c .args .b) (c .args .c) (c .args .d) (c .args .p) (c .args .q) (c .args .s) k ≤ 7 * 2 ^ 33
+seven-small c k l =
+    let e = c .args .e .now in
+    let f = c .pre .1 in
+    omega (
+      arith,
+      e-at e (c .args .a) k f (omega arith) l,
+      e-at e (c .args .b) k f (omega arith) l,
+      e-at e (c .args .c) k f (omega arith) l,
+      e-at e (c .args .d) k f (omega arith) l,
+      e-at e (c .args .p) k f (omega arith) l,
+      e-at e (c .args .q) k f (omega arith) l,
+      e-at e (c .args .s) k f (omega arith) l,
+    )
+
 add-sums-14 : tie.Need-add-sums-14 Inv-loop μ-loop
 add-sums-14 c =
     let s = c .before .before .before .before .before .before .before .before .before .before in
     let m = c .before .before .before .before .before .before .before .before .before .loop in
-    let k = m .k in
-    let l : k < 64 = omega arith in
-    let sum : getD (m .sums) k 0 ≤ 2 ^ 62 = omega (arith, unfilled (s .args .sums .now) (m .sums) k k _ 0 (m .inv .1) (omega arith), s .pre .0 .each k l) in
-    omega (arith, sum, e-at (s .args .e .now) (s .args .a) k (s .pre .1) (omega arith) l, e-at (s .args .e .now) (s .args .b) k (s .pre .1) (omega arith) l, e-at (s .args .e .now) (s .args .c) k (s .pre .1) (omega arith) l, e-at (s .args .e .now) (s .args .d) k (s .pre .1) (omega arith) l, e-at (s .args .e .now) (s .args .p) k (s .pre .1) (omega arith) l, e-at (s .args .e .now) (s .args .q) k (s .pre .1) (omega arith) l, e-at (s .args .e .now) (s .args .s) k (s .pre .1) (omega arith) l)
+    let l : m .k < 64 = omega arith in
+    omega (arith, unfilled (s .args .sums .now) (m .sums) (m .k) (m .k) _ 0 (m .inv .1) (omega arith), s .pre .0 .each (m .k) l, seven-small s (m .k) l)
 
 loop-again : tie.Need-loop-again Inv-loop μ-loop
 loop-again c =
@@ -73,27 +88,27 @@ add-seven-spec =
     (λ c. omega arith)
     (λ c. omega arith)
     (λ c. omega arith)
-    (λ c. let s = c .before .before .before .before .before in let k = c .before .before .before .before .loop .k in let l : k < 64 = omega arith in omega (arith, e-at (s .args .e .now) (s .args .a) k (s .pre .1) (omega arith) l, e-at (s .args .e .now) (s .args .b) k (s .pre .1) (omega arith) l))
+    (λ c. let l = c .before .before .before .before in omega (arith, seven-small (l .before) (l .loop .k) (omega arith)))
     (λ c. omega arith)
     (λ c. omega arith)
     (λ c. omega arith)
-    (λ c. let s = c .before .before .before .before .before .before in let k = c .before .before .before .before .before .loop .k in let l : k < 64 = omega arith in omega (arith, e-at (s .args .e .now) (s .args .a) k (s .pre .1) (omega arith) l, e-at (s .args .e .now) (s .args .b) k (s .pre .1) (omega arith) l, e-at (s .args .e .now) (s .args .c) k (s .pre .1) (omega arith) l))
+    (λ c. let l = c .before .before .before .before .before in omega (arith, seven-small (l .before) (l .loop .k) (omega arith)))
     (λ c. omega arith)
     (λ c. omega arith)
     (λ c. omega arith)
-    (λ c. let s = c .before .before .before .before .before .before .before in let k = c .before .before .before .before .before .before .loop .k in let l : k < 64 = omega arith in omega (arith, e-at (s .args .e .now) (s .args .a) k (s .pre .1) (omega arith) l, e-at (s .args .e .now) (s .args .b) k (s .pre .1) (omega arith) l, e-at (s .args .e .now) (s .args .c) k (s .pre .1) (omega arith) l, e-at (s .args .e .now) (s .args .d) k (s .pre .1) (omega arith) l))
+    (λ c. let l = c .before .before .before .before .before .before in omega (arith, seven-small (l .before) (l .loop .k) (omega arith)))
     (λ c. omega arith)
     (λ c. omega arith)
     (λ c. omega arith)
-    (λ c. let s = c .before .before .before .before .before .before .before .before in let k = c .before .before .before .before .before .before .before .loop .k in let l : k < 64 = omega arith in omega (arith, e-at (s .args .e .now) (s .args .a) k (s .pre .1) (omega arith) l, e-at (s .args .e .now) (s .args .b) k (s .pre .1) (omega arith) l, e-at (s .args .e .now) (s .args .c) k (s .pre .1) (omega arith) l, e-at (s .args .e .now) (s .args .d) k (s .pre .1) (omega arith) l, e-at (s .args .e .now) (s .args .p) k (s .pre .1) (omega arith) l))
+    (λ c. let l = c .before .before .before .before .before .before .before in omega (arith, seven-small (l .before) (l .loop .k) (omega arith)))
     (λ c. omega arith)
     (λ c. omega arith)
     (λ c. omega arith)
-    (λ c. let s = c .before .before .before .before .before .before .before .before .before in let k = c .before .before .before .before .before .before .before .before .loop .k in let l : k < 64 = omega arith in omega (arith, e-at (s .args .e .now) (s .args .a) k (s .pre .1) (omega arith) l, e-at (s .args .e .now) (s .args .b) k (s .pre .1) (omega arith) l, e-at (s .args .e .now) (s .args .c) k (s .pre .1) (omega arith) l, e-at (s .args .e .now) (s .args .d) k (s .pre .1) (omega arith) l, e-at (s .args .e .now) (s .args .p) k (s .pre .1) (omega arith) l, e-at (s .args .e .now) (s .args .q) k (s .pre .1) (omega arith) l))
+    (λ c. let l = c .before .before .before .before .before .before .before .before in omega (arith, seven-small (l .before) (l .loop .k) (omega arith)))
     (λ c. omega arith)
     (λ c. omega arith)
     (λ c. omega arith)
-    (λ c. let s = c .before .before .before .before .before .before .before .before .before .before in let k = c .before .before .before .before .before .before .before .before .before .loop .k in let l : k < 64 = omega arith in omega (arith, e-at (s .args .e .now) (s .args .a) k (s .pre .1) (omega arith) l, e-at (s .args .e .now) (s .args .b) k (s .pre .1) (omega arith) l, e-at (s .args .e .now) (s .args .c) k (s .pre .1) (omega arith) l, e-at (s .args .e .now) (s .args .d) k (s .pre .1) (omega arith) l, e-at (s .args .e .now) (s .args .p) k (s .pre .1) (omega arith) l, e-at (s .args .e .now) (s .args .q) k (s .pre .1) (omega arith) l, e-at (s .args .e .now) (s .args .s) k (s .pre .1) (omega arith) l))
+    (λ c. let l = c .before .before .before .before .before .before .before .before .before in omega (arith, seven-small (l .before) (l .loop .k) (omega arith)))
     add-sums-14
     (λ c. omega arith)
     (λ c. omega arith)

@@ -19,9 +19,11 @@ returns : tie.Need-returns
 returns c =
     let a = c .before .before .before .before .before .before .before .before .before .before .before .before .before .before .before .before .before .before .args .a in
     let once = c .before .before .before .before .before .before .before .before .before .before .before .before .before .before .before .before .before .extend in
+    let second = c .before .before .before .before .before .before .before .before .before in
+    let first = second .before .before .before .before in
     let twice = c .before .before .before .before .before .before .before .before .before .before .before .before .before .before .before .before .doubled in
     extension a (once .result) (twice .result) _ (λ i l. let w : Fits w32 (getD a i 0) = search needs in omega arith) (once .ensures) (twice .ensures)
-    (stored-by (once .result) (twice .result) _ _ _ _ (c .before .before .before .before .before .before .before .before .before .before .before .before .before .copy .ensures) (c .before .before .before .before .before .before .before .before .before .copy2 .ensures) (c .before .before .before .before .before .copy3 .ensures) (c .before .copy4 .ensures))
+    (stored-by (once .result) (twice .result) _ _ _ _ (first .copy .ensures) (second .copy2 .ensures) (c .before .before .before .before .before .copy3 .ensures) (c .before .copy4 .ensures))
 
 pub extend-spec : {M : Type 1} → statement M
 extend-spec =

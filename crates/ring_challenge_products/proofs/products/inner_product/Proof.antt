@@ -38,6 +38,11 @@ add-row-requires c κs =
       c .before .before .extend .ensures .entries,
     )
 
+add-j : tie.Need-add-j Inv-loop μ-loop
+add-j c =
+    let run = c .before .before .before .before .before .before .before .before .before .before .before .pre .1 in
+    omega (arith, run .within (c .before .before .before .before .before .before .before .before .loop .i) (omega arith), run .few, run .near, run .first)
+
 loop-again : tie.Need-loop-again Inv-loop μ-loop
 loop-again c =
     let s = c .before .before .before .before .before .before .before .before .before .before .before in
@@ -75,7 +80,7 @@ inner-product-spec =
     (λ c. omega (arith, c .before .before .before .before .before .before .before .before .pre .1 .few))
     (λ c. omega arith)
     add-row-requires
-    (λ c. omega (arith, c .before .before .before .before .before .before .before .before .before .before .before .pre .1 .within (c .before .before .before .before .before .before .before .before .loop .i) (omega arith), c .before .before .before .before .before .before .before .before .before .before .before .pre .1 .few, c .before .before .before .before .before .before .before .before .before .before .before .pre .1 .near, c .before .before .before .before .before .before .before .before .before .before .before .pre .1 .first))
+    add-j
     (λ c. omega arith)
     (λ c. omega arith)
     loop-again
