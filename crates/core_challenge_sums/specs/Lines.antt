@@ -49,5 +49,5 @@ pub record LinesRoom (job : List ℕ) (constraints : Strided) (weights : List �
     pub in-scratch : Rows scratch aggregated (r * n) × Run weights beta 64 (aggregated .count)
     pub challenges : (c-at + 64 * r ≤ length scratch) × AllSparse scratch c-at r
     pub vector : z-at + 64 * n ≤ length transcript
-    pub few : r ≤ 64
+    pub few : r ≤ 16
     pub narrow : n ≤ 64

@@ -119,7 +119,7 @@ pub fn sum_of_lines(
     let w = table::twiddles();
     let mut z = [0u32; 12288];
     vectors::to_ntt_form(transcript, z_at, n, &w, &mut z, 0);
-    let mut places = [0u32; 4096];
+    let mut places = [0u32; 1024];
     powers::store(scratch, c_at, r, &mut places);
     let first = weigh(job, constraints, r, n, &places, &z, randomness, alpha, &w);
     let second = weigh(scratch, aggregated, r, n, &places, &z, randomness, beta, &w);

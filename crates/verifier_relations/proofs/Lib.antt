@@ -1,3 +1,2 @@
-mod Sparse
 pub mod Scratch
 pub mod Sides

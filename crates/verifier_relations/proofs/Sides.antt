@@ -9,6 +9,7 @@ use lib.ListN.{length}
 use Rattle.spec_leaves.specs.Answer.{Answer, fine, failed}
 use Rattle.spec_leaves.specs.Rq.{Element, radd}
 use Rattle.spec_leaves.specs.Ring.{RqOps, words, element}
+use Rattle.math.specs.lists.Part.{part}
 use Rattle.math.proofs.algebra.Sum.{sum-ext}
 use Rattle.math.proofs.algebra.Dot.{dot-ext}
 use Rattle.ring_inner_product.specs.Run.{Run, run, further}
@@ -23,6 +24,7 @@ use Rattle.ring_rq_matrix.specs.Region.{vector, triangle-at}
 use Rattle.ring_rq_matrix.proofs.Place.{rows-within}
 use Rattle.ring_rq_matrix.proofs.Word.{stands-for, words-of-sum, words-of-vector}
 use Rattle.ring_rq_matrix.proofs.Formula.{sum-of-t, sum-of-g, sum-of-h, sum-of-φ}
+use Rattle.transcript_challenges.proofs.Formula.{challenges-sparse}
 use Rattle.core_aggregate.specs.Weighed.{mixed, rows-at}
 use Rattle.core_aggregate.proofs.Grid.{row-run}
 use Rattle.core_aggregate.proofs.Laws.{job-at, randomness-at, φ-sum-is}
@@ -41,7 +43,6 @@ use Rattle.core_workspace.proofs.Ready.{φ-end, a-end, g-end, c-end, t-end, u-e
 use Rattle.verifier_common.specs.Answers.{az, z-inner, phi}
 use Rattle.verifier_common.specs.Work.{Received, Posed, equal}
 use Rattle.verifier_relations.specs.Weighed.{challenges-in, ChallengesWithin, LinesWithin, az-of, z-inner-of, phi-of, φ-lines}
-use Rattle.verifier_relations.proofs.Sparse.{challenges-sparse}
 use Rattle.verifier_common.proofs.Runs.{require-equal}
 use Rattle.verifier_common.proofs.Verdicts.{first-failed}
 use Rattle.verifier_common.proofs.Sent.{transcript-at, reckoned, received, placed, z-within, z-run, t-within}
@@ -77,6 +78,11 @@ module _ (J X : List ℕ) (params : EnvironmentParameters) (regions : Regions) (
         b″-end J params regions S ready,
       ))
 
+  -- the challenges have few coefficients
+  sparse : (R : List ℕ) → Holds S (regions .challenges) (c-words J R) → AllSparse S (regions .challenges) (parameters J .r)
+  sparse R holds =
+      challenges-sparse S (regions .challenges) (parameters J .r) (λ i. part R (randomness-at J 5 + 41 * i) 41) (λ i. part R (randomness-at J 6 + 63 * i) 63) holds
+
   -- what `core_challenge_sums::sum_of_lines` requires
   pub constraints-require : (R : List ℕ) (at alpha beta z-at : ℕ) → Drawn 5 J R → Holds S (regions .challenges) (c-words J R) → length R < 2 ^ 61
       → at ≡ 31 + start (job-sections (parametersOf params)) 4 → alpha ≡ start (randomness-sections (parametersOf params)) 3
@@ -89,9 +95,9 @@ module _ (J X : List ℕ) (params : EnvironmentParameters) (regions : Regions) (
       record {
         in-job = (m .0, m .1);
         in-scratch = (m .3, m .2);
-        challenges = (c-within, subst (λ Q. AllSparse S (regions .challenges) (Q .r)) (sym (ready .same)) (challenges-sparse J R S (regions .challenges) holds));
+        challenges = (c-within, subst (λ Q. AllSparse S (regions .challenges) (Q .r)) (sym (ready .same)) (sparse R holds));
         vector = z-within X params (received s) z-at e;
-        few = omega (arith, reckoned s .within .r .1);
+        few = reckoned s .within .r .1;
         narrow = reckoned s .within .n .1;
       }
 

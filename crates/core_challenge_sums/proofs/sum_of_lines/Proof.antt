@@ -1,5 +1,6 @@
 -- `sum_of_lines` meets its contract.
 use mathlib.Core.Path.{ap, _∙_}
+use native.Mathlib.Omega.{arith}
 use borrow.Author.Needs.{needs}
 use Rattle.spec_leaves.specs.Ring.{words}
 use Rattle.ring_rq_matrix.proofs.Word.{stands-for, words-of-sum}
@@ -14,7 +15,7 @@ weigh-requires c κs =
     let p = c .before .before .before .before .before .before .before .before .before .before .before .before .before .before .before .pre in
     let z = ntt-form-values _ _ _ _ _ (c .before .before .before .before .before .before .before .to-ntt-form .ensures .1) in
     let places = c .before .before .before .before .store .ensures .0 .places in
-    (c .before .before .before .before .before .before .before .before .before .before .twiddles .ensures, (p .in-job .0, places, p .few, p .narrow, p .in-job .1), z)
+    (c .before .before .before .before .before .before .before .before .before .before .twiddles .ensures, (p .in-job .0, places, omega (arith, p .few), p .narrow, p .in-job .1), z)
 
 weigh-requires-2 : tie.Need-weigh-requires-2
 weigh-requires-2 c κs =
@@ -22,7 +23,7 @@ weigh-requires-2 c κs =
     let z = ntt-form-values _ _ _ _ _ (c .before .before .before .before .before .before .before .before .before .before .before .to-ntt-form .ensures .1) in
     let places = c .before .before .before .before .before .before .before .before .store .ensures .0 .places in
     let w = c .before .before .before .before .before .before .before .before .before .before .before .before .before .before .twiddles .ensures in
-    (w, (p .in-scratch .0, places, p .few, p .narrow, p .in-scratch .1), z)
+    (w, (p .in-scratch .0, places, omega (arith, p .few), p .narrow, p .in-scratch .1), z)
 
 returns : tie.Need-returns
 returns c =
