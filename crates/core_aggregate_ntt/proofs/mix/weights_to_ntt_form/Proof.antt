@@ -30,8 +30,10 @@ returns : tie.Need-returns
 returns c =
     let b = c .before .before .before .before .before .before .before .before .before .before .before .before .before in
     let s = b .args in
-    let words : (j : ℕ) → getD (s .weights .now) j 0 ≤ 4294967295 = λ j. omega (arith, c .before .before .before .before .before .before .before .before .before .before .before .before .shared-slice-known .given j) in
-    let first = form-from _ 0 (s .weights .now) (s .alpha) (s .alphas) _ words (c .before .before .before .before .before .before .before .before .before .first-of .ensures .0) (c .before .before .before .before .before .before .to-ntt-form .ensures .1) in
+    let given = c .before .before .before .before .before .before .before .before .before .before .before .before .shared-slice-known .given in
+    let words : (j : ℕ) → getD (s .weights .now) j 0 ≤ 4294967295 = λ j. omega (arith, given j) in
+    let place = c .before .before .before .before .before .before .before .before .before .first-of .ensures .0 in
+    let first = form-from _ 0 (s .weights .now) (s .alpha) (s .alphas) _ words place (c .before .before .before .before .before .before .to-ntt-form .ensures .1) in
     let second = c .before .before .to-ntt-form2 .ensures in (
       ntt-form-before _ 0 (s .weights .now) (s .alpha) _ (192 * s .alphas) _ (s .alphas) (second .0) (omega arith) first,
       form-from _ (192 * s .alphas) (s .weights .now) (s .beta) (s .betas) _ words (c .before .before .before .before .before .before .before .before .first-of2 .ensures .0) (second .1),

@@ -48,7 +48,14 @@ mix-run-requires c κs =
     )
 
 add-c : tie.Need-add-c Inv-loop μ-loop
-add-c c = omega (arith, c .before .before .before .before .before .before .before .before .before .next-run .ensures, c .before .before .before .before .before .before .before .before .before .before .before .before .before .before .before .before .before .before .pre .1 .room)
+add-c c =
+    let n = c .before .before .before .before .before .before .before .before .before in
+    omega (arith, n .next-run .ensures, n .before .before .before .before .before .before .before .before .before .pre .1 .room)
+
+loop-less : tie.Need-loop-less Inv-loop μ-loop
+loop-less c =
+    let n = c .before .before .before .before .before .before .before .before .before .next-run .ensures in
+    omega (arith, n .1, n .2 (omega arith))
 
 loop-again : tie.Need-loop-again Inv-loop μ-loop
 loop-again c =
@@ -95,7 +102,7 @@ mix-runs-spec =
     (λ c. omega (arith, c .before .before .before .before .before .before .before .before .before .before .before .before .pre .1 .vectors))
     mix-run-requires
     add-c
-    (λ c. omega (arith, c .before .before .before .before .before .before .before .before .before .next-run .ensures .1, c .before .before .before .before .before .before .before .before .before .next-run .ensures .2 (omega arith)))
+    loop-less
     loop-again
     (λ c. search needs)
     (λ c. search needs)

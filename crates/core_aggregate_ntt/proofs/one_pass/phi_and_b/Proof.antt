@@ -39,7 +39,9 @@ returns-2 c =
     ∙ ap (λ x. with-b″ x (s .regions) (s .count) (s .r) (s .n) (s .witness .now) (s .s)) (c .before .before .before .before .before .before .before .aggregate .ensures))
 
 returns-3 : tie.Need-returns-3
-returns-3 c = chosen-second (c .before .before .before .before .before .before .before .before .before .before .before .args .with-b) _ _ _ (c .if2 .left) (c .before .before .before .aggregate .ensures)
+returns-3 c =
+    let s = c .before .before .before .before .before .before .before .before .before .before .before .args in
+    chosen-second (s .with-b) _ _ _ (c .if2 .left) (c .before .before .before .aggregate .ensures)
 
 pub phi-and-b-spec : {M : Type 1} → statement M
 phi-and-b-spec =
