@@ -9,7 +9,7 @@ use Rattle.core_challenge_sums.proofs.line.Tie as tie
 add-columns-requires : tie.Need-add-columns-requires
 add-columns-requires c κs =
     let b = c .before .before .before .before .before in
-    (b .pre .0, b .pre .1, b .pre .2, none-small (b .args .n) (b .pre .1 .3))
+    (b .pre .0, b .pre .1, b .pre .2, none-small (b .args .n) (omega (arith, b .pre .1 .3)))
 
 inverse-requires : tie.Need-inverse-requires
 inverse-requires c κs =
