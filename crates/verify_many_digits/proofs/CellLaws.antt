@@ -1,6 +1,6 @@
 -- Digits in NTT form, stored cell after cell and list after list.
 use mathlib.Core.Path.{_≡_, refl, sym, ap, ap₂, subst, _∙_}
-use mathlib.Core.List.{List, [], _++_, append-assoc, flatMap}
+use mathlib.Core.List.{List, _++_, append-assoc, flatMap}
 use Prim.Native.Nat.{ℕ, _+_, _*_, _≤_, _<_}
 use native.Mathlib.Decide.{decLt}
 use native.Mathlib.Omega.{arith}
@@ -9,7 +9,6 @@ use Rattle.math.specs.lists.Table.{table, cat}
 use Rattle.math.specs.lists.Part.{part, splice}
 use Rattle.math.proofs.lists.Cat.{cat-suc}
 use Rattle.math.proofs.lists.Splice.{splice-nil, splice-append, getD-part}
-use Rattle.spec_leaves.specs.Zq.{Canonical}
 use Rattle.spec_leaves.specs.Rq.{Element, AllCanonical}
 use Rattle.spec_protocol.specs.Parameters.{Parameters, T, triangular}
 use Rattle.spec_protocol.specs.Views.{message}
@@ -23,7 +22,7 @@ use Rattle.commitments_outer.proofs.Formula.{digits, vectors-cells, triangle-ce
 use Rattle.verifier_common.proofs.Sent.{transcript-at}
 use Rattle.verify_many_windows.specs.Held.{digits-t, digits-g, digits-h}
 use Rattle.verify_many_windows.specs.Digits.{digit-count, window-digits}
-use Rattle.verify_many_windows.proofs.WindowDigits.{length-t, length-g, length-h}
+use Rattle.verify_many_windows.proofs.WindowDigits.{length-t, length-g}
 use Rattle.verify_many_digits.proofs.Values.{ntt-words-append}
 
 -- no cell's yet

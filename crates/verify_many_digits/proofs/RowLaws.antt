@@ -1,7 +1,7 @@
 -- The rows of B, C and D with the digits in the windows, and the stores of their products.
-use mathlib.Core.Path.{_≡_, refl, sym, ap, ap₂, subst, _∙_}
+use mathlib.Core.Path.{_≡_, refl, sym, ap, subst, _∙_}
 use mathlib.Core.Bool.{Bool, true, false, cond, true≢false}
-use mathlib.Core.List.{List, []}
+use mathlib.Core.List.{List}
 use Prim.Native.Nat.{ℕ, zero, suc, _+_, _-_, _*_, _≤_, _<_}
 use native.Mathlib.Nat.{mul-le-mul, mul-le-mul-right}
 use native.Mathlib.Numerals.{add-one}
@@ -29,7 +29,6 @@ use Rattle.spec_protocol.specs.Layout.{job-sections, scratch-need}
 use Rattle.spec_protocol.specs.Laid.{Laid}
 use Rattle.spec_protocol.specs.Formulas.{dot}
 use Rattle.spec_protocol.specs.Many.{many-need, products-at, transcript-part, row-count, row-product, All-rows-done}
-use Rattle.spec_protocol.proofs.Flat.{length-words}
 use Rattle.core_workspace.specs.Holds.{Unchanged}
 use Rattle.core_workspace.proofs.Unchanged.{unchanged-refl, unchanged-stored}
 use Rattle.ntt_vectors.proofs.Laws.{ntt-form-same}

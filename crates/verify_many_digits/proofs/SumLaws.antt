@@ -1,6 +1,6 @@
 -- Sums of one row, block after block, and their stores.
 use mathlib.Core.Path.{_≡_, refl, sym, ap, ap₂, subst, _∙_}
-use mathlib.Core.Bool.{Bool, true, false}
+use mathlib.Core.Bool.{Bool, true}
 use mathlib.Core.List.{List, []}
 use Prim.Native.Nat.{ℕ, _+_, _*_, _≤_, _<_}
 use native.Mathlib.Decide.{decLt}
@@ -9,8 +9,8 @@ use lib.ListN.{length, getD, set, replicate, getD-replicate}
 use lib.Seq.{getD-set-same, getD-set-other}
 use Rattle.math.specs.lists.Part.{part}
 use Rattle.math.specs.algebra.Ops as Ops
-use Rattle.math.proofs.algebra.Dot.{dot-split, dot-ext}
-use Rattle.spec_leaves.specs.Rq.{rzero, radd, coeff}
+use Rattle.math.proofs.algebra.Dot.{dot-split}
+use Rattle.spec_leaves.specs.Rq.{rzero, coeff}
 use Rattle.spec_leaves.specs.Ring.{RqOps, words}
 use Rattle.spec_leaves.proofs.RqRing.{rq-ring}
 use Rattle.ring_rq.specs.declared.rq.Rq.{Rq}

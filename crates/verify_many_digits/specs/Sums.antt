@@ -3,7 +3,7 @@ use mathlib.Core.Path.{_≡_}
 use mathlib.Core.Bool.{Bool, true}
 use mathlib.Core.List.{List, []}
 use Prim.Native.Nat.{ℕ, _+_, _*_, _≤_, _<_, _^_}
-use lib.ListN.{length, getD}
+use lib.ListN.{getD}
 use Rattle.spec_leaves.specs.Rq.{radd}
 use Rattle.spec_leaves.specs.Ring.{words}
 use Rattle.ring_rq.specs.declared.rq.Rq.{Rq}

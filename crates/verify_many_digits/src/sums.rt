@@ -3,7 +3,7 @@ use ntt_vectors::vectors;
 use ring_rq::rq::Rq;
 ghost use mathlib.Core.Path.{_≡_};
 ghost use mathlib.Core.Bool.{true, false};
-ghost use Prim.Native.Nat.{_+_, _*_, _≤_, _<_, _^_};
+ghost use Prim.Native.Nat.{_+_, _*_, _≤_, _<_};
 ghost use lib.ListN.{length, getD};
 ghost use Rattle.ntt_transform.specs.Roots.{twiddleTable};
 ghost use Rattle.ntt_vectors.specs.NttForm.{AllValues};

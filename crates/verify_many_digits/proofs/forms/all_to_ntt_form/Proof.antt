@@ -1,17 +1,14 @@
 -- `all_to_ntt_form` meets its contract. The invariant: the digits of the transcripts before m that pass are in NTT form.
 use mathlib.Core.Path.{_≡_, refl, sym, ap, subst, _∙_}
-use mathlib.Core.Bool.{true, false, cond}
+use mathlib.Core.Bool.{false}
 use mathlib.Core.List.{List}
 use Prim.Native.Nat.{ℕ, _+_, _-_, _*_, _≤_}
 use native.Mathlib.Omega.{arith}
 use lib.ListN.{length, getD}
-use Rattle.math.specs.lists.Part.{splice}
 use Rattle.spec_protocol.specs.Parameters.{parameters}
 use Rattle.spec_protocol.specs.Unchanged.{Unchanged}
 use Rattle.spec_protocol.specs.Many.{many-need, transcript-part}
-use Rattle.relation_env_params.specs.Parameters.{parametersOf}
 use Rattle.core_workspace.proofs.Unchanged.{unchanged-refl}
-use Rattle.ntt_vectors.specs.NttForm.{ntt-words}
 use Rattle.ntt_vectors.proofs.Stored.{ntt-words-stored}
 use Rattle.verify_many_windows.specs.Digits.{digit-count, window-digits}
 use Rattle.verify_many_windows.proofs.WindowLaws.{rowable-sized, part-received, need-is, need-large, window-within}

@@ -1,6 +1,5 @@
 -- `place_of` meets its contract.
 use native.Mathlib.Omega.{arith}
-use borrow.Author.Needs.{needs}
 use Rattle.relation_env_params.specs.Parameters.{parametersOf}
 use Rattle.verify_many_windows.proofs.WindowLaws.{few}
 use Rattle.verify_many_digits.proofs.RowLaws.{of-b, of-c, of-d}

@@ -1,19 +1,17 @@
 -- `row_of_all` meets its contract.
-use mathlib.Core.Path.{_≡_, refl, sym, ap, ap₂, subst, _∙_}
+use mathlib.Core.Path.{_≡_, sym, ap, subst, _∙_}
 use mathlib.Core.Bool.{false}
 use Prim.Native.Nat.{_+_, _-_, _*_, _≤_, _<_, _^_}
 use native.Mathlib.Nat.{mul-le-mul}
 use native.Mathlib.Omega.{arith}
-use borrow.Author.Needs.{needs}
 use lib.ListN.{length, getD}
-use Rattle.spec_protocol.specs.Parameters.{Parameters, parameters, T}
+use Rattle.spec_protocol.specs.Parameters.{parameters, T}
 use Rattle.spec_protocol.specs.Layout.{scratch-need}
 use Rattle.spec_protocol.specs.Unchanged.{Unchanged}
 use Rattle.spec_protocol.specs.Many.{many-need, All-rows-done}
 use Rattle.relation_env_params.specs.Parameters.{parametersOf}
 use Rattle.layout_sizes.specs.Sizes.{Sized}
 use Rattle.layout_sizes.proofs.Sized.{sized}
-use Rattle.ntt_vectors.specs.NttForm.{AllValues}
 use Rattle.verify_many_windows.specs.Digits.{digit-count}
 use Rattle.verify_many_windows.proofs.WindowLaws.{few}
 use Rattle.verify_many_digits.specs.NttDigits.{All-ntt-digits}

@@ -2,7 +2,6 @@
 use mathlib.Core.Path.{ap, _∙_}
 use Prim.Native.Nat.{_+_, _-_, _*_}
 use native.Mathlib.Omega.{arith}
-use borrow.Author.Needs.{needs}
 use lib.Dec.{leb}
 use Rattle.relation_env_params.specs.Parameters.{parametersOf}
 use Rattle.verify_many_windows.specs.Digits.{digit-count}

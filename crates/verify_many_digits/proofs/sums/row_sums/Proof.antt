@@ -10,7 +10,6 @@ use Rattle.spec_leaves.specs.Ring.{words}
 use Rattle.ring_inner_product.specs.Run.{run}
 use Rattle.spec_protocol.specs.Formulas.{dot}
 use Rattle.ntt_vectors.proofs.Laws.{ntt-form-values}
-use Rattle.verify_many_digits.specs.Sums.{Windowed}
 use Rattle.verify_many_digits.proofs.SumLaws.{values-part, Summed, summed-none, summed-next}
 use Rattle.verify_many_digits.proofs.sums.row_sums.Statement.{statement}
 use Rattle.verify_many_digits.proofs.sums.row_sums.Tie as tie
