@@ -115,7 +115,8 @@ module _ (slice : List ℕ) (at : ℕ) (xs : List ℕ) (from : ℕ) where
       }
 
   -- where its words are the same
-  pub ntt-form-same : (S′ : List ℕ) (n : ℕ) → length S′ ≡ length slice → ((o m : ℕ) → o + m ≤ 192 * n → part S′ (at + o) m ≡ part slice (at + o) m) → NttForm slice at xs from n → NttForm S′ at xs from n
+  pub ntt-form-same : (S′ : List ℕ) (n : ℕ) → length S′ ≡ length slice → ((o m : ℕ) → o + m ≤ 192 * n → part S′ (at + o) m ≡ part slice (at + o) m)
+      → NttForm slice at xs from n → NttForm S′ at xs from n
   ntt-form-same S′ n size same k = record {
     ntt = λ i m a b.
         let there : at + 64 * i + 192 * m ≡ at + (64 * i + 192 * m) = omega arith in

@@ -221,7 +221,8 @@ module _ (J : List ℕ) (params : EnvironmentParameters) (same : parametersOf pa
       known = omega arith;
       inside = omega (arith, B-room, rows-within (ρ - Q .κ) (Q .κ₁) a (omega arith));
       product = λ X s.
-          stored-product (window-digits (parameters J) X) X 0 (Q .b) (digits (transcript-at Q 5) (Q .r * Q .κ) (Q .t₁)) (t-held J X params s (window-digits (parameters J) X) held-at (alone X) (transcript-at Q 5) refl .held)
+          stored-product (window-digits (parameters J) X) X 0 (Q .b) (digits (transcript-at Q 5) (Q .r * Q .κ) (Q .t₁)) (t-held J X params s (window-digits (parameters J) X) held-at
+          (alone X) (transcript-at Q 5) refl .held)
           J (job-at Q 7) (job-at Q 7 + 64 * ((ρ - Q .κ) * a)) (ρ - Q .κ) refl
           ∙ b-is J X params s (job-at Q 7) (transcript-at Q 5) (ρ - Q .κ) refl refl
           ∙ b-row J X params s ρ h b;
@@ -344,7 +345,8 @@ module _ (J : List ℕ) (count : ℕ) (passes : ℕ → Bool) (ρ : ℕ) (sums :
         let place : at + m * need ≡ m * need + (need - 4096) + 64 * ρ = omega arith in
         let long : many-need (parameters J) count ≤ length (after m) = subst (λ n. many-need (parameters J) count ≤ n) (sym (length-sums sums passes at need S m)) room in
         subst (λ k. Progress J T count passes ρ (after k) k × Unchanged (many-need (parameters J) count) S (after k)) (add-one m)
-        (progress-next J T count passes ρ S (after m) (after (m + 1)) m (at + m * need) few long less place (passes m) refl (sym (sums-next sums passes at need S m) ∙ stored-is m less (passes m) refl)
+        (progress-next J T count passes ρ S (after m) (after (m + 1)) m (at + m * need) few long less place (passes m) refl (sym (sums-next sums passes at need S m) ∙ stored-is m less
+        (passes m) refl)
         (made m (omega arith) all))
 
     -- row ρ is done for every transcript that passes

@@ -60,7 +60,8 @@ returns c =
     let rows = n .before .before .before .before .before .before .before in
     let v = c .before .before .before .before .before .before .before .verdicts .ensures in (
       v .0,
-      cleared (n .need .result) (rows .row-products .ensures .1) (v .1) (c .before .before .clear .ensures) (need-is n) (rows .before .before .before .before .before .before .before .before .pre .room),
+      cleared (n .need .result) (rows .row-products .ensures .1) (v .1) (c .before .before .clear .ensures) (need-is n)
+          (rows .before .before .before .before .before .before .before .before .pre .room),
     )
 
 pub work-spec : {M : Type 1} → statement M
@@ -73,5 +74,7 @@ work-spec =
     verdicts-requires
     (λ c κs. let s = c .before .before .before .before .before .before .before .before .before .before .before .before .before .before in (sized s, s .pre .few))
     clear-requires
-    (λ c. length-cleared (c .before .before .before .before .need .result) (c .before .before .before .before .before .before .before .before .before .before .before .row-products .ensures .1) (c .before .before .before .before .before .before .before .verdicts .ensures .1) (c .before .before .clear .ensures))
+    (λ c. length-cleared (c .before .before .before .before .need .result)
+    (c .before .before .before .before .before .before .before .before .before .before .before .row-products .ensures .1)
+    (c .before .before .before .before .before .before .before .verdicts .ensures .1) (c .before .before .clear .ensures))
     returns)

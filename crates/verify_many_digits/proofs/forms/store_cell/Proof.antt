@@ -19,7 +19,8 @@ returns c =
     let f = digits-of-element (s .base) (s .from .now) (s .at) in
     c .before .before .to-ntt-form .ensures .0
     ∙ ap (splice (s .to .now) (s .place))
-    (ntt-words-copied (replicate 2048 0) _ (flat (table (s .parts) f)) (s .parts) (c .before .before .before .before .before .before .decompose-to .ensures) (omega (arith, length-flat-table (s .parts) f))
+    (ntt-words-copied (replicate 2048 0) _ (flat (table (s .parts) f)) (s .parts) (c .before .before .before .before .before .before .decompose-to .ensures) (omega
+    (arith, length-flat-table (s .parts) f))
     (omega (arith, length-flat-table (s .parts) f, length-replicate {A = ℕ} 2048 0, c .before .before .before .before .before .before .before .before .before .before .before .pre .3)))
 
 pub store-cell-spec : {M : Type 1} → statement M

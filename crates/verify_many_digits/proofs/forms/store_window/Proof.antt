@@ -35,14 +35,20 @@ store-cells-requires-2 : tie.Need-store-cells-requires-2
 store-cells-requires-2 c κs =
     let s = c .before .before .before .before .before .before .before .before .before .before .before .before .before .before .before .before in
     let t = c .before .before .before .before .before .before .before .before .before .before .before .before .triangle .ensures in
-    let size = length-filled _ (s .args .scratch .now) _ _ (c .before .before .before .store-cells .ensures) in
-    (s .pre .0, g-cells _ _ (s .pre .1) _ _ (c .before .before .before .before .before .before .before .before .before .of-transcript2 .ensures) t, base-large _ _ (s .pre .1), omega (arith, s .pre .2, size, ap (λ n. n * s .args .params .«t_2») (t .0)))
+    let size = length-filled _ (s .args .scratch .now) _ _ (c .before .before .before .store-cells .ensures) in (
+      s .pre .0,
+      g-cells _ _ (s .pre .1) _ _ (c .before .before .before .before .before .before .before .before .before .of-transcript2 .ensures) t,
+      base-large _ _ (s .pre .1),
+      omega
+          (arith, s .pre .2, size, ap (λ n. n * s .args .params .«t_2») (t .0)),
+    )
 
 store-cells-requires-3 : tie.Need-store-cells-requires-3
 store-cells-requires-3 c κs =
     let s = c .before .before .before .before .before .before .before .before .before .before .before .before .before .before .before .before .before .before .before .before in
     let t = c .before .before .before .before .before .before .before .before .before .before .before .before .before .before .before .before .triangle .ensures in
-    let size = length-filled _ _ _ _ (c .before .before .before .store-cells2 .ensures) ∙ length-filled _ (s .args .scratch .now) _ _ (c .before .before .before .before .before .before .before .store-cells .ensures) in (
+    let size = length-filled _ _ _ _ (c .before .before .before .store-cells2 .ensures) ∙ length-filled _ (s .args .scratch .now) _ _
+    (c .before .before .before .before .before .before .before .store-cells .ensures) in (
       s .pre .0,
       h-cells _ _ (s .pre .1) _ _ (c .before .before .before .before .before .before .before .before .before .before .before .before .of-transcript3 .ensures) t,
       base-large _ _ (s .pre .1),
@@ -51,9 +57,15 @@ store-cells-requires-3 c κs =
 
 returns : tie.Need-returns
 returns c =
-    let s = c .before .before .before .before .before .before .before .before .before .before .before .before .before .before .before .before .before .before .before .before .before .before .before .args in
-    window-stored (parametersOf (s .params)) (s .transcript .now) (s .scratch .now) _ _ _ (s .start) _ _ _ _ _ _ (c .before .before .before .before .before .before .before .before .before .before .before .before .before .before .before .before .before .before .of-transcript .ensures) (c .before .before .before .before .before .before .before .before .before .before .before .before .before .before .before .before .of-transcript2 .ensures) (c .before .before .before .before .before .before .before .before .before .before .before .before .before .before .before .of-transcript3 .ensures)
-    (c .before .before .before .before .before .before .before .before .before .before .before .before .before .before .before .before .before .before .before .triangle .ensures .0) refl refl (c .before .before .before .before .before .before .before .before .before .before .store-cells .ensures) (c .before .before .before .before .before .before .store-cells2 .ensures) (c .before .before .store-cells3 .ensures)
+    let s = c .before .before .before .before .before .before .before .before .before .before .before .before .before .before .before .before .before .before .before .before .before
+    .before .before .args in
+    window-stored (parametersOf (s .params)) (s .transcript .now) (s .scratch .now) _ _ _ (s .start) _ _ _ _ _ _
+    (c .before .before .before .before .before .before .before .before .before .before .before .before .before .before .before .before .before .before .of-transcript .ensures)
+    (c .before .before .before .before .before .before .before .before .before .before .before .before .before .before .before .before .of-transcript2 .ensures)
+    (c .before .before .before .before .before .before .before .before .before .before .before .before .before .before .before .of-transcript3 .ensures)
+    (c .before .before .before .before .before .before .before .before .before .before .before .before .before .before .before .before .before .before
+    .before .triangle .ensures .0) refl refl (c .before .before .before .before .before .before .before .before .before .before .store-cells .ensures)
+    (c .before .before .before .before .before .before .store-cells2 .ensures) (c .before .before .store-cells3 .ensures)
 
 pub store-window-spec : {M : Type 1} → statement M
 store-window-spec =
@@ -68,12 +80,21 @@ store-window-spec =
     (λ c. omega (arith, few _ 0 (c .before .before .before .before .before .before .before .before .before .before .pre .1 .sized) (omega arith) .rκt₁))
     (λ c. omega (arith, few _ 0 (c .before .before .before .before .before .before .before .before .before .before .pre .1 .sized) (omega arith) .rκt₁))
     add-g-at
-    (λ c. omega (arith, few _ _ (c .before .before .before .before .before .before .before .before .before .before .before .pre .1 .sized) (c .before .before .before .before .before .before .before .triangle .ensures .1) .tt₂))
-    (λ c. omega (arith, few _ _ (c .before .before .before .before .before .before .before .before .before .before .before .pre .1 .sized) (c .before .before .before .before .before .before .before .triangle .ensures .1) .tt₂))
+    (λ c. omega (
+      arith,
+      few _ _ (c .before .before .before .before .before .before .before .before .before .before .before .pre .1 .sized)
+          (c .before .before .before .before .before .before .before .triangle .ensures .1) .tt₂,
+    ))
+    (λ c. omega (
+      arith,
+      few _ _ (c .before .before .before .before .before .before .before .before .before .before .before .pre .1 .sized)
+          (c .before .before .before .before .before .before .before .triangle .ensures .1) .tt₂,
+    ))
     add-h-at
     store-cells-requires
     store-cells-requires-2
     store-cells-requires-3
     (λ c. length-filled _ _ _ _ (c .before .before .store-cells3 .ensures) ∙ length-filled _ _ _ _ (c .before .before .before .before .before .before .store-cells2 .ensures)
-    ∙ length-filled _ (c .before .before .before .before .before .before .before .before .before .before .before .before .before .before .before .before .before .before .before .before .before .before .before .args .scratch .now) _ _ (c .before .before .before .before .before .before .before .before .before .before .store-cells .ensures))
+    ∙ length-filled _ (c .before .before .before .before .before .before .before .before .before .before .before .before .before .before .before .before .before .before .before
+    .before .before .before .before .args .scratch .now) _ _ (c .before .before .before .before .before .before .before .before .before .before .store-cells .ensures))
     returns)

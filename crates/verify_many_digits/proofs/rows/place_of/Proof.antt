@@ -7,13 +7,16 @@ use Rattle.verify_many_digits.proofs.rows.place_of.Statement.{statement
 use Rattle.verify_many_digits.proofs.rows.place_of.Tie as tie
 
 returns : tie.Need-returns
-returns c = let s = c .before .before .before .before .before .before .before .before .args in of-b (parametersOf (s .params)) (s .row) _ (c .before .before .before .before .before .triangle .ensures .0) (omega arith)
+returns c = let s = c .before .before .before .before .before .before .before .before .args in of-b (parametersOf (s .params)) (s .row) _
+    (c .before .before .before .before .before .triangle .ensures .0) (omega arith)
 
 returns-2 : tie.Need-returns-2
-returns-2 c = let s = c .before .before .before .before .before .before .before .before .before .args in of-c (parametersOf (s .params)) (s .row) _ (c .before .before .before .before .before .before .triangle .ensures .0) (omega arith) (omega arith)
+returns-2 c = let s = c .before .before .before .before .before .before .before .before .before .args in of-c (parametersOf (s .params)) (s .row) _
+    (c .before .before .before .before .before .before .triangle .ensures .0) (omega arith) (omega arith)
 
 returns-3 : tie.Need-returns-3
-returns-3 c = let s = c .before .before .before .before .before .before .before .before .before .args in of-d (parametersOf (s .params)) (s .row) _ (c .before .before .before .before .before .before .triangle .ensures .0) (omega arith)
+returns-3 c = let s = c .before .before .before .before .before .before .before .before .before .args in of-d (parametersOf (s .params)) (s .row) _
+    (c .before .before .before .before .before .before .triangle .ensures .0) (omega arith)
 
 pub place-of-spec : {M : Type 1} → statement M
 place-of-spec =
@@ -30,6 +33,8 @@ place-of-spec =
     returns
     (λ c. omega (arith, few _ 0 (c .before .before .before .before .before .before .before .before .before .pre .0) (omega arith) .rκt₁))
     returns-2
-    (λ c. let f = few _ _ (c .before .before .before .before .before .before .before .before .before .pre .0) (c .before .before .before .before .before .before .triangle .ensures .1) in omega (arith, f .rκt₁, f .tt₂))
-    (λ c. let f = few _ _ (c .before .before .before .before .before .before .before .before .before .pre .0) (c .before .before .before .before .before .before .triangle .ensures .1) in omega (arith, f .rκt₁, f .tt₂))
+    (λ c. let f = few _ _ (c .before .before .before .before .before .before .before .before .before .pre .0)
+    (c .before .before .before .before .before .before .triangle .ensures .1) in omega (arith, f .rκt₁, f .tt₂))
+    (λ c. let f = few _ _ (c .before .before .before .before .before .before .before .before .before .pre .0)
+    (c .before .before .before .before .before .before .triangle .ensures .1) in omega (arith, f .rκt₁, f .tt₂))
     returns-3)

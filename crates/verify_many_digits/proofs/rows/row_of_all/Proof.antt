@@ -53,14 +53,16 @@ row-sums-requires c κs =
     let n = need-is (c .before .before .before .before) in
     let windows : s .args .count * c .before .before .before .before .scratch-length .result ≤ 8 * 4000000 =
     mul-le-mul (v .few) (subst (λ x. x ≤ 4000000) (sym (c .before .before .before .before .scratch-length .ensures)) (need-small (parametersOf (s .args .params)) (reckoned s .within))) in
-    let short : R .digits + s .args .count * c .before .before .before .before .scratch-length .result + 192 * R .width < 2 ^ 64 = omega (arith, k .place, k .within, f .rκt₁, f .tt₂, f .tt₁, windows) in (
+    let short : R .digits + s .args .count * c .before .before .before .before .scratch-length .result + 192 * R .width < 2 ^ 64 = omega
+    (arith, k .place, k .within, f .rκt₁, f .tt₂, f .tt₁, windows) in (
       s .pre .0 .0,
       omega (arith, k .inside, c .before .before .of-job .ensures),
       record {
         few = v .few;
         short = short;
         values = λ m h t.
-            values-part (s .args .scratch .now) (m * scratch-need P) (k .off) (R .width) (digit-count P) (R .digits + m * c .before .before .before .before .scratch-length .result) (v .values m h t) within
+            values-part (s .args .scratch .now) (m * scratch-need P) (k .off) (R .width) (digit-count P) (R .digits + m * c .before .before .before .before .scratch-length .result)
+            (v .values m h t) within
             (omega (arith, k .place, ap (λ x. m * x) n));
       },
     )
@@ -68,8 +70,12 @@ row-sums-requires c κs =
 store-sums-requires : tie.Need-store-sums-requires
 store-sums-requires c κs =
     let s = c .before .before .before .before .before .before .before .before .before .before in
-    let n = need-is (c .before .before .before .before .before .before) in
-    (s .pre .0 .1 .few, omega (arith, few-rows s, c .before .before .before .before .before .before .scratch-length .ensures), subst (λ x. s .args .count * x ≤ length (s .args .scratch .now)) (sym n) (s .pre .0 .1 .room))
+    let n = need-is (c .before .before .before .before .before .before) in (
+      s .pre .0 .1 .few,
+      omega (arith, few-rows s, c .before .before .before .before .before .before .scratch-length .ensures),
+      subst (λ x. s .args .count * x ≤ length
+          (s .args .scratch .now)) (sym n) (s .pre .0 .1 .room),
+    )
 
 returns : tie.Need-returns
 returns c =
@@ -87,7 +93,8 @@ returns c =
     let row-at = c .before .before .before .before .before .before .before .of-job .result + 64 * (R .k * R .width) in
     let summed = subst (λ x. Row-summed J row-at (R .width) S (a .count) (λ m. getD (a .passes) m false) (R .digits) x sums) n (c .before .before .before .before .row-sums .ensures) in (
       λ T₀ r digits done.
-          let is = sums-are J (a .params) (v .same) (v .job) (a .row) (s .pre .1 .0) (s .pre .1 .1) T₀ (a .count) (λ m. getD (a .passes) m false) S (length S) r R (known (c .before .before .before .before .before .before .before .before)) row-at
+          let is = sums-are J (a .params) (v .same) (v .job) (a .row) (s .pre .1 .0) (s .pre .1 .1) T₀ (a .count) (λ m. getD (a .passes) m false) S (length S) r R (known
+          (c .before .before .before .before .before .before .before .before)) row-at
           (ap (λ x. x + 64 * (R .k * R .width)) (c .before .before .before .before .before .before .before .of-job .ensures)) sums summed digits in (
             subst (λ x. All-ntt-digits J (a .count) (λ m. getD (a .passes) m false) T₀ x) (sym stored)
                 (digits-stay J (a .count) (λ m. getD (a .passes) m false) (a .row) sums few S (v .room) (e .1) T₀ (v .fitting) digits),
@@ -112,5 +119,6 @@ row-of-all-spec =
     (λ c. omega (arith, few-rows (c .before .before .before .before .before .before .before .before .before .before)))
     (λ c. omega (arith, few-rows (c .before .before .before .before .before .before .before .before .before .before)))
     store-sums-requires
-    (λ c. ap length (c .before .before .store-sums .ensures .0) ∙ length-sums _ _ _ _ (c .before .before .before .before .before .before .before .before .before .before .before .before .before .args .scratch .now) _)
+    (λ c. ap length (c .before .before .store-sums .ensures .0) ∙ length-sums _ _ _ _
+    (c .before .before .before .before .before .before .before .before .before .before .before .before .before .args .scratch .now) _)
     returns)

@@ -56,7 +56,8 @@ row-of-all-requires c κs =
           sound = r .sound;
           job = r .job;
           few = r .few;
-          room = subst (λ n. many-need P (s .args .count) ≤ n) (sym (l .inv .4 .size ∙ c .before .before .before .before .before .before .before .before .before .all-to-ntt-form .ensures .1 .1 .size)) (r .room);
+          room = subst (λ n. many-need P (s .args .count) ≤ n) (sym (l .inv .4 .size
+              ∙ c .before .before .before .before .before .before .before .before .before .all-to-ntt-form .ensures .1 .1 .size)) (r .room);
           fitting = subst NttFitting (r .same) (s .pre .0 .1);
           values = λ m h u.
               ntt-form-values (l .scratch) (m * scratch-need P) (window-digits P (transcript-part P (s .args .count) (s .args .transcripts .now) m)) 0 (digit-count P) (l .inv .2 m h u);

@@ -47,9 +47,11 @@ shared-spec =
     (λ c. omega (arith, few _ _ (c .before .before .before .before .before .before .before .before .before .pre) (c .before .triangle .ensures .1) .tt₂))
     (λ c. omega (arith, few _ _ (c .before .before .before .before .before .before .before .before .before .before .pre) (c .before .before .triangle .ensures .1) .tt₁))
     (λ c. let f = few _ _ (c .before .before .before .before .before .before .before .before .before .before .pre) (c .before .before .triangle .ensures .1) in omega (arith, f .tt₁, f .tt₂))
-    (λ c. let f = few _ _ (c .before .before .before .before .before .before .before .before .before .before .pre) (c .before .before .triangle .ensures .1) in omega (arith, f .rκt₁, f .tt₁, f .tt₂))
+    (λ c. let f = few _ _ (c .before .before .before .before .before .before .before .before .before .before .pre) (c .before .before .triangle .ensures .1) in omega
+    (arith, f .rκt₁, f .tt₁, f .tt₂))
     returns-4
-    (λ c. let f = few _ _ (c .before .before .before .before .before .before .before .before .before .before .before .pre) (c .before .before .before .triangle .ensures .1) in omega (arith, f .rκt₁, f .tt₁, f .tt₂))
+    (λ c. let f = few _ _ (c .before .before .before .before .before .before .before .before .before .before .before .pre) (c .before .before .before .triangle .ensures .1) in omega
+    (arith, f .rκt₁, f .tt₁, f .tt₂))
     (λ c κs. c .before .before .before .before .before .before .before .before .before .before .before .pre)
     (λ c. omega (arith, c .scratch-length .ensures))
     returns-5)

@@ -46,8 +46,14 @@ loop-again c =
     let e = c .before .before .store-sum .ensures in
     let stored = e .0
     ∙ ap₂ (λ p x. sum-for (sum-at (s .t1) (l .m)) (getD (s .t3) (l .m) false) p x) (l .inv .1) (l .inv .2)
-    ∙ sums-next (s .t1) (λ i. getD (s .t3) i false) (s .at) (s .need) (s .scratch .now) (l .m) in
-    (omega arith, omega (arith, l .inv .1), stored, ap length stored ∙ length-sums (s .t1) (λ i. getD (s .t3) i false) (s .at) (s .need) (s .scratch .now) (l .m + 1), sums-long-next (s .t1) (l .m) (e .1) (l .inv .4))
+    ∙ sums-next (s .t1) (λ i. getD (s .t3) i false) (s .at) (s .need) (s .scratch .now) (l .m) in (
+      omega arith,
+      omega (arith, l .inv .1),
+      stored,
+      ap length stored ∙ length-sums (s .t1) (λ i. getD (s .t3) i false) (s .at) (s .need) (s .scratch .now) (l .m + 1),
+      sums-long-next
+          (s .t1) (l .m) (e .1) (l .inv .4),
+    )
 
 returns : tie.Need-returns Inv-loop μ-loop
 returns c =

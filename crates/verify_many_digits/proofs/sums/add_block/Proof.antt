@@ -56,7 +56,13 @@ add-block-spec =
     add-product-requires
     (λ c. omega (arith, c .before .before .before .before .before .before .before .pre .3 .few))
     (λ c. omega (arith, c .before .before .before .before .before .before .before .pre .3 .few))
-    (λ c. let s = c .before .before .before .before .before .before .before in omega (arith, s .pre .3 .short, c .before .before .before .loop .inv .1, rows-within (c .before .before .before .loop .m) (s .args .count) (s .args .need) (omega arith)))
+    (λ c. let s = c .before .before .before .before .before .before .before in omega (
+      arith,
+      s .pre .3 .short,
+      c .before .before .before .loop .inv .1,
+      rows-within
+          (c .before .before .before .loop .m) (s .args .count) (s .args .need) (omega arith),
+    ))
     (λ c. omega (arith, c .before .before .before .before .before .before .before .pre .3 .few))
     (λ c. omega arith)
     loop-again

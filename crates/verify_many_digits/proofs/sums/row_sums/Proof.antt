@@ -92,7 +92,13 @@ row-sums-spec =
     (λ c. omega (arith, c .before .before .before .before .before .before .before .before .before .before .before .pre .2 .short, c .before .before .before .before .before .before .loop .inv .0))
     (λ c. omega (arith, c .before .before .before .before .before .before .before .before .before .before .before .pre .2 .short, c .before .before .before .before .before .before .loop .inv .0))
     add-block-requires
-    (λ c. omega (arith, c .before .before .before .before .before .block .ensures, c .before .before .before .before .before .before .before .loop .inv .0, c .before .before .before .before .before .before .before .before .before .before .before .before .pre .2 .short))
+    (λ c. omega (
+      arith,
+      c .before .before .before .before .before .block .ensures,
+      c .before .before .before .before .before .before .before .loop .inv .0,
+      c .before .before .before
+          .before .before .before .before .before .before .before .before .before .pre .2 .short,
+    ))
     (λ c. omega (arith, c .before .before .before .before .before .block .ensures))
     loop-again
     returns)
