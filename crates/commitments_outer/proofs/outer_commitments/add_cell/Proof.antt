@@ -1,6 +1,6 @@
 -- `add_cell` meets its contract: the digits are read back from where they are stored, and those that are not stored are zero.
 use mathlib.Core.Path.{_≡_, refl, _∙_, ap}
-use Prim.Native.Nat.{ℕ, _+_, _*_, _<_}
+use Prim.Native.Nat.{ℕ, _+_, _*_, _≤_, _<_}
 use native.Mathlib.Omega.{arith}
 use borrow.Author.Needs.{needs}
 use lib.ListN.{length}
@@ -30,11 +30,13 @@ returns c =
     let used = taken .result in
     let row : ℕ → ℕ → Element = λ k. run (s .matrix .now) (s .m-at + s .m-step * k) 64 in
     let out = run (s .out .now) (s .out-at) 64 in
-    let read : (m : ℕ) → m < used → run digits 0 64 m ≡ f m = λ m h. ap (λ w. run w 0 64 m) (taken .ensures .0 .1) ∙ elements-stored (s .digits .now) 0 used f (omega (arith, taken .ensures .0 .0, p .4, p .5 .0)) m h in (
+    let room : 64 * used ≤ length (s .digits .now) = omega (arith, taken .ensures .0 .0, p .4, p .5 .0) in
+    let read : (m : ℕ) → m < used → run digits 0 64 m ≡ f m = λ m h. ap (λ w. run w 0 64 m) (taken .ensures .0 .1) ∙ elements-stored (s .digits .now) 0 used f (omega arith) m h in
+    let rest : (k : ℕ) → dot used (row k) f ≡ dot (s .parts) (row k) f = λ k. dot-used RqOps rq-ring used (s .parts) (row k) f (taken .ensures .0 .0) (taken .ensures .1) in (
       c .before .before .add-products .ensures
           ∙ ap (λ t. splice (s .out .now) (s .out-at) (flat t))
           (table-ext (s .rows) (λ k. out k ⊕ dot used (row k) (run digits 0 64)) (λ k. out k ⊕ dot (s .parts) (row k) f)
-          (λ k h. ap (_⊕_ (out k)) (dot-ext RqOps used (row k) (row k) (run digits 0 64) f (λ m q. refl) read ∙ dot-used RqOps rq-ring used (s .parts) (row k) f (taken .ensures .0 .0) (taken .ensures .1)))),
+          (λ k h. ap (_⊕_ (out k)) (dot-ext RqOps used (row k) (row k) (run digits 0 64) f (λ m q. refl) read ∙ rest k))),
       (
         ap length (taken .ensures .0 .1) ∙ length-splice (s .digits .now) 0 _ ∙ p .5 .0,
         ap length (c .before .before .before .before .before .before .before .before .store-forms .ensures) ∙ length-splice (s .forms .now) 0 _ ∙ p .5 .1,

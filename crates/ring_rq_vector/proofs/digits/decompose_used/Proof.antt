@@ -1,13 +1,13 @@
 -- `decompose_used` meets its contract. The invariant: the sizes are those after k digits, and the first k rows are stored.
 use mathlib.Core.Path.{_≡_, refl, sym, _∙_, ap}
-use Prim.Native.Nat.{ℕ, _+_, _-_, _*_, _≤_, _<_}
+use Prim.Native.Nat.{_+_, _-_, _*_, _≤_}
 use native.Mathlib.Omega.{arith}
 use borrow.Author.Needs.{needs}
 use lib.ListN.{length}
 use Rattle.math.specs.lists.Table.{table}
 use Rattle.math.specs.lists.Part.{splice}
 use Rattle.math.proofs.lists.Splice.{length-splice}
-use Rattle.spec_leaves.specs.Ring.{RqOps, element}
+use Rattle.spec_leaves.specs.Ring.{element}
 use Rattle.spec_protocol.specs.Formulas.{flat, digit-element}
 use Rattle.spec_protocol.proofs.Stored.{stored-none, stored-next}
 use Rattle.ring_rq_digits.proofs.Sizes.{sizesAfter, sizes-first, sizes-next, row-is, rows-zero}

@@ -1,6 +1,5 @@
 -- `divide` meets its contract: what the quotient or one less leaves is below twice the base.
-use mathlib.Core.Path.{_≡_, refl}
-use Prim.Native.Nat.{ℕ, _+_, _*_, _/_, _≤_, _<_}
+use mathlib.Core.Path.{refl}
 use native.Mathlib.Omega.{arith}
 use borrow.Author.Needs.{needs}
 use Rattle.ring_zq.proofs.Near.{product-fits, near-quotient, quotient-is}
