@@ -100,6 +100,7 @@ module _ (words′ : List ℕ) (at r n : ℕ) (powers z : List ℕ) where
     unfolding combined-line
     line-is =
         ap element
-        (inverse-holds sums 0 n a (λ m. words (e m)) (omega (arith, length-terms (replicate 192 0) z 0 (combined-words words′ at r n powers) 0 64 n)) holds (omega arith) (form .small) (λ m. words-small (e m)))
+        (inverse-holds sums 0 n a (λ m. words (e m)) (omega (arith, length-terms (replicate 192 0) z 0 (combined-words words′ at r n powers) 0 64 n)) holds (omega arith) (form .small)
+        (λ m. words-small (e m)))
         ∙ element-words (dot n (run Z z-at 64) (λ m. element (words (e m))))
         ∙ dot-ext RqOps n (run Z z-at 64) (run Z z-at 64) (λ m. element (words (e m))) e (λ m l. refl) (λ m l. element-words (e m))
