@@ -61,11 +61,11 @@
 
 /* The bytes of stack that are enough for a call on x86-64; a thread's stack needs PTHREAD_STACK_MIN more, for the C library. No proof bounds the stack:
    bindings/stack.c measures what each call takes over many sizes, and the test makes each call where it takes most, in as much as is said here. */
-#define LABRADOR_STACK_PROVE (160 * 1024) /* labrador_prove, and its rounds */
-#define LABRADOR_STACK_VERIFY (96 * 1024) /* labrador_verify, labrador_mistyped */
-#define LABRADOR_STACK_MANY (176 * 1024)  /* labrador_verify_many */
-#define LABRADOR_STACK_LOAD (64 * 1024)   /* labrador_load */
-#define LABRADOR_STACK_OTHER (32 * 1024)  /* each other call */
+#define LABRADOR_STACK_PROVE (160 * 1024)  /* labrador_prove, and its rounds */
+#define LABRADOR_STACK_VERIFY (160 * 1024) /* labrador_verify, labrador_mistyped */
+#define LABRADOR_STACK_MANY (224 * 1024)   /* labrador_verify_many */
+#define LABRADOR_STACK_LOAD (64 * 1024)    /* labrador_load */
+#define LABRADOR_STACK_OTHER (32 * 1024)   /* each other call */
 
 /* The randomness is by far the longest slice, 64 MiB at n 64, r 16. Where it lies in huge pages (on Linux madvise with MADV_HUGEPAGE on its memory before it
    is filled) labrador_prove and labrador_verify took 7 to 10 % less time at that size. */

@@ -28,10 +28,10 @@ module _ (m : ℕ) (hm : m ≤ 64) (a b : List ℕ) (wa : Words a) (wb : Words b
   room i hi s x y es ex ey =
       subst (λ l. ProductsFit l x y) (sym es)
       (subst (λ l. ProductsFit (sumsOf i m (λ j. a) (λ j. b)) l y) (sym ex)
-      (subst (λ l. ProductsFit (sumsOf i m (λ j. a) (λ j. b)) (nttOf i a) l) (sym ey) (sums-room m hm (λ j. a) (λ j. b) (λ j. wa) (λ j. wb) i hi)))
+      (subst (λ l. ProductsFit (sumsOf i m (λ j. a) (λ j. b)) (nttOf i a) l) (sym ey) (sums-room m (omega arith) (λ j. a) (λ j. b) (λ j. wa) (λ j. wb) i hi)))
 
   next : (i : ℕ) → i < 3 → (s x y r : List ℕ) → s ≡ sumsOf i m (λ j. a) (λ j. b) → x ≡ nttOf i a → y ≡ nttOf i b → r ≡ valuesAdded s x y → r ≡ sumsOf i (m + 1) (λ j. a) (λ j. b)
-  next i hi s x y r es ex ey e = e ∙ ap (λ l. valuesAdded l x y) es ∙ ap₂ (valuesAdded (sumsOf i m (λ j. a) (λ j. b))) ex ey ∙ sums-next m hm (λ j. a) (λ j. b) (λ j. wa) (λ j. wb) i hi
+  next i hi s x y r es ex ey e = e ∙ ap (λ l. valuesAdded l x y) es ∙ ap₂ (valuesAdded (sumsOf i m (λ j. a) (λ j. b))) ex ey ∙ sums-next m (omega arith) (λ j. a) (λ j. b) (λ j. wa) (λ j. wb) i hi
 
   module _ (s t u x₁ x₂ x₃ y₁ y₂ y₃ : List ℕ) (h : Held m a b s t u) (tx : Transform a x₁ x₂ x₃) (ty : Transform b y₁ y₂ y₃) where
     -- there is room for one more
@@ -56,4 +56,4 @@ held-inverse n m e hn a b wa wb s t u h =
     ap₂ (λ x y. inverseNttOf x y u) (h .first) (h .second)
     ∙ ap (inverseNttOf (sumsOf 0 m (λ i. a) (λ i. b)) (sumsOf 1 m (λ i. a) (λ i. b))) (h .third)
     ∙ ap (λ c. inverseNttOf (sumsOf 0 c (λ i. a) (λ i. b)) (sumsOf 1 c (λ i. a) (λ i. b)) (sumsOf 2 c (λ i. a) (λ i. b))) e
-    ∙ inverse-is n hn (λ i. a) (λ i. b) (λ i. wa) (λ i. wb)
+    ∙ inverse-is n (omega arith) (λ i. a) (λ i. b) (λ i. wa) (λ i. wb)

@@ -1,4 +1,5 @@
 mod SmallParts
+mod Used
 pub mod Added
 pub mod Answers
 pub mod Products

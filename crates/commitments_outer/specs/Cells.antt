@@ -1,6 +1,6 @@
 -- The digits of cells in slices, and where cells and matrices lie.
 use mathlib.Core.Path.{_≡_}
-use mathlib.Core.List.{List, flatMap}
+use mathlib.Core.List.{List}
 use Prim.Native.Nat.{ℕ, _+_, _*_, _≤_, _<_, _^_}
 use native.Mathlib.Decide.{decLe}
 use lib.ListN.{length, getD}
@@ -11,7 +11,6 @@ use Rattle.spec_leaves.specs.Zq.{Canonical}
 use Rattle.spec_leaves.specs.Rq.{Element}
 use Rattle.spec_leaves.specs.Ring.{element}
 use Rattle.ring_inner_product.specs.Run.{run}
-use Rattle.ring_digit_products.specs.Forms.{shifted}
 use Rattle.spec_protocol.specs.Checks.{require}
 use Rattle.spec_protocol.specs.Formulas.{_⊕_, dot, flat, rows, norm-of, digit-element, digits-of, times}
 use Rattle.ring_rq_matrix.specs.Region.{vector}
@@ -40,10 +39,6 @@ added words at n f = splice words at (flat (table n (λ k. run words at 64 k ⊕
 -- the digits of the element at a place
 abbrev pub digits-of-element : ℕ → List ℕ → ℕ → ℕ → Element
 digits-of-element b words at = digit-element b (element (part words at 64))
-
--- the forms of n digits that stand from the first word on, half the base added
-abbrev pub forms-of : ℕ → List ℕ → ℕ → List ℕ
-forms-of half words n = flatMap (shifted half) (table n (λ m. part words (64 * m) 64))
 
 -- the inner product of n elements with those of row k, rows at equal steps
 abbrev pub row-product : List ℕ → ℕ → ℕ → ℕ → (ℕ → Element) → ℕ → Element

@@ -5,14 +5,12 @@ use ring_rq_vector::digits;
 use ring_rq_vector::vector::zero;
 use ring_zq::wide::wide;
 ghost use mathlib.Core.Path.{_≡_};
-ghost use Prim.Native.Nat.{_+_, _*_, _/_, _≤_, _<_, _^_};
+ghost use Prim.Native.Nat.{_+_, _*_, _≤_, _<_};
 ghost use lib.ListN.{length};
-ghost use Rattle.math.specs.lists.Table.{table};
 ghost use Rattle.math.specs.lists.Part.{splice};
-ghost use Rattle.spec_protocol.specs.Formulas.{flat};
 ghost use Rattle.ring_inner_product.specs.Run.{run};
 ghost use Rattle.ring_digit_products.specs.Forms.{DigitForms};
-ghost use Rattle.commitments_outer.specs.Cells.{width, Room, added, row-product, digits-of-element, forms-of, digits-product, u1-of, u2-of, Cells, Blocks, Buffers, CanonicalFrom};
+ghost use Rattle.commitments_outer.specs.Cells.{width, Room, added, row-product, digits-of-element, digits-product, u1-of, u2-of, Cells, Blocks, Buffers, CanonicalFrom};
 
 // The digits of `cells` elements from `at` on, each element in `parts` digits.
 pub struct Digits {
@@ -50,7 +48,8 @@ pub fn add_products(
     }
 }
 
-// The inner products of one cell's digits with the rows' parts added to the rows' elements. The digits and their forms are made in lent buffers.
+// The inner products of one cell's digits with the rows' parts added to the rows' elements. The digits and their forms are made in lent buffers; digits from where nothing
+// goes on are zero and add nothing.
 pub fn add_cell(
     matrix: &[u32],
     m_at: usize,
@@ -67,12 +66,11 @@ pub fn add_cell(
 )
     requires { ⌜ Blocks (now matrix) «m_at» «m_step» (64 * parts) rows × (at + 64 ≤ length (now from)) × Room (now out) «out_at» rows × (1 < base) × (parts ≤ 32) × Buffers (now digits) (now forms) ⌝ }
     ensures { λ _. ⌜ now (out .exit) ≡ added (now (out .entry)) «out_at» rows (row-product (now (matrix .entry)) «m_at» «m_step» parts (digits-of-element base (now (from .entry)) at)) ⌝ }
-    ensures { λ _. ⌜ now (digits .exit) ≡ splice (now (digits .entry)) 0 (flat (table parts (digits-of-element base (now (from .entry)) at))) ⌝ }
-    ensures { λ _. ⌜ now (forms .exit) ≡ splice (now (forms .entry)) 0 (forms-of (base / 2) (now (digits .exit)) parts) ⌝ }
+    ensures { λ _. ⌜ Buffers (now (digits .exit)) (now (forms .exit)) ⌝ }
 {
-    digits::decompose_to(from, at, base, parts, digits, 0);
+    let used = digits::decompose_used(from, at, base, parts, digits, 0);
     let half = wide(base / 2);
-    forms::store_forms(digits, parts, half, forms);
+    forms::store_forms(digits, used, half, forms);
     add_products(
         matrix,
         m_at,
@@ -81,7 +79,7 @@ pub fn add_cell(
         digits,
         forms,
         half,
-        parts,
+        used,
         out,
         out_at,
     );

@@ -13,8 +13,6 @@ passed false rest e = (refl, e)
 
 pub faster-weights : (width alphas betas : ℕ) → ntt-faster width alphas betas ≡ true → Weights alphas betas
 faster-weights width alphas betas e =
-    let a = passed (ltb alphas 1) (cond (ltb betas 1) false (cond (ltb (alphas + betas) 4) false (cond (ltb 64 (alphas + betas)) false (leb 8 width)))) e in
-    let b = passed (ltb betas 1) (cond (ltb (alphas + betas) 4) false (cond (ltb 64 (alphas + betas)) false (leb 8 width))) (a .1) in
-    let c = passed (ltb (alphas + betas) 4) (cond (ltb 64 (alphas + betas)) false (leb 8 width)) (b .1) in
-    let d = passed (ltb 64 (alphas + betas)) (leb 8 width) (c .1) in
-    (ltb-false alphas 1 (a .0), ltb-false betas 1 (b .0), ltb-false 64 (alphas + betas) (d .0))
+    let many = passed (ltb (alphas + betas) 4) (cond (ltb 96 (alphas + betas)) false (leb 8 width)) e in
+    let few = passed (ltb 96 (alphas + betas)) (leb 8 width) (many .1) in
+    ltb-false 96 (alphas + betas) (few .0)

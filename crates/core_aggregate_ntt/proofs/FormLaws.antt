@@ -1,7 +1,7 @@
 -- Sums of products for each k: one term more of each.
 use mathlib.Core.Path.{_≡_, sym, ap, ap₂, subst, _∙_}
 use mathlib.Core.List.{List}
-use Prim.Native.Nat.{ℕ, _+_, _*_, _/_, _%_, _≤_, _<_}
+use Prim.Native.Nat.{ℕ, _+_, _-_, _*_, _/_, _%_, _≤_, _<_}
 use native.Mathlib.Nat.{zero-add}
 use native.Mathlib.Omega.{arith}
 use lib.ListN.{length, getD, replicate, length-replicate}
@@ -10,6 +10,7 @@ use Rattle.math.specs.lists.Part.{part, splice}
 use Rattle.math.proofs.lists.Table.{length-table, table-ext, table-split}
 use Rattle.math.proofs.lists.Splice.{length-splice, splice-nil, splice-append, getD-splice-after}
 use Rattle.math.proofs.lists.Fill.{getD-splice-table}
+use Rattle.ntt_product.specs.NttForm.{mostProducts}
 use Rattle.ntt_product.proofs.Residue.{Words}
 use Rattle.ntt_vectors.specs.NttForm.{ntt-form, AllValues}
 use Rattle.ntt_vectors.specs.Sums.{NttRoom, added}
@@ -100,7 +101,7 @@ module _ (forms from : List ℕ) (at step : ℕ) (s : List ℕ) where
   pub form-small : (now : List ℕ) (count k : ℕ) → now ≡ splice forms 0 (forms-added forms from at step k s) → k < count → FormsSmall forms count → FormSmall now (192 * k)
   form-small now count k e h small = (
     omega (arith, ap length e, length-splice forms 0 (forms-added forms from at step k s), small .0),
-    (λ o l. subst (λ x. x ≤ 63 * 18032502047663104) (sym (forms-rest now k (192 * k + o) e (omega arith))) (small .1 (192 * k + o) (omega arith))),
+    (λ o l. subst (λ x. x ≤ (mostProducts - 1) * 18032502047663104) (sym (forms-rest now k (192 * k + o) e (omega arith))) (small .1 (192 * k + o) (omega arith))),
   )
 
   -- sum o of k after all are added

@@ -31,43 +31,50 @@ use Rattle.core_aggregate_ntt.proofs.Mixed.{ntt-mixed-all}
 use Rattle.core_aggregate_ntt.proofs.Faster.{faster-weights}
 use Rattle.core_aggregate_ntt.specs.Pass.{PassRoom, φ-mixed, HasLines, formed-with, φ″-rows, Passable, with-φ, with-b″, with-φ-and-b″, one-pass-faster}
 
+-- one of two by a test
+pub chosen-first : {A : Type 0} (b : Bool) (x y z : A) → b ≡ true → z ≡ x → z ≡ cond b x y
+chosen-first b x y z h e = e ∙ sym (ap (λ t. cond t x y) h)
+
+pub chosen-second : {A : Type 0} (b : Bool) (x y z : A) → b ≡ false → z ≡ y → z ≡ cond b x y
+chosen-second b x y z h e = e ∙ sym (ap (λ t. cond t x y) h)
+
 module _ (J : List ℕ) (x : Strided) (R : List ℕ) (alpha beta : ℕ) (S : List ℕ) (regions : Regions) (L r n : ℕ) (W : List ℕ) (s : ℕ) (p : Passable J x R alpha beta S regions L r n W s) where
   -- the rows of φ''
   abbrev y : Strided
   y = φ″-rows regions L r n
 
-  pub pass-room : (transformed T : List ℕ) → Weights (x .count) L → L ≤ 8 → length J < 2 ^ 61 → length S < 2 ^ 61 → AllValues transformed 0 (x .count + L) → 64 * L ≤ length T
+  pub pass-room : (transformed T : List ℕ) → Weights (x .count) L → L ≤ 32 → length J < 2 ^ 61 → length S < 2 ^ 61 → AllValues transformed 0 (x .count + L) → 64 * L ≤ length T
       → PassRoom J x S y (regions .phi) transformed W s (r * n) T
   pass-room transformed T w few short small values sums = record {
     in-job = λ m l. rows-run J x (r * n) m (p .0 .0) short l;
     in-scratch = λ m l. rows-run S y (r * n) m (p .0 .3) small l;
     before = λ m k l d. omega (arith, p .0 .4, mul-le-mul-left (r * n) d);
-    near = (omega (arith, p .0 .0 .0 .within, mul-le-mul-left (r * n) (w .0)), omega (arith, p .0 .3 .0 .within, mul-le-mul-left (r * n) (w .1)));
+    near = (omega (arith, p .0 .0 .0 .within, p .0 .0 .0 .narrow), omega (arith, p .0 .3 .0 .within, p .0 .3 .0 .narrow));
     room = p .0 .5;
     vectors = p .1 .4;
     values = values;
-    few = w .2;
+    few = omega arith;
     forms = few;
     sums = sums;
   }
 
   -- no totals yet
-  zero-total : (k : ℕ) → k < 8 → element-at (replicate 512 0) 0 k ≡ RqOps .nil
+  zero-total : (k : ℕ) → k < 32 → element-at (replicate 2048 0) 0 k ≡ RqOps .nil
   unfolding rzero
   zero-total k l =
       let z : ℕ = 0 in
       ap element
-      (is-table 64 (part (replicate 512 z) (0 + 64 * k) 64) (λ i. z) z (length-part (replicate 512 z) (0 + 64 * k) 64 (omega (arith, length-replicate 512 z)))
-      (λ i h. getD-part z (replicate 512 z) (0 + 64 * k) 64 i h ∙ getD-replicate 512 (0 + 64 * k + i) z z (omega arith)))
+      (is-table 64 (part (replicate 2048 z) (0 + 64 * k) 64) (λ i. z) z (length-part (replicate 2048 z) (0 + 64 * k) 64 (omega (arith, length-replicate 2048 z)))
+      (λ i h. getD-part z (replicate 2048 z) (0 + 64 * k) 64 i h ∙ getD-replicate 2048 (0 + 64 * k + i) z z (omega arith)))
 
-  module _ (transformed S₁ S₂ T : List ℕ) (few : x .count + L ≤ 64) (eight : L ≤ 8) (weights : NttWeights transformed R alpha (x .count) beta L) (job : (j : ℕ) → getD J j 0 ≤ 4294967295)
+  module _ (transformed S₁ S₂ T : List ℕ) (few : x .count + L ≤ 96) (most : L ≤ 32) (weights : NttWeights transformed R alpha (x .count) beta L) (job : (j : ℕ) → getD J j 0 ≤ 4294967295)
       (scratch : (j : ℕ) → getD S j 0 ≤ 4294967295)
       (stored : S₁ ≡ splice S (regions .phi) (φ-mixed J x S y transformed (r * n)))
-      (held : HasLines T (replicate 512 0) S y W s (r * n))
+      (held : HasLines T (replicate 2048 0) S y W s (r * n))
       (made : S₂ ≡ splice S₁ (regions .b2) (flat (table L (formed-with S₁ (regions .a2) (regions .g) r T)))) where
     -- φ
     φ-stored : S₁ ≡ with-φ J x R alpha beta S regions L r n
-    φ-stored = stored ∙ ap (splice S (regions .phi)) (ntt-mixed-all J x S y (r * n) transformed R alpha beta few (weights .0) (weights .1) job scratch)
+    φ-stored = stored ∙ ap (splice S (regions .phi)) (ntt-mixed-all J x S y (r * n) transformed R alpha beta (omega arith) (weights .0) (weights .1) job scratch)
 
     -- the inner products of k
     line : (k : ℕ) → k < L → element-at T 0 k ≡ dot (r * n) (element-at S₁ (regions .phi2 + 64 * (k * (r * n)))) (element-at W s)
@@ -93,9 +100,9 @@ module _ (J : List ℕ) (x : Strided) (R : List ℕ) (alpha beta : ℕ) (S : Lis
         ∙ ap (λ w. with-b″ w regions L r n W s) φ-stored
 
 -- where the one pass is chosen, the weights have room, and the sums of every k
-pub pass-weights : (width alphas betas : ℕ) → one-pass-faster width alphas betas ≡ true → Weights alphas betas × (betas ≤ 8)
-pass-weights width alphas betas = go (ltb 8 betas) refl
+pub pass-weights : (width alphas betas : ℕ) → one-pass-faster width alphas betas ≡ true → Weights alphas betas × (betas ≤ 32)
+pass-weights width alphas betas = go (ltb 32 betas) refl
   where
-    go : (t : Bool) → ltb 8 betas ≡ t → cond t false (ntt-faster width alphas betas) ≡ true → Weights alphas betas × (betas ≤ 8)
+    go : (t : Bool) → ltb 32 betas ≡ t → cond t false (ntt-faster width alphas betas) ≡ true → Weights alphas betas × (betas ≤ 32)
     go true e h = absurd (false≢true h)
-    go false e h = (faster-weights width alphas betas h, ltb-false 8 betas e)
+    go false e h = (faster-weights width alphas betas h, ltb-false 32 betas e)

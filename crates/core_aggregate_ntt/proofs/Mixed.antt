@@ -18,6 +18,7 @@ use Rattle.math.proofs.algebra.Dot.{dot-ext, dot-split}
 use Rattle.spec_leaves.specs.Ring.{RqOps, words, element}
 use Rattle.spec_leaves.proofs.Bridge.{element-words, words-element}
 use Rattle.spec_leaves.proofs.RqRing.{rq-ring}
+use Rattle.ntt_product.specs.NttForm.{mostProducts}
 use Rattle.ntt_product.proofs.Residue.{Words}
 use Rattle.spec_protocol.specs.Formulas.{flat}
 use Rattle.ring_inner_product.specs.declared.Strided.{Strided}
@@ -52,7 +53,7 @@ module _ (K : ℕ) (f g : ℕ → List ℕ) where
       either true = wf m
       either false = wg (m - K)
 
-module _ (J : List ℕ) (x : Strided) (S : List ℕ) (y : Strided) (weights W : List ℕ) (alpha beta : ℕ) (few : x .count + y .count ≤ 64)
+module _ (J : List ℕ) (x : Strided) (S : List ℕ) (y : Strided) (weights W : List ℕ) (alpha beta : ℕ) (few : x .count + y .count ≤ mostProducts)
     (ntt-alpha : NttForm weights 0 W alpha (x .count)) (ntt-beta : NttForm weights (192 * x .count) W beta (y .count)) (job : (j : ℕ) → getD J j 0 ≤ 4294967295)
     (scratch : (j : ℕ) → getD S j 0 ≤ 4294967295) where
   abbrev K : ℕ
@@ -140,7 +141,7 @@ ntt-mixed-before J x S S′ y weights to new e h =
     term l k m = getD weights (192 * x .count + 192 * m + k) 0 * getD (ntt-form (part l (y .at + y .step * m) 64)) k 0
 
 -- all elements
-pub ntt-mixed-all : (J : List ℕ) (x : Strided) (S : List ℕ) (y : Strided) (width : ℕ) (weights W : List ℕ) (alpha beta : ℕ) → x .count + y .count ≤ 64
+pub ntt-mixed-all : (J : List ℕ) (x : Strided) (S : List ℕ) (y : Strided) (width : ℕ) (weights W : List ℕ) (alpha beta : ℕ) → x .count + y .count ≤ mostProducts
     → NttForm weights 0 W alpha (x .count) → NttForm weights (192 * x .count) W beta (y .count)
     → ((j : ℕ) → getD J j 0 ≤ 4294967295) → ((j : ℕ) → getD S j 0 ≤ 4294967295) → ntt-mixed-words J x S y width weights ≡ mixed-words J x W alpha beta S y width
 ntt-mixed-all J x S y width weights W alpha beta few a b job scratch =

@@ -19,6 +19,7 @@ use Rattle.spec_protocol.specs.Parameters.{triangular}
 use Rattle.spec_protocol.specs.Views.{element-at, cell}
 use Rattle.spec_protocol.specs.Formulas.{_⊕_, _⊗_, dot, flat}
 use Rattle.core_aggregate.proofs.Formed.{cells-before}
+use Rattle.ntt_product.specs.NttForm.{mostProducts}
 use Rattle.ntt_vectors.specs.NttForm.{ntt-form}
 use Rattle.ntt_vectors.specs.Sums.{HoldsSums}
 use Rattle.ntt_vectors.proofs.SumsLaws.{part-words, inverse-holds, holds-small}
@@ -35,9 +36,9 @@ module _ (S : List ℕ) (y : Strided) (W : List ℕ) (s-at : ℕ) where
   abbrev pub Lines : List ℕ → ℕ → Type 0
   Lines forms m = (k : ℕ) → k < y .count → HoldsSums forms (192 * k) m (λ o. part S (y .at + y .step * k + 64 * o) 64) (λ o. part W (s-at + 64 * o) 64)
 
-  pub lines-none : y .count ≤ 8 → Lines (replicate 1536 0) 0
+  pub lines-none : y .count ≤ 32 → Lines (replicate 6144 0) 0
   unfolding Σ
-  lines-none few k l o b = let z : ℕ = 0 in getD-replicate 1536 (192 * k + o) z z (omega arith)
+  lines-none few k l o b = let z : ℕ = 0 in getD-replicate 6144 (192 * k + o) z z (omega arith)
 
   -- one product more
   pub lines-next : (S′ forms next : List ℕ) (to : ℕ) (new : List ℕ) (m : ℕ) → S′ ≡ splice S to new → ((k : ℕ) → k < y .count → y .at + 64 * m + y .step * k + 64 ≤ to) → 192 * y .count ≤ length forms
@@ -51,7 +52,7 @@ module _ (S : List ℕ) (y : Strided) (W : List ℕ) (s-at : ℕ) where
 
   module _ (words : (j : ℕ) → getD S j 0 ≤ 4294967295) (witness : (j : ℕ) → getD W j 0 ≤ 4294967295) where
     -- for which there is room
-    pub lines-small : (forms : List ℕ) (m : ℕ) → m < 64 → 192 * y .count ≤ length forms → Lines forms m → FormsSmall forms (y .count)
+    pub lines-small : (forms : List ℕ) (m : ℕ) → m < mostProducts → 192 * y .count ≤ length forms → Lines forms m → FormsSmall forms (y .count)
     lines-small forms m few room lines = (
       room,
       (λ j l.
@@ -62,7 +63,7 @@ module _ (S : List ℕ) (y : Strided) (W : List ℕ) (s-at : ℕ) where
     )
 
     -- the totals with the inner products added
-    pub lines-total : (T T′ forms : List ℕ) (n : ℕ) → n ≤ 64 → 192 * y .count ≤ length forms → Lines forms n → T′ ≡ splice T 0 (flat (table (y .count) (total T forms)))
+    pub lines-total : (T T′ forms : List ℕ) (n : ℕ) → n ≤ mostProducts → 192 * y .count ≤ length forms → Lines forms n → T′ ≡ splice T 0 (flat (table (y .count) (total T forms)))
         → T′ ≡ with-lines T S y W s-at n
     lines-total T T′ forms n few room lines e =
         e

@@ -11,6 +11,7 @@ use Rattle.math.specs.lists.Sum.{Σ}
 use Rattle.math.proofs.lists.Table.{length-table, getD-table, table-ext, table-getD, is-table}
 use Rattle.math.proofs.lists.Sum.{Σ-suc, Σ-bound}
 use Rattle.math.proofs.lists.Splice.{length-splice, getD-splice-within}
+use Rattle.ntt_product.specs.NttForm.{nttOf, mostProducts}
 use Rattle.ntt_product.proofs.Residue.{Words, product-small}
 use Rattle.ring_inner_product.specs.Run.{Run}
 use Rattle.ntt_vectors.specs.NttForm.{ntt-form, NttForm, AllValues}
@@ -37,7 +38,7 @@ module _ (e a buffer : List ℕ) (same : a ≡ e) (stored : buffer ≡ splice (r
   -- has room
   pub term-room : (sums weights : List ℕ) (p : ℕ) → Words e → AllValues weights p 1 → SumsSmall sums 1 → NttRoom sums 0 weights p buffer 0
   term-room sums weights p w v s =
-      room-for sums 0 weights p buffer 0 (λ k l. subst (λ j. getD sums j 0 ≤ 63 * 18032502047663104) (sym (zero-add k)) (s .small k l))
+      room-for sums 0 weights p buffer 0 (λ k l. subst (λ j. getD sums j 0 ≤ (mostProducts - 1) * 18032502047663104) (sym (zero-add k)) (s .small k l))
       (λ k l. subst (λ j. getD weights (j + k) 0 ≤ 134285152) (add-zero p) (all-small weights p 1 v 0 k (omega arith) l))
       (λ k l. subst (λ x. x ≤ 134285152) (sym (value-in k l)) (values-small e w k l))
 
@@ -95,7 +96,7 @@ module _ (sums weights : List ℕ) (weights-at : ℕ) (from : List ℕ) (at step
   }
 
 -- the first of so many terms has room where there are no sums
-pub none-small : (n : ℕ) → n ≤ 64 → SumsSmall (replicate 192 0) n
+pub none-small : (n : ℕ) → n ≤ mostProducts → SumsSmall (replicate 192 0) n
 none-small n few = let z : ℕ = 0 in record {
   whole = length-replicate 192 z;
   few = few;
@@ -122,7 +123,7 @@ values-last slice K L v = record {
 
 -- room for so many more terms after the first K
 pub terms-after : (weights from : List ℕ) (at step : ℕ) (now : List ℕ) (K L : ℕ) → now ≡ terms-added (replicate 192 0) weights 0 from at step K → AllValues weights 0 (K + L)
-    → K + L ≤ 64 → ((j : ℕ) → getD from j 0 ≤ 4294967295)
+    → K + L ≤ mostProducts → ((j : ℕ) → getD from j 0 ≤ 4294967295)
     → SumsSmall now L
 terms-after weights from at step now K L e v h small = let z : ℕ = 0 in record {
   whole = terms-length (replicate 192 0) weights 0 from at step now K e;
@@ -133,6 +134,22 @@ terms-after weights from at step now K L e v h small = let z : ℕ = 0 in record
 -- where a run of elements one after the other ends
 pub run-end : (words : List ℕ) (at n : ℕ) → Run words at 64 n → 1 ≤ n → at + 64 * n ≤ length words
 run-end words at n r h = omega (arith, r .within (n - 1) (omega arith))
+
+-- and of elements that begin at a place that is the run's, where there are any
+pub first-end : (words : List ℕ) (at n first : ℕ) → Run words at 64 n → (0 < n → first ≡ at) → (n ≡ 0 → first ≡ 0) → first + 64 * n ≤ length words
+first-end words at n first r some none = by (decLt 0 n)
+  where
+    by : Dec (0 < n) → first + 64 * n ≤ length words
+    by (yes h) = omega (arith, some h, run-end words at n r h)
+    by (no h) = omega (arith, none (omega arith))
+
+-- their NTT form is the run's
+pub form-from : (slice : List ℕ) (p : ℕ) (xs : List ℕ) (at n first : ℕ) → ((j : ℕ) → getD xs j 0 ≤ 4294967295) → (0 < n → first ≡ at) → NttForm slice p xs first n → NttForm slice p xs at n
+form-from slice p xs at n first words some h = record {
+  ntt = λ i m a b. h .ntt i m a b ∙ ap (λ q. nttOf i (part xs (q + 64 * m) 64)) (some (omega arith));
+  small = λ m k l. part-words xs words (at + 64 * m) k l;
+  within = h .within;
+}
 
 -- the values of weights of both kinds
 pub both-values : (slice W : List ℕ) (alpha beta K L : ℕ) → NttForm slice 0 W alpha K → NttForm slice (192 * K) W beta L → AllValues slice 0 (K + L)

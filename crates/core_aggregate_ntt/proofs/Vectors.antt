@@ -1,4 +1,4 @@
--- One vector more of the pass: the elements of φ, and the inner products of every k.
+-- A run of elements more of the pass: the elements of φ, and the inner products of every k.
 use mathlib.Core.Path.{_≡_, sym, ap, ap₂, subst, _∙_}
 use mathlib.Core.List.{List}
 use Prim.Native.Nat.{ℕ, _+_, _*_, _≤_, _<_}
@@ -21,7 +21,6 @@ use Rattle.spec_protocol.specs.Formulas.{_⊕_, dot, flat}
 use Rattle.spec_protocol.proofs.Flat.{length-flat}
 use Rattle.spec_protocol.proofs.Region.{elements-stored}
 use Rattle.spec_protocol.proofs.Stored.{flat-append}
-use Rattle.ring_rq_matrix.proofs.Place.{rows-within}
 use Rattle.core_aggregate_ntt.specs.Terms.{ntt-mixed}
 use Rattle.core_aggregate_ntt.proofs.Mixed.{ntt-mixed-before}
 use Rattle.core_aggregate_ntt.specs.Pass.{PassRoom, column-mixed, φ-mixed, with-line, with-lines, HasLines}
@@ -36,61 +35,60 @@ stored-more l before at m n f e =
     ∙ splice-append l at (flat (table m f)) (flat (table n (λ i. f (m + i))))
     ∙ ap (splice l at) (sym (flat-append (table m f) (table n (λ i. f (m + i)))) ∙ ap flat (sym (table-split m n f)))
 
-module _ (J : List ℕ) (x : Strided) (S : List ℕ) (y : Strided) (to : ℕ) (weights W : List ℕ) (s-at r n : ℕ) (T : List ℕ) (h : PassRoom J x S y to weights W s-at (r * n) T) where
-  -- the room of vector i
-  pub vector-room : (S′ T′ : List ℕ) (i c : ℕ) → i < r → c ≡ i * n → length S′ ≡ length S → length T′ ≡ length T
+module _ (J : List ℕ) (x : Strided) (S : List ℕ) (y : Strided) (to : ℕ) (weights W : List ℕ) (s-at width : ℕ) (T : List ℕ) (h : PassRoom J x S y to weights W s-at width T) where
+  -- the room of n elements after the first c
+  pub run-room : (S′ T′ : List ℕ) (c n : ℕ) → c + n ≤ width → length S′ ≡ length S → length T′ ≡ length T
       → PassRoom J (further x c) S′ (further y c) (to + 64 * c) weights W (s-at + 64 * c) n T′
-  vector-room S′ T′ i c l e size sums =
-      let within = rows-within i r n l in
+  run-room S′ T′ c n l size sums =
       record {
         in-job = λ m b.
             let there : x .at + 64 * c + 64 * m ≡ x .at + 64 * (c + m) = omega arith in
-            subst (λ p. Run J p (x .step) (x .count)) (sym there) (h .in-job (c + m) (omega (arith, within)));
+            subst (λ p. Run J p (x .step) (x .count)) (sym there) (h .in-job (c + m) (omega arith));
         in-scratch = λ m b.
             let there : y .at + 64 * c + 64 * m ≡ y .at + 64 * (c + m) = omega arith in
-            subst (λ p. Run S′ p (y .step) (y .count)) (sym there) (run-same S S′ (further y (c + m)) size (h .in-scratch (c + m) (omega (arith, within))));
-        before = λ m k b d. omega (arith, h .before (c + m) k (omega (arith, within)) d);
-        near = (omega (arith, within, h .near .0), omega (arith, within, h .near .1));
-        room = omega (arith, within, h .room);
-        vectors = omega (arith, within, h .vectors);
+            subst (λ p. Run S′ p (y .step) (y .count)) (sym there) (run-same S S′ (further y (c + m)) size (h .in-scratch (c + m) (omega arith)));
+        before = λ m k b d. omega (arith, h .before (c + m) k (omega arith) d);
+        near = (omega (arith, h .near .0), omega (arith, h .near .1));
+        room = omega (arith, h .room);
+        vectors = omega (arith, h .vectors);
         values = h .values;
         few = h .few;
         forms = h .forms;
         sums = omega (arith, h .sums);
       }
 
-  module _ (S′ : List ℕ) (i c : ℕ) (l : i < r) (e : c ≡ i * n) (stored : S′ ≡ splice S to (φ-mixed J x S y weights c)) where
+  module _ (S′ : List ℕ) (c n : ℕ) (l : c + n ≤ width) (stored : S′ ≡ splice S to (φ-mixed J x S y weights c)) where
     -- its elements of φ
-    pub vector-stored : (S″ : List ℕ) → S″ ≡ splice S′ (to + 64 * c) (φ-mixed J (further x c) S′ (further y c) weights n) → S″ ≡ splice S to (φ-mixed J x S y weights (c + n))
-    vector-stored S″ made =
+    pub run-stored : (S″ : List ℕ) → S″ ≡ splice S′ (to + 64 * c) (φ-mixed J (further x c) S′ (further y c) weights n) → S″ ≡ splice S to (φ-mixed J x S y weights (c + n))
+    run-stored S″ made =
         made
         ∙ ap (λ cells. splice S′ (to + 64 * c) (flat cells)) (table-ext n (column-mixed J (further x c) S′ (further y c) weights) (λ m. column-mixed J x S y weights (c + m)) (λ m b.
         let here : x .at + 64 * c + 64 * m ≡ x .at + 64 * (c + m) = omega arith in
         let there : y .at + 64 * c + 64 * m ≡ y .at + 64 * (c + m) = omega arith in
         ap₂ (λ p q. ntt-mixed J (from-place x p) S′ (from-place y q) weights) here there
-        ∙ ntt-mixed-before J (further x (c + m)) S S′ (further y (c + m)) weights to (φ-mixed J x S y weights c) stored (λ k d. h .before (c + m) k (omega (arith, rows-within i r n l)) d)))
+        ∙ ntt-mixed-before J (further x (c + m)) S S′ (further y (c + m)) weights to (φ-mixed J x S y weights c) stored (λ k d. h .before (c + m) k (omega arith) d)))
         ∙ stored-more S S′ to c n (column-mixed J x S y weights) stored
       where
         from-place : Strided → ℕ → Strided
         from-place x p = record { at = p; step = x .step; count = x .count }
 
     -- its inner products
-    pub vector-lines : (T′ T″ : List ℕ) → length T′ ≡ length T → HasLines T′ T S y W s-at c → T″ ≡ with-lines T′ S′ (further y c) W (s-at + 64 * c) n → HasLines T″ T S y W s-at (c + n)
-    vector-lines T′ T″ size held made k d =
+    pub run-lines : (T′ T″ : List ℕ) → length T′ ≡ length T → HasLines T′ T S y W s-at c → T″ ≡ with-lines T′ S′ (further y c) W (s-at + 64 * c) n → HasLines T″ T S y W s-at (c + n)
+    run-lines T′ T″ size held made k d =
         ap (λ t. element-at t 0 k) made
         ∙ elements-stored T′ 0 (y .count) (with-line T′ S′ (further y c) W (s-at + 64 * c) n) (omega (arith, h .sums)) k d
         ∙ ap₂ _⊕_ (held k d)
         (dot-ext RqOps n (run S′ (y .at + 64 * c + y .step * k) 64) (λ m. run S (y .at + y .step * k) 64 (c + m)) (run W (s-at + 64 * c) 64) (λ m. run W s-at 64 (c + m))
         (λ m b.
         let there : y .at + 64 * c + y .step * k + 64 * m ≡ y .at + y .step * k + 64 * (c + m) = omega arith in
-        let ends : y .at + 64 * c + y .step * k + 64 * m + 64 ≤ to = omega (arith, h .before (c + m) k (omega (arith, rows-within i r n l)) d) in
+        let ends : y .at + 64 * c + y .step * k + 64 * m + 64 ≤ to = omega (arith, h .before (c + m) k (omega arith) d) in
         ap element (ap (λ s. part s (y .at + 64 * c + y .step * k + 64 * m) 64) stored
         ∙ part-splice-before 0 S to (φ-mixed J x S y weights c) (y .at + 64 * c + y .step * k + 64 * m) 64 ends ∙ ap (λ p. part S p 64) there))
         (λ m b. let there : s-at + 64 * c + 64 * m ≡ s-at + 64 * (c + m) = omega arith in ap (λ p. element (part W p 64)) there))
         ∙ add-assoc RqOps rq-ring (element-at T 0 k) (dot c (run S (y .at + y .step * k) 64) (run W s-at 64)) (dot n (λ m. run S (y .at + y .step * k) 64 (c + m)) (λ m. run W s-at 64 (c + m)))
         ∙ ap (λ x. element-at T 0 k ⊕ x) (sym (dot-split RqOps rq-ring c n (run S (y .at + y .step * k) 64) (run W s-at 64)))
 
-  -- no vector yet
+  -- no element yet
   pub lines-start : HasLines T T S y W s-at 0
   unfolding Ops.dot Ops.sum
   lines-start k d = sym (add-nil RqOps rq-ring (element-at T 0 k))

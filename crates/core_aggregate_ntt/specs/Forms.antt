@@ -1,6 +1,6 @@
 -- Sums of products of elements' values and a witness element's, 192 for each k.
 use mathlib.Core.List.{List}
-use Prim.Native.Nat.{ℕ, _+_, _*_, _/_, _%_, _≤_, _<_}
+use Prim.Native.Nat.{ℕ, _+_, _-_, _*_, _/_, _%_, _≤_, _<_}
 use lib.ListN.{length, getD}
 use Rattle.math.specs.lists.Table.{table}
 use Rattle.math.specs.lists.Part.{part}
@@ -10,6 +10,7 @@ use Rattle.ring_inner_product.specs.declared.Strided.{Strided}
 use Rattle.ring_inner_product.specs.Run.{Within}
 use Rattle.spec_protocol.specs.Views.{element-at}
 use Rattle.spec_protocol.specs.Formulas.{_⊕_}
+use Rattle.ntt_product.specs.NttForm.{mostProducts}
 use Rattle.ntt_vectors.specs.NttForm.{ntt-form, AllValues}
 use Rattle.ntt_vectors.specs.Sums.{inverse-from}
 
@@ -36,11 +37,11 @@ ColumnRoom from x weights weights-at s = Within from x × AllValues weights weig
 
 -- 192 sums from a place on, with room for a term
 abbrev pub FormSmall : List ℕ → ℕ → Type 0
-FormSmall forms form = (form + 192 ≤ length forms) × ((k : ℕ) → k < 192 → getD forms (form + k) 0 ≤ 63 * 18032502047663104)
+FormSmall forms form = (form + 192 ≤ length forms) × ((k : ℕ) → k < 192 → getD forms (form + k) 0 ≤ (mostProducts - 1) * 18032502047663104)
 
 -- so many times 192 sums, each with room for a term
 abbrev pub FormsSmall : List ℕ → ℕ → Type 0
-FormsSmall forms count = (192 * count ≤ length forms) × ((j : ℕ) → j < 192 * count → getD forms j 0 ≤ 63 * 18032502047663104)
+FormsSmall forms count = (192 * count ≤ length forms) × ((j : ℕ) → j < 192 * count → getD forms j 0 ≤ (mostProducts - 1) * 18032502047663104)
 
 -- and the element of the witness lies within it
 abbrev pub FormsRoom : List ℕ → ℕ → List ℕ → ℕ → Type 0

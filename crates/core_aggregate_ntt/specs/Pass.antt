@@ -13,6 +13,7 @@ use Rattle.spec_protocol.specs.Parameters.{triangular}
 use Rattle.spec_protocol.specs.Views.{element-at, cell}
 use Rattle.spec_protocol.specs.Formulas.{_⊕_, _⊗_, dot, flat, pairs}
 use Rattle.spec_protocol.specs.Region.{Elements}
+use Rattle.ntt_product.specs.NttForm.{mostProducts}
 use Rattle.ntt_vectors.specs.NttForm.{AllValues}
 use Rattle.layout_regions.specs.declared.Regions.{Regions}
 use Rattle.core_aggregate.specs.Weighed.{rows-at, mixed-words, Aggregates, FormedRows, b″-words}
@@ -47,8 +48,8 @@ pub record PassRoom (job : List ℕ) (constraints : Strided) (scratch : List ℕ
   pub room : to + 64 * width ≤ length scratch
   pub vectors : s-at + 64 * width ≤ length witness
   pub values : AllValues weights 0 (constraints .count + aggregated .count)
-  pub few : constraints .count + aggregated .count ≤ 64
-  pub forms : aggregated .count ≤ 8
+  pub few : constraints .count + aggregated .count ≤ mostProducts
+  pub forms : aggregated .count ≤ 32
   pub sums : 64 * aggregated .count ≤ length totals
 
 -- b'' of k: Σ a_ij·g_ij over all pairs, of triangle k and the triangle g, and element k of the totals, together
@@ -83,6 +84,11 @@ with-b″ scratch regions count r n witness s = splice scratch (regions .b2) (b�
 abbrev pub with-φ-and-b″ : List ℕ → Strided → List ℕ → (alpha beta : ℕ) → List ℕ → Regions → (count r n : ℕ) → List ℕ → ℕ → List ℕ
 with-φ-and-b″ job constraints weights alpha beta scratch regions count r n witness s = with-b″ (with-φ job constraints weights alpha beta scratch regions count r n) regions count r n witness s
 
--- weights in NTT form are chosen, of eight k at most
+-- the scratch with φ, and with b'' where it is asked for
+abbrev pub with-pass : (with-b : Bool) → List ℕ → Strided → List ℕ → (alpha beta : ℕ) → List ℕ → Regions → (count r n : ℕ) → List ℕ → ℕ → List ℕ
+with-pass with-b job constraints weights alpha beta scratch regions count r n witness s =
+    cond with-b (with-φ-and-b″ job constraints weights alpha beta scratch regions count r n witness s) (with-φ job constraints weights alpha beta scratch regions count r n)
+
+-- weights in NTT form are chosen, of 32 k at most
 abbrev pub one-pass-faster : (width alphas betas : ℕ) → Bool
-one-pass-faster width alphas betas = cond (ltb 8 betas) false (ntt-faster width alphas betas)
+one-pass-faster width alphas betas = cond (ltb 32 betas) false (ntt-faster width alphas betas)

@@ -6,7 +6,7 @@ use Prim.Native.Nat.{ℕ, _+_, _-_, _*_, _≤_, _<_}
 use lib.Dec.{leb, ltb}
 use lib.ListN.{length, getD, replicate}
 use Rattle.math.specs.lists.Table.{table}
-use Rattle.math.specs.lists.Part.{part, splice}
+use Rattle.math.specs.lists.Part.{part}
 use Rattle.math.specs.lists.Sum.{Σ}
 use Rattle.spec_leaves.specs.Rq.{Element}
 use Rattle.spec_leaves.specs.Ring.{element}
@@ -14,7 +14,8 @@ use Rattle.spec_protocol.specs.Formulas.{flat}
 use Rattle.ring_inner_product.specs.declared.Strided.{Strided}
 use Rattle.ring_inner_product.specs.Run.{Run, Within, further}
 use Rattle.core_aggregate.specs.Weighed.{Rows}
-use Rattle.ntt_vectors.specs.NttForm.{ntt-form, ntt-words, NttForm, AllValues}
+use Rattle.ntt_product.specs.NttForm.{mostProducts}
+use Rattle.ntt_vectors.specs.NttForm.{ntt-form, NttForm, AllValues}
 use Rattle.ntt_vectors.specs.Sums.{inverse-from}
 
 -- the product of a weight in NTT form and an element added to the sums
@@ -30,11 +31,11 @@ terms-added sums weights weights-at from at step count =
 abbrev pub run-added : List ℕ → List ℕ → ℕ → List ℕ → Strided → List ℕ
 run-added sums weights weights-at from x = terms-added sums weights weights-at from (x .at) (x .step) (x .count)
 
--- 192 sums with room for so many terms, of 64 in all
+-- 192 sums with room for so many terms, of the most in all
 pub record SumsSmall (sums : List ℕ) (count : ℕ) : Type 0 where
   pub whole : length sums ≡ 192
-  pub few : count ≤ 64
-  pub small : (k : ℕ) → k < 192 → getD sums k 0 ≤ (64 - count) * 18032502047663104
+  pub few : count ≤ mostProducts
+  pub small : (k : ℕ) → k < 192 → getD sums k 0 ≤ (mostProducts - count) * 18032502047663104
 
 -- the element whose values are the sums of the products of weights, in NTT form one after the other, with a run of constraints' elements and one of aggregated ones
 unfoldable pub ntt-mixed : List ℕ → Strided → List ℕ → Strided → List ℕ → Element
@@ -47,7 +48,7 @@ NttMixable job constraints scratch aggregated weights =
     Within job constraints
     × Within scratch aggregated
     × AllValues weights 0 (constraints .count + aggregated .count)
-    × (constraints .count + aggregated .count ≤ 64)
+    × (constraints .count + aggregated .count ≤ mostProducts)
 
 -- the words of `width` such elements, each of the runs of the rows' elements
 abbrev pub ntt-mixed-words : List ℕ → Strided → List ℕ → Strided → ℕ → List ℕ → List ℕ
@@ -61,26 +62,21 @@ MixRoom job constraints scratch aggregated width to weights =
     × (aggregated .at + 64 * (width * aggregated .count) ≤ to)
     × (to + 64 * width ≤ length scratch)
     × AllValues weights 0 (constraints .count + aggregated .count)
-    × (constraints .count + aggregated .count ≤ 64)
+    × (constraints .count + aggregated .count ≤ mostProducts)
 
--- weights alpha and weights beta, 64 at most
+-- weights alpha and weights beta, 96 at most
 abbrev pub Weights : (alphas betas : ℕ) → Type 0
-Weights alphas betas = (1 ≤ alphas) × (1 ≤ betas) × (alphas + betas ≤ 64)
+Weights alphas betas = alphas + betas ≤ 96
 
 -- the weights of both kinds lie within the slice, and their values have room
 abbrev pub WeightsRoom : List ℕ → (alpha alphas beta betas : ℕ) → List ℕ → Type 0
 WeightsRoom weights alpha alphas beta betas transformed =
     Run weights alpha 64 alphas × Run weights beta 64 betas × Weights alphas betas × (192 * (alphas + betas) ≤ length transformed)
 
--- a slice with the values of the weights of both kinds, one after the other
-abbrev pub with-weights : List ℕ → (alpha alphas beta betas : ℕ) → List ℕ → List ℕ
-with-weights weights alpha alphas beta betas transformed = splice (splice transformed 0 (ntt-words weights alpha alphas)) (192 * alphas) (ntt-words weights beta betas)
-
--- it holds their NTT form
+-- a slice holds the NTT form of the weights of both kinds, one after the other
 abbrev pub NttWeights : List ℕ → List ℕ → (alpha alphas beta betas : ℕ) → Type 0
 NttWeights transformed weights alpha alphas beta betas = NttForm transformed 0 weights alpha alphas × NttForm transformed (192 * alphas) weights beta betas
 
--- weights of both kinds, four to 64 together, and eight elements or more
+-- four to 96 weights of both kinds together, and eight elements or more
 abbrev pub ntt-faster : (width alphas betas : ℕ) → Bool
-ntt-faster width alphas betas =
-    cond (ltb alphas 1) false (cond (ltb betas 1) false (cond (ltb (alphas + betas) 4) false (cond (ltb 64 (alphas + betas)) false (leb 8 width))))
+ntt-faster width alphas betas = cond (ltb (alphas + betas) 4) false (cond (ltb 96 (alphas + betas)) false (leb 8 width))

@@ -6,7 +6,7 @@ use ntt_vectors::vectors;
 use ring_inner_product::Strided;
 use ring_rq::rq::Rq;
 ghost use mathlib.Core.Path.{_≡_};
-ghost use Prim.Native.Nat.{_+_, _≤_, _^_};
+ghost use Prim.Native.Nat.{_+_, _≤_, _<_, _^_};
 ghost use lib.ListN.{length};
 ghost use Rattle.math.specs.lists.Part.{part, splice};
 ghost use Rattle.spec_leaves.specs.Ring.{words};
@@ -14,7 +14,7 @@ ghost use Rattle.ring_inner_product.specs.Run.{Within};
 ghost use Rattle.ntt_transform.specs.Roots.{twiddleTable};
 ghost use Rattle.ntt_vectors.specs.NttForm.{AllValues};
 ghost use Rattle.core_aggregate.specs.Weighed.{Aggregates, mixed-words};
-ghost use Rattle.core_aggregate_ntt.specs.Terms.{term-added, run-added, SumsSmall, ntt-mixed, NttMixable, ntt-mixed-words, MixRoom, Weights, WeightsRoom, with-weights, NttWeights, ntt-faster};
+ghost use Rattle.core_aggregate_ntt.specs.Terms.{term-added, run-added, SumsSmall, ntt-mixed, NttMixable, ntt-mixed-words, MixRoom, Weights, WeightsRoom, NttWeights, ntt-faster};
 
 // The product of a weight in NTT form and the element at a place, added to 192 sums.
 pub fn add_term(
@@ -116,6 +116,13 @@ pub fn mix_all(
     }
 }
 
+// Where so many weights from a place on begin; of none, the start of the slice.
+fn first_of(at: usize, count: usize) -> usize
+    ensures { λ r. ⌜ (0 < count → r ≡ at) × (count ≡ 0 → r ≡ 0) ⌝ }
+{
+    if count < 1 { 0 } else { at }
+}
+
 // The values of the weights alpha, and after them those of beta.
 pub fn weights_to_ntt_form(
     weights: &[u32],
@@ -127,11 +134,12 @@ pub fn weights_to_ntt_form(
     transformed: &mut [u32],
 )
     requires { ⌜ (now w ≡ twiddleTable) × WeightsRoom (now weights) alpha alphas beta betas (now transformed) ⌝ }
-    ensures { λ _. ⌜ now (transformed .exit) ≡ with-weights (now (weights .entry)) alpha alphas beta betas (now (transformed .entry)) ⌝ }
     ensures { λ _. ⌜ NttWeights (now (transformed .exit)) (now (weights .entry)) alpha alphas beta betas ⌝ }
 {
-    vectors::to_ntt_form(weights, alpha, alphas, w, transformed, 0);
-    vectors::to_ntt_form(weights, beta, betas, w, transformed, 192 * alphas);
+    let first = first_of(alpha, alphas);
+    let second = first_of(beta, betas);
+    vectors::to_ntt_form(weights, first, alphas, w, transformed, 0);
+    vectors::to_ntt_form(weights, second, betas, w, transformed, 192 * alphas);
 }
 
 // `core_aggregate::aggregate` with weights in NTT form.
@@ -150,7 +158,7 @@ pub fn aggregate_ntt(
     ensures { λ _. ⌜ now (scratch .exit) ≡ splice (now (scratch .entry)) to (mixed-words (now (job .entry)) constraints (now (weights .entry)) alpha beta (now (scratch .entry)) aggregated width) ⌝ }
 {
     let w = table::twiddles();
-    let mut transformed = [0u32; 12288];
+    let mut transformed = [0u32; 18432];
     weights_to_ntt_form(
         weights,
         alpha,
@@ -172,19 +180,15 @@ pub fn aggregate_ntt(
     );
 }
 
-// From four terms and eight elements on the transforms cost less than plain products. There is room for 64 weights.
+// From four terms and eight elements on the transforms cost less than plain products. There is room for 96 weights.
 pub fn ntt_is_faster(width: usize, alphas: usize, betas: usize) -> bool
     requires { ⌜ (alphas ≤ 2 ^ 18) × (betas ≤ 2 ^ 18) ⌝ }
     ensures { λ r. ⌜ r ≡ ntt-faster width alphas betas ⌝ }
 {
     let terms = alphas + betas;
-    if alphas < 1 {
+    if terms < 4 {
         false
-    } else if betas < 1 {
-        false
-    } else if terms < 4 {
-        false
-    } else if terms > 64 {
+    } else if terms > 96 {
         false
     } else {
         8 <= width

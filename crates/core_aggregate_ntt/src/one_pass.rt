@@ -1,4 +1,5 @@
-// φ and b'' in one pass over φ'': of each vector i the elements of φ and the sums ⟨φ''_k,i, s_i⟩ of all k; then b''_k, which has Σ a''_k,ij·g_ij too.
+// φ and b'' in one pass over φ'': the elements of φ and the sums Σ⟨φ''_k,i, s_i⟩ of all k, of up to 512 elements to an inverse NTT; then b''_k, which has
+// Σ a''_k,ij·g_ij too.
 use crate::forms;
 use crate::mix;
 use core_aggregate;
@@ -8,17 +9,18 @@ use ring_inner_product::Strided;
 use ring_rq_matrix;
 use ring_rq_matrix::triangles;
 ghost use mathlib.Core.Path.{_≡_};
-ghost use Prim.Native.Nat.{_*_, _≤_, _^_};
+ghost use Prim.Native.Nat.{_*_, _≤_, _<_, _^_};
 ghost use lib.ListN.{length};
 ghost use Rattle.math.specs.lists.Table.{table};
 ghost use Rattle.math.specs.lists.Part.{splice};
 ghost use Rattle.spec_protocol.specs.Formulas.{flat};
 ghost use Rattle.ntt_transform.specs.Roots.{twiddleTable};
+ghost use Rattle.ntt_product.specs.NttForm.{mostProducts};
 ghost use Rattle.core_aggregate_ntt.specs.Terms.{Weights};
-ghost use Rattle.core_aggregate_ntt.specs.Pass.{PassRoom, φ-mixed, with-lines, HasLines, FormsRoom, formed-with, Passable, with-φ-and-b″, one-pass-faster};
+ghost use Rattle.core_aggregate_ntt.specs.Pass.{PassRoom, φ-mixed, with-lines, HasLines, FormsRoom, formed-with, Passable, with-pass, one-pass-faster};
 
-// The elements of φ of one vector into their region, and its n terms of every k added to the totals. The runs are those of the vector's first elements.
-pub fn mix_vector(
+// n elements of φ into their region, and their terms of every k added to the totals. The runs are those of the first element.
+pub fn mix_run(
     job: &[u32],
     constraints: Strided,
     scratch: &mut [u32],
@@ -31,12 +33,12 @@ pub fn mix_vector(
     w: &[u32],
     totals: &mut [u32],
 )
-    requires { ⌜ (now w ≡ twiddleTable) × PassRoom (now job) constraints (now scratch) aggregated to (now weights) (now witness) «s_at» n (now totals) × (n ≤ 64) ⌝ }
+    requires { ⌜ (now w ≡ twiddleTable) × PassRoom (now job) constraints (now scratch) aggregated to (now weights) (now witness) «s_at» n (now totals) × (n ≤ mostProducts) ⌝ }
     ensures { λ _. ⌜ now (scratch .exit) ≡ splice (now (scratch .entry)) to (φ-mixed (now (job .entry)) constraints (now (scratch .entry)) aggregated (now (weights .entry)) n) ⌝ }
     ensures { λ _. ⌜ now (totals .exit) ≡ with-lines (now (totals .entry)) (now (scratch .entry)) aggregated (now (witness .entry)) «s_at» n ⌝ }
 {
     let count = aggregated.count;
-    let mut forms = [0u64; 1536];
+    let mut forms = [0u64; 6144];
     let mut m = 0;
     while m < n {
         let constraint = Strided {
@@ -91,8 +93,15 @@ pub fn store_forms(
     }
 }
 
-// All r vectors.
-pub fn mix_vectors(
+// How many of the elements that are left are taken next.
+fn next_run(left: usize) -> usize
+    ensures { λ r. ⌜ (r ≤ mostProducts) × (r ≤ left) × (0 < left → 0 < r) ⌝ }
+{
+    if left < 512 { left } else { 512 }
+}
+
+// All of `width` elements.
+pub fn mix_runs(
     job: &[u32],
     constraints: Strided,
     scratch: &mut [u32],
@@ -101,19 +110,18 @@ pub fn mix_vectors(
     weights: &[u32],
     witness: &[u32],
     s_at: usize,
-    r: usize,
-    n: usize,
+    width: usize,
     w: &[u32],
     totals: &mut [u32],
 )
-    requires { ⌜ (now w ≡ twiddleTable) × PassRoom (now job) constraints (now scratch) aggregated to (now weights) (now witness) «s_at» (r * n) (now totals) × (n ≤ 64) × (r ≤ 64) ⌝ }
-    ensures { λ _. ⌜ now (scratch .exit) ≡ splice (now (scratch .entry)) to (φ-mixed (now (job .entry)) constraints (now (scratch .entry)) aggregated (now (weights .entry)) (r * n)) ⌝ }
-    ensures { λ _. ⌜ HasLines (now (totals .exit)) (now (totals .entry)) (now (scratch .entry)) aggregated (now (witness .entry)) «s_at» (r * n) ⌝ }
+    requires { ⌜ (now w ≡ twiddleTable) × PassRoom (now job) constraints (now scratch) aggregated to (now weights) (now witness) «s_at» width (now totals) ⌝ }
+    ensures { λ _. ⌜ now (scratch .exit) ≡ splice (now (scratch .entry)) to (φ-mixed (now (job .entry)) constraints (now (scratch .entry)) aggregated (now (weights .entry)) width) ⌝ }
+    ensures { λ _. ⌜ HasLines (now (totals .exit)) (now (totals .entry)) (now (scratch .entry)) aggregated (now (witness .entry)) «s_at» width ⌝ }
     ensures { λ _. ⌜ length (now (totals .exit)) ≡ length (now (totals .entry)) ⌝ }
 {
     let mut c = 0;
-    let mut i = 0;
-    while i < r {
+    while c < width {
+        let n = next_run(width - c);
         let constraint = Strided {
             at: constraints.at + 64 * c,
             step: constraints.step,
@@ -124,7 +132,7 @@ pub fn mix_vectors(
             step: aggregated.step,
             count: aggregated.count,
         };
-        mix_vector(
+        mix_run(
             job,
             constraint,
             scratch,
@@ -138,11 +146,10 @@ pub fn mix_vectors(
             totals,
         );
         c += n;
-        i += 1;
     }
 }
 
-// φ and b'' with weights in NTT form.
+// φ with weights in NTT form, and b'' with it where it is asked for.
 pub fn phi_and_b_ntt(
     job: &[u32],
     constraints: Strided,
@@ -156,9 +163,10 @@ pub fn phi_and_b_ntt(
     n: usize,
     witness: &[u32],
     s: usize,
+    with_b: bool,
 )
-    requires { ⌜ Passable (now job) constraints (now weights) alpha beta (now scratch) regions count r n (now witness) s × Weights (constraints .count) count × (count ≤ 8) ⌝ }
-    ensures { λ _. ⌜ now (scratch .exit) ≡ with-φ-and-b″ (now (job .entry)) constraints (now (weights .entry)) alpha beta (now (scratch .entry)) regions count r n (now (witness .entry)) s ⌝ }
+    requires { ⌜ Passable (now job) constraints (now weights) alpha beta (now scratch) regions count r n (now witness) s × Weights (constraints .count) count × (count ≤ 32) ⌝ }
+    ensures { λ _. ⌜ now (scratch .exit) ≡ with-pass «with_b» (now (job .entry)) constraints (now (weights .entry)) alpha beta (now (scratch .entry)) regions count r n (now (witness .entry)) s ⌝ }
 {
     let width = r * n;
     let step = 64 * width;
@@ -168,7 +176,7 @@ pub fn phi_and_b_ntt(
         count,
     };
     let w = table::twiddles();
-    let mut transformed = [0u32; 12288];
+    let mut transformed = [0u32; 18432];
     mix::weights_to_ntt_form(
         weights,
         alpha,
@@ -178,46 +186,58 @@ pub fn phi_and_b_ntt(
         &w,
         &mut transformed,
     );
-    let mut totals = [0u32; 512];
-    mix_vectors(
-        job,
-        constraints,
-        scratch,
-        aggregated,
-        regions.phi,
-        &transformed,
-        witness,
-        s,
-        r,
-        n,
-        &w,
-        &mut totals,
-    );
-    store_forms(
-        scratch,
-        regions.a2,
-        regions.g,
-        r,
-        &totals,
-        count,
-        regions.b2,
-    );
+    if with_b {
+        let mut totals = [0u32; 2048];
+        mix_runs(
+            job,
+            constraints,
+            scratch,
+            aggregated,
+            regions.phi,
+            &transformed,
+            witness,
+            s,
+            width,
+            &w,
+            &mut totals,
+        );
+        store_forms(
+            scratch,
+            regions.a2,
+            regions.g,
+            r,
+            &totals,
+            count,
+            regions.b2,
+        );
+    } else {
+        mix::mix_all(
+            job,
+            constraints,
+            scratch,
+            aggregated,
+            width,
+            regions.phi,
+            &transformed,
+            &w,
+        );
+    }
 }
 
-// The one pass is chosen where weights in NTT form are, of up to eight k.
+// The one pass is chosen where weights in NTT form are, of up to 32 k.
 pub fn one_pass_is_faster(width: usize, alphas: usize, betas: usize) -> bool
     requires { ⌜ (alphas ≤ 2 ^ 18) × (betas ≤ 2 ^ 18) ⌝ }
     ensures { λ r. ⌜ r ≡ one-pass-faster width alphas betas ⌝ }
 {
-    if betas > 8 {
+    if betas > 32 {
         false
     } else {
         mix::ntt_is_faster(width, alphas, betas)
     }
 }
 
-// φ as `core_aggregate::aggregate` makes it of the ring constraints and the φ'' of so many k, and then b'' as `core_aggregate::b_double_prime` does, by the way that
-// costs less.
+// φ as `core_aggregate::aggregate` makes it of the ring constraints and the φ'' of so many k, and then, where it is asked for, b'' as
+// `core_aggregate::b_double_prime` does, by the way that costs less.
 pub fn phi_and_b(
     job: &[u32],
     constraints: Strided,
@@ -231,9 +251,10 @@ pub fn phi_and_b(
     n: usize,
     witness: &[u32],
     s: usize,
+    with_b: bool,
 )
     requires { ⌜ Passable (now job) constraints (now weights) alpha beta (now scratch) regions count r n (now witness) s ⌝ }
-    ensures { λ _. ⌜ now (scratch .exit) ≡ with-φ-and-b″ (now (job .entry)) constraints (now (weights .entry)) alpha beta (now (scratch .entry)) regions count r n (now (witness .entry)) s ⌝ }
+    ensures { λ _. ⌜ now (scratch .exit) ≡ with-pass «with_b» (now (job .entry)) constraints (now (weights .entry)) alpha beta (now (scratch .entry)) regions count r n (now (witness .entry)) s ⌝ }
 {
     let width = r * n;
     if one_pass_is_faster(width, constraints.count, count) {
@@ -250,6 +271,7 @@ pub fn phi_and_b(
             n,
             witness,
             s,
+            with_b,
         );
     } else {
         let step = 64 * width;
@@ -258,7 +280,7 @@ pub fn phi_and_b(
             step,
             count,
         };
-        mix::aggregate(
+        core_aggregate::aggregate(
             job,
             constraints,
             weights,
@@ -269,17 +291,19 @@ pub fn phi_and_b(
             width,
             regions.phi,
         );
-        core_aggregate::b_double_prime(
-            scratch,
-            regions.a2,
-            regions.g,
-            regions.phi2,
-            r,
-            n,
-            witness,
-            s,
-            count,
-            regions.b2,
-        );
+        if with_b {
+            core_aggregate::b_double_prime(
+                scratch,
+                regions.a2,
+                regions.g,
+                regions.phi2,
+                r,
+                n,
+                witness,
+                s,
+                count,
+                regions.b2,
+            );
+        }
     }
 }

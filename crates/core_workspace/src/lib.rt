@@ -141,7 +141,7 @@ pub fn a(
         step,
         count: params.const_agg_length,
     };
-    core_aggregate::aggregate(
+    mix::aggregate(
         job,
         constraints,
         randomness,

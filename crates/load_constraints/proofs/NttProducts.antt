@@ -79,7 +79,8 @@ module _ (J : List ℕ) (at n : ℕ) (transformed W : List ℕ) (s-at : ℕ) (fe
   pub ntt-line-is : ntt-line J at n transformed ≡ sum n (λ m. run J at 64 m ⊗ run W s-at 64 m)
   unfolding ntt-line Ops.dot
   ntt-line-is =
-      ap element (inverse-holds sums 0 n weights elements (omega (arith, length-terms (replicate 192 0) transformed 0 J at 64 n)) holds few (form .small) (λ m. part-words J job (at + 64 * m)))
+      ap element (inverse-holds sums 0 n weights elements (omega (arith, length-terms (replicate 192 0) transformed 0 J at 64 n)) holds (omega arith)
+      (form .small) (λ m. part-words J job (at + 64 * m)))
       ∙ element-words (dot n (run W s-at 64) (run J at 64))
       ∙ dot-comm RqOps rq-ring n (run W s-at 64) (run J at 64)
 

@@ -1,4 +1,4 @@
--- The inverse NTT of sums of products of values is the inner product modulo Q, for up to 64 elements.
+-- The inverse NTT of sums of products of values is the inner product modulo Q, for up to 512 elements.
 use mathlib.Core.Path.{_≡_, refl, sym, ap, ap₂, subst, _∙_}
 use mathlib.Core.List.{List}
 use Prim.Native.Nat.{ℕ, zero, suc, _+_, _-_, _*_, _/_, _%_, _≤_, _<_}
@@ -13,7 +13,7 @@ use Rattle.spec_leaves.specs.Zq.{Q, lackQ, zsub}
 use Rattle.spec_leaves.specs.Rq.{coeff, low, high, rmul}
 use Rattle.spec_leaves.proofs.Suited.{suited, offset-above}
 use Rattle.ntt_product.specs.Crt.{crtOf, crtAllOf}
-use Rattle.ntt_product.specs.NttForm.{ProductsFit, nttOf, valuesAdded, sumsOf, offsetQ, scaledOf, inverseNttOf}
+use Rattle.ntt_product.specs.NttForm.{ProductsFit, nttOf, valuesAdded, sumsOf, mostProducts, offsetQ, scaledOf, inverseNttOf}
 use Rattle.ntt_product.proofs.CrtLaws.{crt-is}
 use Rattle.ntt_product.proofs.Residue.{Words, value-bound, product-small, sums-bound, scaled-at}
 
@@ -36,16 +36,16 @@ high-bound a b wa wb k h =
           (λ i l. words-product (coeff a (k + 1 + i)) (coeff b (63 - i)) (wa (k + 1 + i) (omega arith)) (wb (63 - i) (omega arith))),
     )
 
--- l − h modulo Q, by way of a number that is l − h + 4096·Q²
+-- l − h modulo Q, by way of a number that is l − h + 512·64·Q²
 difference : (l h : ℕ) → h < offsetQ → (l + (offsetQ - h)) % Q ≡ zsub l h
 difference l h s =
     ap (λ x. x % Q) (sym (whole (h % Q) (h / Q) (omega arith) (omega arith)))
-    ∙ Nat.add-mul-mod-self-left (l + (Q - h % Q)) Q ((4096 * Q - 1) - h / Q)
+    ∙ Nat.add-mul-mod-self-left (l + (Q - h % Q)) Q ((mostProducts * 64 * Q - 1) - h / Q)
   where
-    whole : (r q : ℕ) → Q * q + r ≡ h → r < Q → l + (Q - r) + Q * ((4096 * Q - 1) - q) ≡ l + (offsetQ - h)
+    whole : (r q : ℕ) → Q * q + r ≡ h → r < Q → l + (Q - r) + Q * ((mostProducts * 64 * Q - 1) - q) ≡ l + (offsetQ - h)
     whole r q e b = omega arith
 
-module _ (n : ℕ) (hn : n ≤ 64) (a b : ℕ → List ℕ) (wa : (m : ℕ) → Words (a m)) (wb : (m : ℕ) → Words (b m)) where
+module _ (n : ℕ) (hn : n ≤ mostProducts) (a b : ℕ → List ℕ) (wa : (m : ℕ) → Words (a m)) (wb : (m : ℕ) → Words (b m)) where
   -- the inner product
   pub inverse-is : inverseNttOf (sumsOf 0 n a b) (sumsOf 1 n a b) (sumsOf 2 n a b) ≡ table 64 (λ k. zsub (Σ n (λ m. low (a m) (b m) k)) (Σ n (λ m. high (a m) (b m) k)))
   unfolding inverseNttOf crtAllOf
@@ -62,7 +62,7 @@ module _ (n : ℕ) (hn : n ≤ 64) (a b : ℕ → List ℕ) (wa : (m : ℕ) → 
           (λ m l. high-bound (a m) (b m) (wa m) (wb m) k h) in
           joined k h (Σ n (λ m. low (a m) (b m) k)) (Σ n (λ m. high (a m) (b m) k)) refl refl (omega arith) (omega (arith, offset-above lackQ suited))
         where
-          joined : (k : ℕ) → k < 64 → (L H : ℕ) → L ≡ Σ n (λ m. low (a m) (b m) k) → H ≡ Σ n (λ m. high (a m) (b m) k) → L ≤ 75557863690729951334400 → H < offsetQ
+          joined : (k : ℕ) → k < 64 → (L H : ℕ) → L ≡ Σ n (λ m. low (a m) (b m) k) → H ≡ Σ n (λ m. high (a m) (b m) k) → L ≤ mostProducts * (64 * 18446744065119617025) → H < offsetQ
               → crtOf (getD (scaledOf 0 (sumsOf 0 n a b)) k 0) (getD (scaledOf 1 (sumsOf 1 n a b)) k 0) (getD (scaledOf 2 (sumsOf 2 n a b)) k 0) ≡ zsub L H
           joined k h L H eL eH bl bh =
               let e : L + (offsetQ - H) + Σ n (λ m. high (a m) (b m) k) ≡ Σ n (λ m. low (a m) (b m) k) + offsetQ = omega arith in

@@ -1,4 +1,4 @@
--- Modulo one prime: the inverse NTT of sums of products of values gives the coefficients of the inner product, plus 4096·Q².
+-- Modulo one prime: the inverse NTT of sums of products of values gives the coefficients of the inner product, plus 512·64·Q².
 use mathlib.Core.Path.{_≡_, sym, ap, ap₂, subst, _∙_}
 use mathlib.Core.List.{List}
 use Prim.Native.Nat.{ℕ, zero, _+_, _-_, _*_, _%_, _≤_, _<_, _^_}
@@ -26,7 +26,7 @@ use Rattle.ntt_transform.specs.Roots.{delta, root, opposite, twiddleTable}
 use Rattle.ntt_transform.specs.Transforms.{inverseTransformOf}
 use Rattle.ntt_transform.proofs.Roots.{primeOf, positive, rootIn, root-half, twiddle-pow, inverse-pow, twiddles-fit, inverses-fit}
 use Rattle.ntt_transform.proofs.Laws.{forward-bound, inverse-layers-bound, res-forward, res-inverse}
-use Rattle.ntt_product.specs.NttForm.{nttOf, sumsOf, inverse64, offsetQ, offset, scaledOf}
+use Rattle.ntt_product.specs.NttForm.{nttOf, sumsOf, inverse64, mostProducts, offsetQ, offset, scaledOf}
 
 module _ (O : Ops) (R : CRing O) where
   open Ops O using (Carrier, add as _⊕_, mul as _⊗_, neg, one)
@@ -60,11 +60,11 @@ pub value-bound : (i : ℕ) → i < 3 → (a : List ℕ) → Words a → (k : �
 unfolding nttOf
 value-bound i hi a wa k h = forward-bound (delta i) (opposite i) twiddleTable (192 * i) (twiddles-fit i hi) a (λ k l. omega (arith, wa k l)) k h
 
--- so are 64 products in a u64
+-- so are 512 products in a u64
 pub product-small : (x y : ℕ) → x ≤ 134285152 → y ≤ 134285152 → x * y ≤ 18032502047663104
 product-small x y hx hy = omega (arith, Nat.mul-le-mul {n₁ = x} {m₁ = y} {n₂ = 134285152} {m₂ = 134285152} hx hy)
 
-module _ (i : ℕ) (hi : i < 3) (n : ℕ) (hn : n ≤ 64) (a b : ℕ → List ℕ) (wa : (m : ℕ) → Words (a m)) (wb : (m : ℕ) → Words (b m)) where
+module _ (i : ℕ) (hi : i < 3) (n : ℕ) (hn : n ≤ mostProducts) (a b : ℕ → List ℕ) (wa : (m : ℕ) → Words (a m)) (wb : (m : ℕ) → Words (b m)) where
   open Ops (ModOps (primeOf i) (positive i)) using (Carrier, add as _⊕_, mul as _⊗_, neg, one)
 
   infixl 60 _⊕_
@@ -161,7 +161,7 @@ module _ (i : ℕ) (hi : i < 3) (n : ℕ) (hn : n ≤ 64) (a b : ℕ → List �
       ∙ ap₂ _⊕_ (sym (res-Σ (primeOf i) (positive i) n (λ m. low (a m) (b m) k)))
       (sum-neg O (mod-ring (primeOf i) (positive i)) n (λ m. r (high (a m) (b m) k)) ∙ ap neg (sym (res-Σ (primeOf i) (positive i) n (λ m. high (a m) (b m) k))))
 
-  -- the remainder of a coefficient plus 4096·Q², which is x
+  -- the remainder of a coefficient plus 512·64·Q², which is x
   pub scaled-at : (k x : ℕ) → k < 64 → x + Σ n (λ m. high (a m) (b m) k) ≡ Σ n (λ m. low (a m) (b m) k) + offsetQ
       → getD (scaledOf i (sumsOf i n a b)) k 0 ≡ x % primeOf i
   unfolding scaledOf remaindersOf

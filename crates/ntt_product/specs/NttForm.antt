@@ -39,9 +39,13 @@ inverse64 zero = 132119947
 inverse64 (suc zero) = 132118561
 inverse64 (suc (suc i)) = 132118435
 
--- 4096·Q², a multiple of Q above what is taken off in every sum of 64 products
+-- the most products in a sum: 2·512·64·2^64 is 2^80, which is below the product of the primes
+abbrev pub mostProducts : ℕ
+mostProducts = 512
+
+-- 512·64·Q², a multiple of Q above what is taken off in every sum of 512 products
 abbrev pub offsetQ : ℕ
-offsetQ = 4096 * (Q * Q)
+offsetQ = mostProducts * (64 * (Q * Q))
 
 -- and modulo prime i
 abbrev pub offset : ℕ → ℕ
@@ -49,7 +53,7 @@ offset zero = offsetQ % 134217089
 offset (suc zero) = offsetQ % 134215681
 offset (suc (suc i)) = offsetQ % 134215553
 
--- the remainders by prime i of the coefficients plus 4096·Q²
+-- the remainders by prime i of the coefficients plus 512·64·Q²
 unfoldable pub scaledOf : ℕ → List ℕ → List ℕ
 scaledOf i s = remaindersOf (delta i) (inverse64 i) (offset i) (inverseTransformOf (delta i) (opposite i) twiddleTable (576 + 192 * i) s)
 

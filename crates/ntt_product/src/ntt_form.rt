@@ -1,4 +1,4 @@
-// Elements in NTT form: an inner product of up to 64 elements is a sum of products of their values, with one inverse NTT.
+// Elements in NTT form: an inner product of up to 512 elements is a sum of products of their values, with one inverse NTT.
 use crate::crt;
 use crate::crt::MODULUS;
 use ntt_layers::words;
@@ -60,7 +60,7 @@ pub fn add_values(s: [u64; 64], x: [u32; 64], y: [u32; 64]) -> [u64; 64]
     out
 }
 
-// The product of two transformed elements added to the sums. From no sums there is room for 64 products.
+// The product of two transformed elements added to the sums. From no sums there is room for 512 products.
 pub fn add_product(sums: Sums, x: Transformed, y: Transformed) -> Sums
     requires first { ⌜ ProductsFit (sums .first) (x .first) (y .first) ⌝ }
     requires second { ⌜ ProductsFit (sums .second) (x .second) (y .second) ⌝ }
@@ -88,18 +88,18 @@ pub fn add_product(sums: Sums, x: Transformed, y: Transformed) -> Sums
     }
 }
 
-// 4096·Q² modulo the three primes.
-const FIRST_OFFSET: u64 = (MODULUS % 134217089) * (MODULUS % 134217089) % 134217089 * 4096
+// 512·64·Q² modulo the three primes.
+const FIRST_OFFSET: u64 = (MODULUS % 134217089) * (MODULUS % 134217089) % 134217089 * 32768
     % 134217089;
 
-const SECOND_OFFSET: u64 = (MODULUS % 134215681) * (MODULUS % 134215681) % 134215681 * 4096
+const SECOND_OFFSET: u64 = (MODULUS % 134215681) * (MODULUS % 134215681) % 134215681 * 32768
     % 134215681;
 
-const THIRD_OFFSET: u64 = (MODULUS % 134215553) * (MODULUS % 134215553) % 134215553 * 4096
+const THIRD_OFFSET: u64 = (MODULUS % 134215553) * (MODULUS % 134215553) % 134215553 * 32768
     % 134215553;
 
 // From sums of products of values to the coefficients of the inner product. The factors are the inverses of 64, and the offsets the remainders of
-// 4096·Q², which makes every sum of 64 products positive.
+// 512·64·Q², which makes every sum of 512 products positive.
 pub fn inverse(sums: Sums, w: &[u32]) -> [u32; 64]
     requires { ⌜ now w ≡ twiddleTable ⌝ }
     ensures { λ r. ⌜ r ≡ inverseNttOf (sums .first) (sums .second) (sums .third) ⌝ }

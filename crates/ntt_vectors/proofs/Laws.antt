@@ -66,6 +66,21 @@ values-before S S′ to new at n e h v =
       small = λ i m k a b l. subst (λ x. x ≤ 134285152) (sym (getD-splice-before S to new (at + 64 * i + 192 * m + k) 0 (omega arith))) (v .small i m k a b l);
     }
 
+-- where their words are the same
+pub values-same : (S S′ : List ℕ) (at n : ℕ) → length S′ ≡ length S → ((o m : ℕ) → o + m ≤ 192 * n → part S′ (at + o) m ≡ part S (at + o) m) → AllValues S at n → AllValues S′ at n
+values-same S S′ at n size same v = record {
+  within = omega (arith, v .within, size);
+  small = λ i m k a b l.
+      let there : at + 64 * i + 192 * m + k ≡ at + (64 * i + 192 * m) + k = omega arith in
+      let word : getD S′ (at + 64 * i + 192 * m + k) 0 ≡ getD S (at + 64 * i + 192 * m + k) 0 =
+      ap (λ p. getD S′ p 0) there
+      ∙ sym (getD-part 0 S′ (at + (64 * i + 192 * m)) 64 k l)
+      ∙ ap (λ w. getD w k 0) (same (64 * i + 192 * m) 64 (omega arith))
+      ∙ getD-part 0 S (at + (64 * i + 192 * m)) 64 k l
+      ∙ ap (λ p. getD S p 0) (sym there) in
+      subst (λ x. x ≤ 134285152) (sym word) (v .small i m k a b l);
+}
+
 module _ (slice : List ℕ) (at : ℕ) (xs : List ℕ) (from : ℕ) where
   -- an NTT form is of values
   pub ntt-form-values : (n : ℕ) → NttForm slice at xs from n → AllValues slice at n
@@ -98,6 +113,17 @@ module _ (slice : List ℕ) (at : ℕ) (xs : List ℕ) (from : ℕ) where
         small = k .small;
         within = omega (arith, k .within, length-splice slice to new);
       }
+
+  -- where its words are the same
+  pub ntt-form-same : (S′ : List ℕ) (n : ℕ) → length S′ ≡ length slice → ((o m : ℕ) → o + m ≤ 192 * n → part S′ (at + o) m ≡ part slice (at + o) m)
+      → NttForm slice at xs from n → NttForm S′ at xs from n
+  ntt-form-same S′ n size same k = record {
+    ntt = λ i m a b.
+        let there : at + 64 * i + 192 * m ≡ at + (64 * i + 192 * m) = omega arith in
+        ap (λ p. part S′ p 64) there ∙ same (64 * i + 192 * m) 64 (omega arith) ∙ ap (λ p. part slice p 64) (sym there) ∙ k .ntt i m a b;
+    small = k .small;
+    within = omega (arith, k .within, size);
+  }
 
 -- inner products of the same values
 module _ (x x′ : List ℕ) (p p′ : ℕ) (y y′ : List ℕ) (q q′ n : ℕ) (same-x : (o : ℕ) → o < 192 * n → getD x (p + o) 0 ≡ getD x′ (p′ + o) 0)
@@ -162,5 +188,5 @@ module _ (x : List ℕ) (x-at : ℕ) (xs : List ℕ) (xs-at : ℕ) (y : List ℕ
       (ap₂ (λ s t. inverseNttOf s t (value-sums x (x-at + 128) y (y-at + 128) n)) (sums-are 0 x-at y-at (omega arith) (omega arith) (omega arith))
       (sums-are 1 (x-at + 64) (y-at + 64) (omega arith) (omega arith) (omega arith))
       ∙ ap (inverseNttOf (sumsOf 0 n a b) (sumsOf 1 n a b)) (sums-are 2 (x-at + 128) (y-at + 128) (omega arith) (omega arith) (omega arith))
-      ∙ inverse-words n few a b (kx .small) (ky .small))
+      ∙ inverse-words n (omega arith) a b (kx .small) (ky .small))
       ∙ element-words (dot RqOps n (run xs xs-at 64) (run ys ys-at 64))

@@ -1,7 +1,7 @@
 -- The sums of products of values: room for a term more, and the inverse NTT.
 use mathlib.Core.Path.{_≡_, sym, ap, ap₂, subst, _∙_}
 use mathlib.Core.List.{List}
-use Prim.Native.Nat.{ℕ, _+_, _*_, _/_, _%_, _≤_, _<_}
+use Prim.Native.Nat.{ℕ, _+_, _-_, _*_, _/_, _%_, _≤_, _<_}
 use native.Mathlib.Omega.{arith}
 use lib.ListN.{length, getD}
 use Rattle.math.specs.lists.Part.{part, splice}
@@ -12,7 +12,7 @@ use Rattle.math.proofs.lists.Splice.{getD-part, part-table}
 use Rattle.math.proofs.lists.Fill.{getD-splice-table}
 use Rattle.math.specs.algebra.Ops.{dot}
 use Rattle.spec_leaves.specs.Ring.{RqOps, IsElement, words, element}
-use Rattle.ntt_product.specs.NttForm.{nttOf, sumsOf, inverseNttOf}
+use Rattle.ntt_product.specs.NttForm.{nttOf, sumsOf, mostProducts, inverseNttOf}
 use Rattle.ntt_product.proofs.Residue.{Words, value-bound, product-small}
 use Rattle.ntt_vectors.specs.NttForm.{ntt-form, NttForm, AllValues}
 use Rattle.ntt_vectors.proofs.Stored.{values-part}
@@ -52,8 +52,8 @@ all-small slice at n v m k l b =
     let there : at + 192 * m + k ≡ at + 64 * (k / 64) + 192 * m + k % 64 = omega arith in
     subst (λ p. getD slice p 0 ≤ 134285152) (sym there) (v .small (k / 64) m (k % 64) (omega arith) l (omega arith))
 
--- after fewer than 64 terms there is room for one more
-pub room-for : (sums : List ℕ) (at : ℕ) (x : List ℕ) (x-at : ℕ) (y : List ℕ) (y-at : ℕ) → ((k : ℕ) → k < 192 → getD sums (at + k) 0 ≤ 63 * 18032502047663104)
+-- after fewer than 512 terms there is room for one more
+pub room-for : (sums : List ℕ) (at : ℕ) (x : List ℕ) (x-at : ℕ) (y : List ℕ) (y-at : ℕ) → ((k : ℕ) → k < 192 → getD sums (at + k) 0 ≤ (mostProducts - 1) * 18032502047663104)
     → ((k : ℕ) → k < 192 → getD x (x-at + k) 0 ≤ 134285152) → ((k : ℕ) → k < 192 → getD y (y-at + k) 0 ≤ 134285152) → NttRoom sums at x x-at y y-at
 room-for sums at x x-at y y-at s hx hy k l = omega (arith, s k l, product-small (getD x (x-at + k) 0) (getD y (y-at + k) 0) (hx k l) (hy k l))
 
@@ -83,7 +83,7 @@ module _ (sums : List ℕ) (at n : ℕ) (a b : ℕ → List ℕ) (within : at + 
       (λ m c. ap₂ _*_ (value-at (a m) i k hi l) (value-at (b m) i k hi l)))
 
   -- the inverse NTT gives the inner product
-  pub inverse-holds : n ≤ 64 → ((m : ℕ) → Words (a m)) → ((m : ℕ) → Words (b m)) → inverse-from sums at ≡ words (dot RqOps n (λ m. element (a m)) (λ m. element (b m)))
+  pub inverse-holds : n ≤ mostProducts → ((m : ℕ) → Words (a m)) → ((m : ℕ) → Words (b m)) → inverse-from sums at ≡ words (dot RqOps n (λ m. element (a m)) (λ m. element (b m)))
   unfolding inverse-from
   inverse-holds few wa wb =
       ap₂ (λ s t. inverseNttOf s t (part sums (at + 128) 64)) (part-is 0 at (omega arith) (omega arith)) (part-is 1 (at + 64) (omega arith) (omega arith))

@@ -16,7 +16,7 @@ use Rattle.spec_leaves.specs.Zq.{Q, zsub}
 use Rattle.spec_leaves.specs.Rq.{coeff, low, high, rmul}
 use Rattle.spec_leaves.specs.Ring.{RqOps, words, element}
 use Rattle.spec_leaves.proofs.Bridge.{words-sum, words-element, element-rmul, rmul-element}
-use Rattle.ntt_product.specs.NttForm.{sumsOf, inverseNttOf}
+use Rattle.ntt_product.specs.NttForm.{sumsOf, mostProducts, inverseNttOf}
 use Rattle.ntt_product.proofs.Residue.{product-small}
 use Rattle.ntt_product.proofs.Inner.{inverse-is}
 use Rattle.ntt_vectors.specs.NttForm.{SumsRoom, values-added, value-sums, Values}
@@ -114,6 +114,6 @@ products-words n a b =
         ∙ (unfold rmul in getD-table 64 (λ k. zsub (low (a m) (b m) k) (high (a m) (b m) k)) k 0 h)
 
 -- the inverse NTT of the sums of n products of values gives the inner product's words
-pub inverse-words : (n : ℕ) → n ≤ 64 → (a b : ℕ → List ℕ) → ((m k : ℕ) → k < 64 → coeff (a m) k ≤ 4294967295) → ((m k : ℕ) → k < 64 → coeff (b m) k ≤ 4294967295)
+pub inverse-words : (n : ℕ) → n ≤ mostProducts → (a b : ℕ → List ℕ) → ((m k : ℕ) → k < 64 → coeff (a m) k ≤ 4294967295) → ((m k : ℕ) → k < 64 → coeff (b m) k ≤ 4294967295)
     → inverseNttOf (sumsOf 0 n a b) (sumsOf 1 n a b) (sumsOf 2 n a b) ≡ words (dot RqOps n (λ m. element (a m)) (λ m. element (b m)))
 inverse-words n few a b wa wb = inverse-is n few a b (λ m k l. wa m k l) (λ m k l. wb m k l) ∙ products-words n a b

@@ -140,11 +140,7 @@ fn weigh(
     ensures { λ result. ⌜ Unchanged (regions .phi) (weighed-with-h «with_b» (now (job .entry)) (now (randomness .entry)) (now (witness .entry)) params regions (now (scratch .entry)))
         (now (scratch .exit)) ⌝ }
 {
-    if with_b {
-        phi_and_b::phi_and_b(job, randomness, witness, params, regions, scratch);
-    } else {
-        core_workspace::phi(job, randomness, params, regions, scratch);
-    }
+    phi_and_b::phi_and_b(job, randomness, witness, params, regions, scratch, with_b);
     add_h(witness, params, regions, scratch)
 }
 

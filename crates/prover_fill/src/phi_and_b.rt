@@ -1,4 +1,4 @@
-// φ and b'' of the whole call, together.
+// φ, and b'' with it for the whole call.
 use core_aggregate_ntt::one_pass;
 use layout_regions::Regions;
 use layout_sizes::names;
@@ -10,9 +10,9 @@ ghost use Rattle.core_workspace.specs.Ready.{Drawn};
 ghost use Rattle.core_workspace.specs.Holds.{Holds};
 ghost use Rattle.core_workspace.specs.Aggregated.{φ″-words};
 ghost use Rattle.prover_commit.specs.Work.{Work-given};
-ghost use Rattle.prover_fill.specs.Stored.{with-φ, with-b″};
+ghost use Rattle.prover_fill.specs.Stored.{weighed-scratch};
 
-// φ of the ring constraints and of the φ'' in its region, and then b'' of the a'', φ'' and g in theirs.
+// φ of the ring constraints and of the φ'' in its region, and then, where it is asked for, b'' of the a'', φ'' and g in theirs.
 pub fn phi_and_b(
     job: &[u32],
     randomness: &[u32],
@@ -20,9 +20,10 @@ pub fn phi_and_b(
     params: EnvironmentParameters,
     regions: Regions,
     scratch: &mut [u32],
+    with_b: bool,
 )
     requires { ⌜ Work-given (now job) (now witness) params regions (now scratch) × Drawn 5 (now job) (now randomness) × Holds (now scratch) (regions .phi2) (φ″-words (now job) (now randomness)) ⌝ }
-    ensures { λ _. ⌜ now (scratch .exit) ≡ with-b″ (with-φ (now (job .entry)) (now (randomness .entry)) regions (now (scratch .entry))) (now (witness .entry)) params regions ⌝ }
+    ensures { λ _. ⌜ now (scratch .exit) ≡ weighed-scratch «with_b» (now (job .entry)) (now (randomness .entry)) (now (witness .entry)) params regions (now (scratch .entry)) ⌝ }
 {
     let width = params.multiplicity * params.rank;
     let step = 64 * width;
@@ -44,5 +45,6 @@ pub fn phi_and_b(
         params.rank,
         witness,
         1,
+        with_b,
     );
 }

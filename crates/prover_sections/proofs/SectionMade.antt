@@ -1,21 +1,22 @@
 -- The words of the sections, made of what stands in the scratch, are those of the formulas.
-use mathlib.Core.Path.{_≡_, sym, ap, _∙_}
+use mathlib.Core.Path.{_≡_, sym, ap, subst, _∙_}
 use mathlib.Core.List.{List, []}
 use Prim.Native.Nat.{ℕ, _+_, _*_}
 use lib.ListN.{length}
 use Rattle.math.specs.lists.Table.{table}
 use Rattle.math.specs.lists.Part.{part}
 use Rattle.spec_protocol.specs.Parameters.{Parameters, parameters, T}
-use Rattle.spec_protocol.specs.Layout.{start, job-sections}
+use Rattle.spec_protocol.specs.Layout.{start, job-sections, randomness-sections}
 use Rattle.spec_protocol.specs.Views.{public}
 use Rattle.spec_protocol.specs.Formulas as F
 use Rattle.spec_protocol.specs.Formulas.{_⊕_, flat, times}
 use Rattle.spec_protocol.proofs.ReadBack.{g-symmetric, h-symmetric}
+use Rattle.ring_challenge_products.specs.Powers.{AllSparse}
 use Rattle.ring_rq_matrix.specs.Region.{vector}
 use Rattle.commitments_outer.specs.Cells.{digits-at}
 use Rattle.commitments_outer.proofs.Formula.{digits, u₁-is, u₂-is}
 use Rattle.core_jl.proofs.Formula.{run-is-p}
-use Rattle.transcript_challenges.proofs.Formula.{z-formula}
+use Rattle.transcript_challenges.proofs.Formula.{challenges-sparse, z-formula}
 use Rattle.layout_regions.specs.declared.Regions.{Regions}
 use Rattle.relation_env_params.specs.declared.env_params.EnvironmentParameters.{EnvironmentParameters}
 use Rattle.relation_env_params.specs.Parameters.{parametersOf}
@@ -78,6 +79,13 @@ module _ (J R W : List ℕ) (params : EnvironmentParameters) (regions : Regions)
   pub p-made : p-in (parametersOf params) R W ≡ p-words J R W
   unfolding start
   p-made = ap (λ P. p-in P R W) same ∙ run-is-p J R W
+
+  -- the challenges have few coefficients
+  pub c-sparse : Holds S (regions .challenges) (c-words J R) → AllSparse S (regions .challenges) (params .multiplicity)
+  c-sparse held =
+      subst (AllSparse S (regions .challenges)) (sym (ap (λ P. P .r) same))
+      (challenges-sparse S (regions .challenges) (parameters J .r) (λ i. part R (start (randomness-sections (parameters J)) 5 + 41 * i) 41)
+      (λ i. part R (start (randomness-sections (parameters J)) 6 + 63 * i) 63) held)
 
   -- z
   pub z-made : Holds S (regions .challenges) (c-words J R) → z-in (parametersOf params) regions S W ≡ z-words J R W

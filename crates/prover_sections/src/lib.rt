@@ -17,6 +17,7 @@ ghost use Rattle.math.specs.lists.Part.{splice};
 ghost use Rattle.spec_protocol.specs.Parameters.{parameters};
 ghost use Rattle.spec_protocol.specs.Layout.{span};
 ghost use Rattle.spec_protocol.specs.Prover.{made-sections};
+ghost use Rattle.ring_challenge_products.specs.Powers.{AllSparse};
 ghost use Rattle.admission_slices.specs.Admission.{callOf};
 ghost use Rattle.relation_env_params.specs.Parameters.{parametersOf};
 ghost use Rattle.core_workspace.specs.Ready.{Ready, Drawn};
@@ -109,7 +110,8 @@ fn compute_z(
     output: &mut [u32],
     at: usize,
 ) -> usize
-    requires { ⌜ Placed params regions (now scratch) × Vectors params (now witness) × SectionsRoom at (z-in (parametersOf params) regions (now scratch) (now witness) ∷ []) (now output) ⌝ }
+    requires { ⌜ Placed params regions (now scratch) × Vectors params (now witness) × AllSparse (now scratch) (regions .challenges) (params .multiplicity)
+        × SectionsRoom at (z-in (parametersOf params) regions (now scratch) (now witness) ∷ []) (now output) ⌝ }
     ensures { λ next. ⌜ Put at next (now (output .entry)) (now (output .exit)) (z-in (parametersOf params) regions (now (scratch .entry)) (now (witness .entry)) ∷ []) ⌝ }
 {
     let vectors = params.multiplicity;
@@ -158,7 +160,8 @@ fn put_z_t_g_h(
     output: &mut [u32],
     at: usize,
 ) -> usize
-    requires { ⌜ Placed params regions (now scratch) × Vectors params (now witness) × SectionsRoom at (last-in (parametersOf params) regions (now scratch) (now witness)) (now output) ⌝ }
+    requires { ⌜ Placed params regions (now scratch) × Vectors params (now witness) × AllSparse (now scratch) (regions .challenges) (params .multiplicity)
+        × SectionsRoom at (last-in (parametersOf params) regions (now scratch) (now witness)) (now output) ⌝ }
     ensures { λ next. ⌜ Put at next (now (output .entry)) (now (output .exit)) (last-in (parametersOf params) regions (now (scratch .entry)) (now (witness .entry))) ⌝ }
 {
     let t_at = compute_z(witness, params, regions, scratch, output, at);
@@ -175,7 +178,8 @@ fn put_all(
     scratch: &[u32],
     output: &mut [u32],
 ) -> usize
-    requires { ⌜ Ready (now job) params regions (now scratch) × Projects params (now randomness) (now witness) ⌝ }
+    requires { ⌜ Ready (now job) params regions (now scratch) × Projects params (now randomness) (now witness)
+        × AllSparse (now scratch) (regions .challenges) (params .multiplicity) ⌝ }
     requires { ⌜ SectionsRoom 0 (all-in (parametersOf params) regions (now scratch) (now job) (now randomness) (now witness)) (now output) ⌝ }
     ensures { λ next. ⌜ Put 0 next (now (output .entry)) (now (output .exit))
         (all-in (parametersOf params) regions (now (scratch .entry)) (now (job .entry)) (now (randomness .entry)) (now (witness .entry))) ⌝ }

@@ -1,18 +1,18 @@
 -- Squared norms of elements and of their digits, of any words.
 use mathlib.Core.Path.{_≡_, refl, sym, _∙_, ap}
 use mathlib.Core.List.{List}
-use Prim.Native.Nat.{ℕ, zero, suc, _+_, _*_, _%_, _≤_, _<_}
-use native.Mathlib.Nat.{mul-zero}
+use Prim.Native.Nat.{ℕ, zero, suc, _+_, _-_, _*_, _%_, _≤_, _<_}
+use native.Mathlib.Nat.{mul-zero, add-zero}
 use native.Mathlib.Omega.{arith}
 use lib.ListN.{length, getD}
 use Rattle.math.specs.lists.Table.{table}
 use Rattle.math.specs.lists.Part.{part}
 use Rattle.math.specs.lists.Sum.{Σ}
-use Rattle.math.proofs.lists.Sum.{Σ-ext, Σ-split}
+use Rattle.math.proofs.lists.Sum.{Σ-ext, Σ-zero, Σ-split}
 use Rattle.math.proofs.lists.Splice.{getD-part}
 use Rattle.spec_leaves.specs.Zq.{Q}
 use Rattle.spec_leaves.specs.Norm.{square, norm}
-use Rattle.spec_leaves.specs.Rq.{coeff, digitRow}
+use Rattle.spec_leaves.specs.Rq.{coeff, rzero, digitRow}
 use Rattle.ring_rq.specs.Words.{AtMostQ}
 use Rattle.spec_leaves.specs.Ring.{words, element}
 use Rattle.ring_inner_product.specs.Run.{run}
@@ -30,6 +30,20 @@ unfolding Σ
   where
     more : (w n : ℕ) → w * suc n ≡ w * n + w
     more w n = omega arith
+
+-- a sum whose terms from the m-th on are zero
+pub Σ-used : (m n : ℕ) (f : ℕ → ℕ) → m ≤ n → ((i : ℕ) → m ≤ i → f i ≡ 0) → Σ m f ≡ Σ n f
+Σ-used m n f h z =
+    let whole : m + (n - m) ≡ n = omega arith in
+    sym (ap (λ k. Σ k f) (sym whole)
+    ∙ Σ-split m (n - m) f
+    ∙ ap (λ x. Σ m f + x) (Σ-ext (n - m) (λ i. f (m + i)) (λ i. 0) (λ i l. z (m + i) (omega arith)) ∙ Σ-zero (n - m))
+    ∙ add-zero (Σ m f))
+
+-- the norm of 0
+pub norm-zero : norm rzero ≡ 0
+unfolding rzero
+norm-zero = norm-table 64 (λ k. 0) ∙ Σ-zero 64
 
 -- the square of a word
 pub square-of-word : (a : ℕ) → a ≤ Q → square (a % Q) ≡ square a

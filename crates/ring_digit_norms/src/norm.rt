@@ -51,6 +51,13 @@ pub fn add_digits_norm(sum: DigitsNorm, a: [u32; 64], base: u32, parts: usize) -
     let mut sizes = digits::sizes_of(a);
     let mut k = 0;
     while k < parts {
+        // from where nothing goes on, each row is zero
+        if digits::is_zero(sizes) {
+            return DigitsNorm {
+                norm: total,
+                cells_left: sum.cells_left,
+            };
+        }
         let taken = digits::take_row(a, base, sizes);
         let row = taken.row;
         let next = taken.sizes;

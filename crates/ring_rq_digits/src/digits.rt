@@ -1,6 +1,7 @@
 // The digits of an element (`Rq::decompose` of ring/rq.rs), row after row: row k has digit k of each coefficient.
 use ring_rq::rq::Rq;
 use ring_zq::digits;
+use ring_zq::reciprocal;
 use ring_zq::zq::Zq;
 ghost use mathlib.Core.Path.{_≡_};
 ghost use Prim.Native.Nat.{_≤_, _<_};
@@ -27,16 +28,18 @@ pub struct Taken {
     pub sizes: [u32; 64],
 }
 
-// The row of digits that the sizes give, with the coefficients' signs: one division a digit.
+// The row of digits that the sizes give, with the coefficients' signs. Each size is divided by a multiplication with the base's reciprocal.
 pub fn take_row(a: [u32; 64], base: u32, sizes: [u32; 64]) -> Taken
     requires { ⌜ 1 < base ⌝ }
     ensures { λ r. ⌜ (r .row ≡ table 64 (λ j. digitOf base (coeff a j) (coeff sizes j))) × (r .sizes ≡ table 64 (λ j. nextSize base (coeff sizes j))) ⌝ }
 {
+    let factor = reciprocal::reciprocal(base);
     let mut row = [0u32; Rq::DEGREE];
     let mut next = [0u32; Rq::DEGREE];
     for j in 0..Rq::DEGREE {
-        row[j] = digits::digit(Zq(a[j]).is_larger_than_half(), base, sizes[j]);
-        next[j] = digits::next_size(base, sizes[j]);
+        let taken = reciprocal::divide(sizes[j], base, factor);
+        row[j] = digits::digit_of(Zq(a[j]).is_larger_than_half(), base, taken.rest);
+        next[j] = digits::next_of(base, taken.quotient, taken.rest);
     }
     Taken { row, sizes: next }
 }

@@ -8,11 +8,12 @@ use native.Mathlib.Omega.{arith}
 use Rattle.math.proofs.lists.Table.{table-ext}
 use Rattle.spec_leaves.specs.Zq.{Q, Canonical, size}
 use Rattle.spec_leaves.specs.Digits.{sizeAfter, digit}
-use Rattle.spec_leaves.specs.Rq.{coeff, digitRow}
+use Rattle.spec_leaves.specs.Rq.{coeff, rzero, digitRow}
 use Rattle.ring_rq.specs.Words.{AtMostQ}
-use Rattle.spec_leaves.specs.Ring.{words, element}
+use Rattle.spec_leaves.specs.Ring.{RqOps, words, element}
 use Rattle.spec_leaves.proofs.Digits.{stays-zero, digit-zero}
-use Rattle.spec_leaves.proofs.Bridge.{coeff-element}
+use Rattle.spec_leaves.proofs.Bridge.{coeff-element, words-nil}
+use Rattle.spec_leaves.proofs.RqRing.{words-path}
 use Rattle.spec_protocol.specs.Formulas.{digit-element}
 use Rattle.spec_protocol.proofs.Norms.{words-digit}
 
@@ -44,3 +45,7 @@ row-of-words b a k f =
 -- the words of digit k of an element are a row of digits
 pub row-words : (b : ℕ) (a : List ℕ) (k : ℕ) → AtMostQ a → digitRow b a k ≡ words (digit-element b (element a) k)
 row-words b a k f = sym (words-digit b (element a) k ∙ row-of-words b a k f)
+
+-- a digit of an element whose row of digits is zero is zero
+pub digit-nil : (b : ℕ) (a : List ℕ) (k : ℕ) → AtMostQ a → digitRow b a k ≡ rzero → digit-element b (element a) k ≡ RqOps .nil
+digit-nil b a k f z = words-path (digit-element b (element a) k) (RqOps .nil) (sym (row-words b a k f) ∙ z ∙ sym words-nil)

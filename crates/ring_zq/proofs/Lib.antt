@@ -2,3 +2,4 @@ mod Signed
 pub mod Words
 pub mod Part
 mod Order
+mod Near

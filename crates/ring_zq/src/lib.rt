@@ -3,5 +3,6 @@ pub mod bound;
 pub mod digits;
 pub mod norm;
 pub mod norms;
+pub mod reciprocal;
 pub mod wide;
 pub mod zq;

@@ -1,21 +1,28 @@
 -- The challenges and z of the contracts are those of the public values and of the prover's formulas.
-use mathlib.Core.Path.{_≡_, refl, sym, ap, ap₂, _∙_}
+use mathlib.Core.Path.{_≡_, refl, sym, ap, ap₂, subst, _∙_}
 use mathlib.Core.List.{List}
-use Prim.Native.Nat.{ℕ, _+_, _*_}
+use Prim.Native.Nat.{ℕ, _+_, _*_, _<_}
+use native.Mathlib.Omega.{arith}
+use lib.ListN.{length}
 use Rattle.math.specs.lists.Table.{table}
 use Rattle.math.specs.lists.Part.{part}
-use Rattle.math.proofs.lists.Table.{table-ext}
+use Rattle.math.proofs.lists.Table.{length-table, getD-table, table-ext}
+use Rattle.math.proofs.lists.Part.{part-of-part, part-flatMap}
 use Rattle.math.proofs.algebra.Sum.{sum-ext}
+use Rattle.spec_leaves.specs.Rq.{Element}
 use Rattle.spec_leaves.specs.Ring.{RqOps, words, element}
 use Rattle.spec_leaves.specs.Challenge.{challenge}
 use Rattle.spec_leaves.proofs.Bridge.{words-element}
 use Rattle.spec_leaves.proofs.Challenge.{length-challenge, challenge-canonical}
 use Rattle.ring_inner_product.specs.Run.{run}
+use Rattle.ring_challenge_products.specs.Powers.{Sparse, AllSparse}
+use Rattle.ring_challenge_products.proofs.Sparse.{challenge-sparse}
 use Rattle.spec_protocol.specs.Parameters.{Parameters}
 use Rattle.spec_protocol.specs.Layout.{start, randomness-sections, witness-sections}
 use Rattle.spec_protocol.specs.Views.{Public, public, witness}
 use Rattle.spec_protocol.specs.Formulas as F
-use Rattle.spec_protocol.specs.Formulas.{_⊗_, sum}
+use Rattle.spec_protocol.specs.Formulas.{_⊗_, sum, flat}
+use Rattle.spec_protocol.proofs.Flat.{length-words, length-flat-table}
 use Rattle.spec_protocol.proofs.Region.{Elements}
 use Rattle.ring_rq_matrix.specs.Region.{vector}
 
@@ -27,6 +34,23 @@ words-of-challenge l ws signs signs′ shuffle shuffle′ h e f =
     ∙ ap₂ (λ a b. challenge (part ws a 41) (part ws b 63)) e f
     ∙ sym (words-element (challenge (part ws signs′ 41) (part ws shuffle′ 63))
     (length-challenge (part ws signs′ 41) (part ws shuffle′ 63), challenge-canonical (part ws signs′ 41) (part ws shuffle′ 63)))
+
+-- challenges that stand one after the other in a slice have few coefficients
+pub challenges-sparse : (S : List ℕ) (at r : ℕ) (signs shuffle : ℕ → List ℕ)
+    → part S at (length (flat (table r (λ i. element (challenge (signs i) (shuffle i)))))) ≡ flat (table r (λ i. element (challenge (signs i) (shuffle i)))) → AllSparse S at r
+unfolding flat
+challenges-sparse S at r signs shuffle held i h = subst Sparse (sym stands) (challenge-sparse (signs i) (shuffle i))
+  where
+    c : ℕ → Element
+    c i = element (challenge (signs i) (shuffle i))
+
+    stands : part S (at + 64 * i) 64 ≡ challenge (signs i) (shuffle i)
+    stands =
+        sym (part-of-part S at (length (flat (table r c))) (64 * i) 64 (omega (arith, length-flat-table r c)))
+        ∙ ap (λ l. part l (64 * i) 64) held
+        ∙ part-flatMap words 64 length-words (table r c) i (c 0) (omega (arith, length-table r c))
+        ∙ ap words (getD-table r c i (c 0) h)
+        ∙ words-element (challenge (signs i) (shuffle i)) (length-challenge (signs i) (shuffle i), challenge-canonical (signs i) (shuffle i))
 
 module _ (J R : List ℕ) where
   open Public (public J R) using (P, c)

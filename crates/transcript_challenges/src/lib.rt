@@ -1,6 +1,7 @@
 // The challenges c_i of a randomness (`generate_challenges` of transcript/mod.rs), and z = Σ s_i·c_i (prover.rs).
+use ring_challenge_products::powers;
+use ring_challenge_products::products;
 use ring_rq::rq::Rq;
-use ring_rq_matrix::column_sum;
 use transcript_words::challenge;
 ghost use mathlib.Core.Path.{_≡_};
 ghost use Prim.Native.Nat.{_+_, _*_, _≤_};
@@ -8,6 +9,7 @@ ghost use lib.ListN.{length};
 ghost use Rattle.math.specs.lists.Part.{part, splice};
 ghost use Rattle.spec_leaves.specs.Challenge.{challenge as challenge-of};
 ghost use Rattle.spec_protocol.specs.Formulas.{flat};
+ghost use Rattle.ring_challenge_products.specs.Powers.{AllSparse};
 ghost use Rattle.transcript_challenges.specs.Challenges.{challenges, z-of};
 
 // The challenge of the 41 sign words and the 63 shuffle words from two places on.
@@ -43,7 +45,7 @@ pub fn generate_challenges(
     }
 }
 
-// z = Σ s_i·c_i, of r vectors s_i of n elements and r factors.
+// z = Σ s_i·c_i, of r vectors s_i of n elements and r factors with few coefficients, whose places are made once.
 pub fn compute_z(
     s: &[u32],
     s_at: usize,
@@ -54,13 +56,16 @@ pub fn compute_z(
     out: &mut [u32],
     out_at: usize,
 )
-    requires { ⌜ («s_at» + 64 * (r * n) ≤ length (now s)) × («c_at» + 64 * r ≤ length (now c)) × («out_at» + 64 * n ≤ length (now out)) × (r ≤ 64) × (n ≤ 64) ⌝ }
+    requires { ⌜ («s_at» + 64 * (r * n) ≤ length (now s)) × («c_at» + 64 * r ≤ length (now c)) × («out_at» + 64 * n ≤ length (now out)) × (r ≤ 16) × (n ≤ 64) × AllSparse (now c) «c_at» r ⌝ }
     ensures { λ _. ⌜ now (out .exit) ≡ splice (now (out .entry)) «out_at» (flat (z-of (now (s .entry)) «s_at» (now (c .entry)) «c_at» r n)) ⌝ }
 {
+    let mut rows = [0u32; 1024];
+    powers::store(c, c_at, r, &mut rows);
     let mut place = out_at;
     let mut m = 0;
     while m < n {
-        ring_words::store(out, place, column_sum(s, s_at, n, m, c, c_at, r));
+        let element = products::inner_product(&rows, s, s_at + 64 * m, 64 * n, r);
+        ring_words::store(out, place, element);
         place += 64;
         m += 1;
     }

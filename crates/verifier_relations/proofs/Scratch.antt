@@ -13,7 +13,7 @@ use Rattle.relation_env_params.specs.declared.env_params.EnvironmentParameters.
 use Rattle.core_workspace.specs.Ready.{Ready}
 use Rattle.core_workspace.specs.Holds.{Holds, Unchanged}
 use Rattle.core_workspace.specs.Aggregated.{a″-words, φ″-words, φ-words, a-words, c-words}
-use Rattle.core_workspace.proofs.Unchanged.{unchanged-refl, unchanged-trans, unchanged-stored}
+use Rattle.core_workspace.proofs.Unchanged.{unchanged-refl, unchanged-stored}
 use Rattle.core_workspace.proofs.Holds.{holds-stored, holds-before, holds-after, holds-first, holds-second}
 use Rattle.core_workspace.proofs.Ready.{length-φ″, length-a″, length-φ, length-a, length-c, ready-changed, regions-end, φ″-end, a″-end, φ-end, a-end, g-end, c-end, t-end, u-end}
 
@@ -92,25 +92,3 @@ module _ (J R : List ℕ) (params : EnvironmentParameters) (regions : Regions) (
     pub double-leaves-c : Holds S (regions .challenges) (c-words J R) → Holds S′ (regions .challenges) (c-words J R)
     double-leaves-c h =
         subst (λ l. Holds l (regions .challenges) (c-words J R)) (sym e) (holds-after S (regions .challenges) (c-words J R) 0 (φ″-words J R ++ a″-words J R) double-end h)
-
--- a scratch that φ'' and a'' are stored into, and then φ
-pub record Summed (J R : List ℕ) (params : EnvironmentParameters) (regions : Regions) (S S′ : List ℕ) : Type 0 where
-  pub ready : Ready J params regions S′
-  pub unchanged : Unchanged (scratch-need (parameters J)) S S′
-  pub challenges : Holds S′ (regions .challenges) (c-words J R)
-  pub φ : Holds S′ (regions .phi) (φ-words J R)
-  pub a″ : Holds S′ (regions .a2) (a″-words J R)
-
-pub summed : (J R : List ℕ) (params : EnvironmentParameters) (regions : Regions) (S S′ S″ : List ℕ) → Ready J params regions S → S′ ≡ splice S 0 (φ″-words J R ++ a″-words J R)
-    → S″ ≡ splice S′ (regions .phi) (φ-words J R)
-    → Holds S (regions .challenges) (c-words J R) → Summed J R params regions S S″
-summed J R params regions S S′ S″ ready e f h =
-    let d = double-made J R params regions S ready S′ e in
-    let m = φ-made J R params regions S′ (d .ready) S″ f in
-    record {
-      ready = m .ready;
-      unchanged = unchanged-trans (scratch-need (parameters J)) S S′ S″ (d .unchanged) (m .unchanged);
-      challenges = φ-leaves-c J R params regions S′ (d .ready) S″ f (double-leaves-c J R params regions S ready S′ e h);
-      φ = m .holds;
-      a″ = φ-leaves-a″ J R params regions S′ (d .ready) S″ f (a″-made J R params regions S ready S′ e);
-    }

@@ -8,33 +8,42 @@ use native.Mathlib.Omega.{arith}
 use lib.ListN.{length}
 use Rattle.spec_leaves.specs.Answer.{Answer, fine, failed}
 use Rattle.spec_leaves.specs.Rq.{Element, radd}
-use Rattle.spec_leaves.specs.Ring.{words}
-use Rattle.ring_inner_product.specs.Run.{Run, run}
+use Rattle.spec_leaves.specs.Ring.{RqOps, words, element}
+use Rattle.math.specs.lists.Part.{part}
+use Rattle.math.proofs.algebra.Sum.{sum-ext}
+use Rattle.math.proofs.algebra.Dot.{dot-ext}
+use Rattle.ring_inner_product.specs.Run.{Run, run, further}
 use Rattle.spec_protocol.specs.Checks.{require, first}
-use Rattle.spec_protocol.specs.Parameters.{parameters, triangular}
-use Rattle.spec_protocol.specs.Layout.{start, job-sections}
+use Rattle.spec_protocol.specs.Parameters.{Parameters, parameters, triangular}
+use Rattle.spec_protocol.specs.Layout.{start, job-sections, randomness-sections}
 use Rattle.spec_protocol.specs.Region.{Elements}
 use Rattle.spec_protocol.specs.Views.{public, message}
-use Rattle.spec_protocol.specs.Formulas.{_⊗_, sum, dot, pairs, φ-sum}
+use Rattle.spec_protocol.specs.Formulas.{_⊗_, sum, dot, pairs, φ-sum, φ″}
 use Rattle.spec_protocol.specs.Verifier.{same, twice, check-24, check-25, check-26}
 use Rattle.ring_rq_matrix.specs.Region.{vector, triangle-at}
 use Rattle.ring_rq_matrix.proofs.Place.{rows-within}
-use Rattle.ring_rq_matrix.proofs.Word.{words-of-vector}
+use Rattle.ring_rq_matrix.proofs.Word.{stands-for, words-of-sum, words-of-vector}
 use Rattle.ring_rq_matrix.proofs.Formula.{sum-of-t, sum-of-g, sum-of-h, sum-of-φ}
+use Rattle.transcript_challenges.proofs.Formula.{challenges-sparse}
+use Rattle.core_aggregate.specs.Weighed.{mixed, rows-at}
 use Rattle.core_aggregate.proofs.Grid.{row-run}
+use Rattle.core_aggregate.proofs.Laws.{job-at, randomness-at, φ-sum-is}
+use Rattle.ring_challenge_products.specs.Powers.{AllSparse}
+use Rattle.core_challenge_sums.specs.Lines as Sums
+use Rattle.core_challenge_sums.specs.Lines.{LinesRoom}
 use Rattle.layout_regions.specs.declared.Regions.{Regions}
 use Rattle.relation_env_params.specs.declared.env_params.EnvironmentParameters.{EnvironmentParameters}
 use Rattle.relation_env_params.specs.Parameters.{parametersOf}
-use Rattle.core_workspace.specs.Ready.{Ready}
+use Rattle.core_workspace.specs.Ready.{Ready, Drawn}
 use Rattle.core_workspace.specs.Holds.{Holds}
-use Rattle.core_workspace.specs.Aggregated.{φ-words, c-words}
-use Rattle.core_workspace.proofs.Holds.{elements-held, vectors-held}
+use Rattle.core_workspace.specs.Aggregated.{φ-words, φ″-words, c-words}
+use Rattle.core_workspace.proofs.Holds.{elements-held, vectors-held, vectors-list-held}
+use Rattle.core_workspace.proofs.Steps.{φ-requires}
 use Rattle.core_workspace.proofs.Ready.{φ-end, a-end, g-end, c-end, t-end, u-end, b″-end, A-within}
 use Rattle.verifier_common.specs.Answers.{az, z-inner, phi}
 use Rattle.verifier_common.specs.Work.{Received, Posed, equal}
-use Rattle.verifier_relations.specs.Weighed.{challenges-in, lines-in, ChallengesWithin, LinesWithin, az-of, z-inner-of, phi-of}
+use Rattle.verifier_relations.specs.Weighed.{challenges-in, ChallengesWithin, LinesWithin, az-of, z-inner-of, phi-of, φ-lines}
 use Rattle.verifier_common.proofs.Runs.{require-equal}
-use Rattle.verifier_aggregated.proofs.Sides.{words-of-twice}
 use Rattle.verifier_common.proofs.Verdicts.{first-failed}
 use Rattle.verifier_common.proofs.Sent.{transcript-at, reckoned, received, placed, z-within, z-run, t-within}
 
@@ -68,6 +77,29 @@ module _ (J X : List ℕ) (params : EnvironmentParameters) (regions : Regions) (
         u-end J params regions S ready,
         b″-end J params regions S ready,
       ))
+
+  -- the challenges have few coefficients
+  sparse : (R : List ℕ) → Holds S (regions .challenges) (c-words J R) → AllSparse S (regions .challenges) (parameters J .r)
+  sparse R holds =
+      challenges-sparse S (regions .challenges) (parameters J .r) (λ i. part R (randomness-at J 5 + 41 * i) 41) (λ i. part R (randomness-at J 6 + 63 * i) 63) holds
+
+  -- what `core_challenge_sums::sum_of_lines` requires
+  pub constraints-require : (R : List ℕ) (at alpha beta z-at : ℕ) → Drawn 5 J R → Holds S (regions .challenges) (c-words J R) → length R < 2 ^ 61
+      → at ≡ 31 + start (job-sections (parametersOf params)) 4 → alpha ≡ start (randomness-sections (parametersOf params)) 3
+      → beta ≡ start (randomness-sections (parametersOf params)) 4 → z-at ≡ transcript-at (parametersOf params) 4
+      → let width = params .multiplicity * params .rank in
+      LinesRoom J (rows-at at width (params .«constraint_k»)) R alpha beta S (rows-at (regions .phi2) width (params .«const_agg_length»)) (params .multiplicity) (params .rank)
+      (regions .challenges) X z-at
+  constraints-require R at alpha beta z-at d holds short a b c e =
+      let m = φ-requires J R S params regions ready at alpha beta d short a b c in
+      record {
+        in-job = (m .0, m .1);
+        in-scratch = (m .3, m .2);
+        challenges = (c-within, subst (λ Q. AllSparse S (regions .challenges) (Q .r)) (sym (ready .same)) (sparse R holds));
+        vector = z-within X params (received s) z-at e;
+        few = reckoned s .within .r .1;
+        narrow = reckoned s .within .n .1;
+      }
 
   -- the rows of A lie within the job
   pub A-rows : (a-at : ℕ) → a-at ≡ 31 + start (job-sections (parametersOf params)) 6 → a-at + 64 * (params .kappa * params .rank) ≤ length J
@@ -160,23 +192,29 @@ module _ (X : List ℕ) (params : EnvironmentParameters) (regions : Regions) (S 
       sym (require-equal (words (dot (params .rank) (M .z) (M .z))) (words (pairs (params .multiplicity) (λ i j. M .g i j ⊗ c i ⊗ c j))) (failed 25 []) t (h ∙ ap₂ equal l r))
 
   -- check 26 by the boolean's value, of the words that are compared
-  pub phi-answer : (z-at h-at : ℕ) (lines left right : List ℕ) (t : Bool) → z-at ≡ transcript-at (parametersOf params) 4 → h-at ≡ transcript-at (parametersOf params) 7
-      → lines ≡ words (sum (params .multiplicity) (λ i. dot (params .rank) (vector S (regions .phi) (params .rank) i) (run X z-at 64) ⊗ challenges-in S regions i))
-      → right ≡ words (weighted h-at)
-      → left ≡ radd lines lines
-      → t ≡ equal left right → cond t fine (failed 26 []) ≡ phi-of (parametersOf params) X (challenges-in S regions) (lines-in (parametersOf params) S regions)
-  phi-answer z-at h-at lines left right t ez eh hx hr hl h =
+  pub phi-answer : (h-at : ℕ) (lines left right : List ℕ) (t : Bool) → h-at ≡ transcript-at (parametersOf params) 7 → right ≡ words (weighted h-at) → left ≡ radd lines lines
+      → t ≡ equal left right → cond t fine (failed 26 []) ≡ phi-of (parametersOf params) X (challenges-in S regions) (element lines)
+  phi-answer h-at lines left right t eh hr hl h =
       let M = message (parametersOf params) X in
       let c = challenges-in S regions in
-      let x = sum (params .multiplicity) (λ i. dot (params .rank) (lines-in (parametersOf params) S regions i) (M .z) ⊗ c i) in
+      let x = element lines in
       let y = pairs (params .multiplicity) (λ i j. M .h i j ⊗ c i ⊗ c j) in
-      let l : lines ≡ words x = hx ∙ ap (λ a. words (sum (params .multiplicity) (λ i. dot (params .rank) (vector S (regions .phi) (params .rank) i) (run X a 64) ⊗ c i))) ez in
       let r : right ≡ words y = hr ∙ ap (λ a. words (weighted a)) eh in
-      sym (require-equal (words (twice x)) (words y) (failed 26 []) t (h ∙ ap₂ equal (words-of-twice left lines x hl l) r))
+      sym (require-equal (words (twice x)) (words y) (failed 26 []) t (h ∙ ap₂ equal (words-of-sum left lines lines x x hl refl refl) r))
 
 -- where the challenges stand in their region, 24 and 25 are those of the randomness, and 26 where the lines do too
 module _ (J R X : List ℕ) (params : EnvironmentParameters) (regions : Regions) (S : List ℕ) (same-parameters : parametersOf params ≡ parameters J)
     (holds : Holds S (regions .challenges) (c-words J R)) where
+  -- element m of φ_i, mixed of the constraints
+  abbrev mixed-line : Parameters → (at alpha beta : ℕ) → ℕ → ℕ → Element
+  mixed-line Q at alpha beta i m =
+      let width = Q .r * Q .n in mixed J (further (rows-at at width (Q .K)) (i * Q .n + m)) R alpha beta S (further (rows-at (regions .phi2) width (Q .L)) (i * Q .n + m))
+
+  -- what `core_challenge_sums::sum_of_lines` answers
+  abbrev constraint-lines : Parameters → (at alpha beta z-at : ℕ) → Element
+  constraint-lines Q at alpha beta z-at =
+      let width = Q .r * Q .n in Sums.φ-lines J (rows-at at width (Q .K)) R alpha beta S (rows-at (regions .phi2) width (Q .L)) (Q .r) (Q .n) (regions .challenges) X z-at
+
   abbrev held : Elements S (regions .challenges) (parameters J .r) (public J R .c)
   held = elements-held S (regions .challenges) (parameters J .r) (public J R .c) holds
 
@@ -195,10 +233,33 @@ module _ (J R X : List ℕ) (params : EnvironmentParameters) (regions : Regions)
       ap (λ Q. z-inner-of Q X (challenges-in S regions)) same-parameters
       ∙ ap (λ e. require (same (dot (P .n) (M .z) (M .z)) e) (failed 25 [])) (sum-of-g J R X S (regions .challenges) held)
 
-  pub phi-held : Holds S (regions .phi) (φ-words J R) → phi-of (parametersOf params) X (challenges-in S regions) (lines-in (parametersOf params) S regions) ≡ phi J R X
+  pub phi-held : (lines : List ℕ) → lines ≡ words (φ-lines J R X) → phi-of (parametersOf params) X (challenges-in S regions) (element lines) ≡ phi J R X
   unfolding check-26
-  phi-held lines =
+  phi-held lines e =
+      ap (λ Q. phi-of Q X (challenges-in S regions) (element lines)) same-parameters
+      ∙ ap₂ (λ x y. require (same (twice x) y) (failed 26 [])) (stands-for lines (φ-lines J R X) e) (sum-of-h J R X S (regions .challenges) held)
+
+  -- Σ⟨φ_i,z⟩·c_i of the lines in their region
+  pub lines-held : (z-at : ℕ) → z-at ≡ transcript-at (parametersOf params) 4 → Holds S (regions .phi) (φ-words J R)
+      → sum (params .multiplicity) (λ i. dot (params .rank) (vector S (regions .phi) (params .rank) i) (run X z-at 64) ⊗ challenges-in S regions i) ≡ φ-lines J R X
+  lines-held z-at e lines =
       let P = parameters J in
-      ap (λ Q. phi-of Q X (challenges-in S regions) (lines-in Q S regions)) same-parameters
-      ∙ ap₂ (λ x y. require (same (twice x) y) (failed 26 []))
-      (sum-of-φ J R X S (regions .challenges) held (regions .phi) (vectors-held S (regions .phi) (P .r) (P .n) (φ-sum (public J R)) lines)) (sum-of-h J R X S (regions .challenges) held)
+      ap (λ a. sum (params .multiplicity) (λ i. dot (params .rank) (vector S (regions .phi) (params .rank) i) (run X a 64) ⊗ challenges-in S regions i)) e
+      ∙ ap (λ Q. sum (Q .r) (λ i. dot (Q .n) (vector S (regions .phi) (Q .n) i) (run X (transcript-at Q 4) 64) ⊗ challenges-in S regions i)) same-parameters
+      ∙ sum-of-φ J R X S (regions .challenges) held (regions .phi) (vectors-held S (regions .phi) (P .r) (P .n) (φ-sum (public J R)) lines)
+
+  -- of the constraints, where φ'' stands in its region
+  pub lines-summed : (at alpha beta z-at : ℕ) → at ≡ 31 + start (job-sections (parametersOf params)) 4 → alpha ≡ start (randomness-sections (parametersOf params)) 3
+      → beta ≡ start (randomness-sections (parametersOf params)) 4 → z-at ≡ transcript-at (parametersOf params) 4 → Holds S (regions .phi2) (φ″-words J R)
+      → constraint-lines (parametersOf params) at alpha beta z-at ≡ φ-lines J R X
+  lines-summed at alpha beta z-at a b c e φ″-held =
+      let P = parameters J in
+      ap (λ x. constraint-lines (parametersOf params) x alpha beta z-at) a
+      ∙ ap₂ (λ x y. constraint-lines (parametersOf params) (31 + start (job-sections (parametersOf params)) 4) x y z-at) b c
+      ∙ ap (constraint-lines (parametersOf params) (31 + start (job-sections (parametersOf params)) 4) (start (randomness-sections (parametersOf params)) 3)
+      (start (randomness-sections (parametersOf params)) 4)) e
+      ∙ ap (λ Q. constraint-lines Q (31 + start (job-sections Q) 4) (start (randomness-sections Q) 3) (start (randomness-sections Q) 4) (transcript-at Q 4)) same-parameters
+      ∙ sum-ext RqOps (P .r) (λ i. dot (P .n) (mixed-line P (job-at J 4) (randomness-at J 3) (randomness-at J 4) i) (message P X .z) ⊗ challenges-in S regions i)
+      (λ i. dot (P .n) (φ-sum (public J R) i) (message P X .z) ⊗ public J R .c i)
+      (λ i l. ap₂ _⊗_ (dot-ext RqOps (P .n) (mixed-line P (job-at J 4) (randomness-at J 3) (randomness-at J 4) i) (φ-sum (public J R) i) (message P X .z) (message P X .z)
+      (λ m k. φ-sum-is J R S (regions .phi2) (vectors-list-held S (regions .phi2) (P .L) (P .r) (P .n) (φ″ (public J R)) φ″-held) i m l k) (λ m k. refl)) (held i l))

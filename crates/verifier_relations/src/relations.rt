@@ -1,10 +1,12 @@
 // The relations between what the prover sends and the statement: checks 24 to 26, and 24 to 27 in order.
+use crate::lines;
 use core_workspace;
 use layout_regions::Regions;
 use layout_sizes::names;
 use layout_sizes::offsets;
 use relation_env_params::env_params::EnvironmentParameters;
 use ring_inner_product;
+use ring_rq::rq::Rq;
 use ring_rq_matrix;
 use spec_leaves::answers::Checked;
 use spec_leaves::answers::FailedCheck;
@@ -12,16 +14,16 @@ use verifier_aggregated::check_relation;
 use verifier_common::equal;
 ghost use mathlib.Core.Path.{_≡_};
 ghost use Rattle.spec_leaves.specs.Answer.{ofChecked};
+ghost use Rattle.spec_leaves.specs.Ring.{words, element};
 ghost use Rattle.spec_protocol.specs.Parameters.{parameters};
 ghost use Rattle.spec_protocol.specs.Layout.{scratch-need};
 ghost use Rattle.core_workspace.specs.Ready.{Ready};
-ghost use Rattle.core_workspace.specs.Holds.{Holds, Unchanged};
-ghost use Rattle.core_workspace.specs.Aggregated.{φ-words, a″-words};
+ghost use Rattle.core_workspace.specs.Holds.{Unchanged};
 ghost use Rattle.relation_env_params.specs.Parameters.{parametersOf};
 ghost use Rattle.verifier_common.specs.Work.{Received, Posed, Sent};
 ghost use Rattle.verifier_relations.specs.Order.{openings, aggregated, relations};
-ghost use Rattle.verifier_relations.specs.Held.{Challenged};
-ghost use Rattle.verifier_relations.specs.Weighed.{challenges-in, lines-in, ChallengesWithin, LinesWithin, az-of, z-inner-of, phi-of};
+ghost use Rattle.verifier_relations.specs.Held.{Challenged, Prepared};
+ghost use Rattle.verifier_relations.specs.Weighed.{challenges-in, ChallengesWithin, az-of, z-inner-of, phi-of, φ-lines};
 
 // "24 A·z is not Σ t_i·c_i."
 pub fn check_az(
@@ -95,29 +97,18 @@ pub fn check_z_inner(
     }
 }
 
-// "26 twice Σ⟨φ_i,z⟩·c_i is not Σ h_ij·c_i·c_j."
+// "26 twice Σ⟨φ_i,z⟩·c_i is not Σ h_ij·c_i·c_j.", of the former sum.
 pub fn check_phi(
+    lines: Rq,
     transcript: &[u32],
     params: EnvironmentParameters,
     regions: Regions,
     scratch: &[u32],
 ) -> Checked
-    requires { ⌜ Received (now transcript) params × ChallengesWithin params regions (now scratch) × LinesWithin params regions (now scratch) ⌝ }
-    ensures { λ v. ⌜ ofChecked v ≡ phi-of (parametersOf params) (now (transcript .entry)) (challenges-in (now (scratch .entry)) regions)
-        (lines-in (parametersOf params) (now (scratch .entry)) regions) ⌝ }
+    requires { ⌜ Received (now transcript) params × ChallengesWithin params regions (now scratch) ⌝ }
+    ensures { λ v. ⌜ ofChecked v ≡ phi-of (parametersOf params) (now (transcript .entry)) (challenges-in (now (scratch .entry)) regions) (element (lines .coeffs)) ⌝ }
 {
-    let z_at = offsets::of_transcript(params, names::Z);
     let h_at = offsets::of_transcript(params, names::H);
-    let lines = ring_rq_matrix::sum_of_lines(
-        scratch,
-        regions.phi,
-        transcript,
-        z_at,
-        scratch,
-        regions.challenges,
-        params.multiplicity,
-        params.rank,
-    );
     let right = ring_rq_matrix::sum_of_weighted(
         transcript,
         h_at,
@@ -155,8 +146,9 @@ pub fn check_openings(
     check_z_inner(transcript, params, regions, scratch)
 }
 
-// 26 and 27, in order, of the φ and a'' in their regions.
+// 26 and 27, in order, of Σ⟨φ_i,z⟩·c_i and of the a'' in its region.
 pub fn check_phi_and_relation(
+    lines: Rq,
     job: &[u32],
     randomness: &[u32],
     transcript: &[u32],
@@ -164,12 +156,12 @@ pub fn check_phi_and_relation(
     regions: Regions,
     scratch: &mut [u32],
 ) -> Checked
-    requires { ⌜ Sent (now job) (now randomness) (now transcript) params × Ready (now job) params regions (now scratch) × Challenged (now job) (now randomness) regions (now scratch) ⌝ }
-    requires { ⌜ Holds (now scratch) (regions .phi) (φ-words (now job) (now randomness)) × Holds (now scratch) (regions .a2) (a″-words (now job) (now randomness)) ⌝ }
+    requires { ⌜ Sent (now job) (now randomness) (now transcript) params × Ready (now job) params regions (now scratch) × Prepared (now job) (now randomness) regions (now scratch) ⌝ }
+    requires { ⌜ lines .coeffs ≡ words (φ-lines (now job) (now randomness) (now transcript)) ⌝ }
     ensures { λ v. ⌜ ofChecked v ≡ aggregated (now (job .entry)) (now (randomness .entry)) (now (transcript .entry)) ⌝ }
     ensures { λ v. ⌜ Unchanged (scratch-need (parameters (now (job .entry)))) (now (scratch .entry)) (now (scratch .exit)) ⌝ }
 {
-    let first = check_phi(transcript, params, regions, scratch);
+    let first = check_phi(lines, transcript, params, regions, scratch);
     let Checked::Passed = first else {
         return first;
     };
@@ -191,8 +183,8 @@ pub fn check_aggregated(
     ensures { λ v. ⌜ Unchanged (scratch-need (parameters (now (job .entry)))) (now (scratch .entry)) (now (scratch .exit)) ⌝ }
 {
     core_workspace::double_prime(job, randomness, params, regions, scratch);
-    core_workspace::phi(job, randomness, params, regions, scratch);
-    check_phi_and_relation(job, randomness, transcript, params, regions, scratch)
+    let lines = lines::sum_of_lines(job, randomness, transcript, params, regions, scratch);
+    check_phi_and_relation(lines, job, randomness, transcript, params, regions, scratch)
 }
 
 // 24 to 27, in order.

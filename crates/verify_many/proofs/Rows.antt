@@ -11,7 +11,7 @@ use Rattle.math.specs.lists.Table.{table}
 use Rattle.math.proofs.lists.Table.{getD-table}
 use Rattle.spec_leaves.specs.Answer.{Answer, fine, accepted, refused, failed, is-fine}
 use Rattle.spec_protocol.specs.Parameters.{Parameters, parameters}
-use Rattle.spec_protocol.specs.Layout.{randomness-refusal, transcript-refusal, scratch-need}
+use Rattle.spec_protocol.specs.Layout.{randomness-refusal, transcript-refusal}
 use Rattle.spec_protocol.specs.Unchanged.{Unchanged}
 use Rattle.spec_protocol.specs.Prover.{zeroed}
 use Rattle.spec_protocol.specs.Many as Many
@@ -26,10 +26,7 @@ use Rattle.verify_many_admission.specs.Admitted.{Many-given, TranscriptsFound, 
 use Rattle.verify_many_admission.proofs.Found.{passing-is}
 use Rattle.verify_many_admission.proofs.Passing.{part-laid}
 use Rattle.verify_many_rows.specs.Rows.{Rowable}
-use Rattle.verify_many_phi.specs.AlphaPart.{Alpha-parts, Products-stay}
-use Rattle.verify_many_windows.proofs.WindowLaws.{done-of, of-done}
-use Rattle.ring_rq_matrix.proofs.Place.{rows-within}
-use Rattle.verify_many.specs.Windows.{Rows-ready, All-weighed}
+use Rattle.verify_many.specs.Windows.{Rows-ready}
 
 -- an answer that is taken for fine is
 fine-if : (x : Answer) → is-fine x ≡ true → x ≡ fine
@@ -80,20 +77,6 @@ module _ (J R T : List ℕ) (count scratch : ℕ) (params : EnvironmentParameter
     -- after the last row
     pub rows-ready : TranscriptsFound (parametersOf params) count T found → All-rows-done J count (λ m. getD passes m false) T S′ (row-count (parameters J)) → Rows-ready J count R T S′
     rows-ready all = each-row-done all S′ (row-count (parameters J))
-
-    -- so is alpha's part of φ
-    pub parts-ready : TranscriptsFound (parametersOf params) count T found → (weighed : Bool) → (weighed ≡ true → Alpha-parts J count (λ m. getD passes m false) R S′)
-        → All-weighed weighed J count R T S′
-    parts-ready all weighed parts t m h pass = parts t m h (takes all m h pass)
-
--- the rows' products stay where they stand
-pub rows-stay : (J T : List ℕ) (count : ℕ) (passes : ℕ → Bool) (ρ : ℕ) (S S′ : List ℕ) → many-need (parameters J) count ≤ length S → Unchanged (many-need (parameters J) count) S S′
-    → Products-stay (parameters J) count S S′
-    → All-rows-done J count passes T S ρ → All-rows-done J count passes T S′ ρ
-rows-stay J T count passes ρ S S′ room unchanged same done m h pass =
-    let X = transcript-part (parameters J) count T m in
-    let inside = rows-within m count (scratch-need (parameters J)) h in
-    of-done J X S′ m ρ (omega (arith, inside, room, unchanged .size)) (same m h ∙ done-of J X S m ρ (omega (arith, inside, room)) (done m h pass))
 
 -- the scratch after the rows, the verdicts, and the words of all windows set to zero
 module _ (n : ℕ) {need : ℕ} {S S₁ S₂ S₃ : List ℕ} (rows : Unchanged need S S₁) (judged : Unchanged need S₁ S₂) (clear : S₃ ≡ splice S₂ 0 (replicate n 0)) where

@@ -1,6 +1,5 @@
 -- The products stand in the window while the challenges are stored before them; the order of the checks.
-use mathlib.Core.Path.{_≡_, sym, ap, ap₂, subst, _∙_}
-use mathlib.Core.Bool.{Bool}
+use mathlib.Core.Path.{_≡_, ap, ap₂, _∙_}
 use mathlib.Core.List.{List}
 use Prim.Native.Nat.{ℕ, _+_, _*_, _≤_}
 use native.Mathlib.Nat.{mul-le-mul-left}
@@ -16,11 +15,7 @@ use Rattle.relation_env_params.specs.Parameters.{parametersOf}
 use Rattle.core_workspace.specs.Ready.{Ready}
 use Rattle.core_workspace.specs.Aggregated.{c-words}
 use Rattle.core_workspace.proofs.Unchanged.{unchanged-refl, unchanged-stored}
-use Rattle.core_workspace.specs.Holds.{Holds}
-use Rattle.core_workspace.proofs.Holds.{holds-before}
-use Rattle.core_workspace.proofs.Ready.{length-c, φ-end, a-end, g-end}
-use Rattle.verify_many_phi.specs.AlphaPart.{alpha-words, Alpha-if, phi-at}
-use Rattle.verify_many_phi.proofs.Parts.{length-alpha}
+use Rattle.core_workspace.proofs.Ready.{length-c}
 use Rattle.verifier_common.specs.Answers.{t-and-g-bounds, h-bound, u1-differs, u2-differs}
 use Rattle.verifier_commitments.specs.Order.{commitments}
 use Rattle.verifier_digits.specs.declared.SentDigits.{SentDigits}
@@ -40,22 +35,6 @@ module _ (J R X : List ℕ) (params : EnvironmentParameters) (regions : Regions)
   products-stay e n done =
       unchanged-stored (products-at (parameters J)) W W W′ (regions .challenges) (c-words J R) (unchanged-refl (products-at (parameters J)) W) e (omega (arith, length-c J R, before-products)) .beyond
       ∙ done
-
--- alpha's part of φ stands there too
-pub alpha-stays : (weighed : Bool) (J R : List ℕ) (params : EnvironmentParameters) (regions : Regions) (W W′ : List ℕ) → Ready J params regions W
-    → W′ ≡ splice W (regions .challenges) (c-words J R) → Alpha-if weighed J R (regions .phi) W → Alpha-if weighed J R (regions .phi) W′
-alpha-stays weighed J R params regions W W′ ready e held t =
-    subst (λ l. Holds l (regions .phi) (alpha-words J R)) (sym e)
-    (holds-before W (regions .phi) (alpha-words J R) (regions .challenges) (c-words J R)
-    (omega (arith, length-alpha J R, φ-end J params regions W ready, a-end J params regions W ready, g-end J params regions W ready)) (held t))
-
--- by the place of φ that the job's parameters fix
-pub alpha-placed : (weighed : Bool) (J R : List ℕ) (params : EnvironmentParameters) (regions : Regions) (W : List ℕ) → Ready J params regions W
-    → Alpha-if weighed J R (phi-at (parameters J)) W → Alpha-if weighed J R (regions .phi) W
-alpha-placed weighed J R params regions W ready held t =
-    let laid = ready .laid in
-    let place : phi-at (parameters J) ≡ regions .phi = omega (arith, laid .first, laid .a2, laid .phi) in
-    subst (λ a. Holds W a (alpha-words J R)) place (held t)
 
 -- the checks of the commitments by what is found of the digits, of 28 and of 29
 pub found : (J X : List ℕ) (params : EnvironmentParameters) → parametersOf params ≡ parameters J → (d : SentDigits) → Taken (parametersOf params) X d

@@ -5,10 +5,9 @@ use mathlib.Core.List.{List}
 use Prim.Native.Nat.{ℕ}
 use Rattle.math.specs.lists.Table.{padded}
 use Rattle.spec_protocol.specs.Parameters.{parameters}
-use Rattle.spec_protocol.specs.Many.{randomness-part, transcript-part, passes, part-verdict, row-count, Rows-done, window, All-rows-done}
+use Rattle.spec_protocol.specs.Many.{transcript-part, passes, part-verdict, row-count, Rows-done, window, All-rows-done}
 use Rattle.api_answers.specs.declared.verdicts.LabradorVerdict.{LabradorVerdict}
 use Rattle.api_answers.specs.Calls.{failedCheck, labradorVerdict}
-use Rattle.verify_many_phi.specs.AlphaPart.{Alpha-if, phi-at, Alpha-parts}
 
 -- all rows are done of transcript m, in its window
 abbrev pub Part-ready : (J : List ℕ) → (count : ℕ) → (T : List ℕ) → (m : ℕ) → (scratch : List ℕ) → Type 0
@@ -25,20 +24,6 @@ abbrev pub Rows-ready : (J : List ℕ) → (count : ℕ) → (R T scratch : List
 Rows-ready J count R T scratch =
     let P = parameters J in
     All-rows-done J count (passes P count R T) T scratch (row-count P)
-
--- alpha's part of φ of transcript m stands in its window, where a flag is set
-abbrev pub Part-weighed : Bool → (J : List ℕ) → (count : ℕ) → (R : List ℕ) → (m : ℕ) → (scratch : List ℕ) → Type 0
-Part-weighed weighed J count R m scratch =
-    let P = parameters J in
-    Alpha-if weighed J (randomness-part P count R m) (phi-at P) (window P scratch m)
-
--- where transcript m passes 7 to 10
-abbrev pub Weighed-if-passing : Bool → (J : List ℕ) → (count : ℕ) → (R T : List ℕ) → (m : ℕ) → (scratch : List ℕ) → Type 0
-Weighed-if-passing weighed J count R T m scratch = passes (parameters J) count R T m ≡ true → Part-weighed weighed J count R m scratch
-
--- that of every transcript that does
-abbrev pub All-weighed : Bool → (J : List ℕ) → (count : ℕ) → (R T scratch : List ℕ) → Type 0
-All-weighed weighed J count R T scratch = weighed ≡ true → Alpha-parts J count (passes (parameters J) count R T) R scratch
 
 -- "those past the number marked unused-verdict": the number 4294967295 and zeros
 abbrev pub unused-verdict : LabradorVerdict

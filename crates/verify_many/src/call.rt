@@ -7,7 +7,6 @@ use relation_env_params::env_params::EnvironmentParameters;
 use verify_many_admission::parts;
 use verify_many_admission::whole;
 use verify_many_admission::whole::ManyAdmitted;
-use verify_many_phi::phi::alpha_parts;
 use verify_many_rows::rows::row_products;
 ghost use mathlib.Core.Path.{_≡_};
 ghost use lib.ListN.{length};
@@ -18,9 +17,8 @@ ghost use Rattle.verify_many_admission.specs.Admitted.{Many-given};
 ghost use Rattle.verify_many.specs.Windows.{verdicts-of};
 ghost use Rattle.verify_many.specs.Answers.{ManyCall};
 
-// The work of a call that is not refused as a whole: 9 and 10 of each transcript, the rows of A, B, C and D, each once for all that pass these, alpha's part of
-// φ for all of these together, and the verdicts, each after 7 and 8. A transcript that passes 7 to 10 takes part in all of it; one that is refused by 7 or 8
-// alone does too, and nothing is taken of it.
+// The work of a call that is not refused as a whole: 9 and 10 of each transcript, the rows of A, B, C and D, each once for all that pass these, and the
+// verdicts, each after 7 and 8. A transcript that passes 7 to 10 takes part in the rows; one that is refused by 7 or 8 alone does too, and nothing is taken of it.
 fn work(
     job: &[u32],
     randomness: &[u32],
@@ -36,17 +34,7 @@ fn work(
     let found = parts::check_transcripts(transcripts, params, count);
     let passes = parts::passing_parts(found);
     row_products(job, params, count, passes, transcripts, scratch);
-    let weighed = alpha_parts(job, randomness, params, count, passes, scratch);
-    let out = verdicts(
-        job,
-        randomness,
-        transcripts,
-        params,
-        count,
-        found,
-        scratch,
-        weighed,
-    );
+    let out = verdicts(job, randomness, transcripts, params, count, found, scratch);
     let need = whole::need(params, count);
     ring_words::clear(scratch, need);
     out

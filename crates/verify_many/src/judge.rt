@@ -10,7 +10,6 @@ use verifier_digits::SentDigits;
 use verifier_norms::norm_checks;
 use verifier_relations::relations;
 use verify_many_checks;
-use verify_many_phi::beta;
 ghost use mathlib.Core.Path.{_≡_};
 ghost use lib.ListN.{length};
 ghost use Rattle.spec_leaves.specs.Answer.{_then_, ofChecked, ofVerdict};
@@ -28,7 +27,6 @@ ghost use Rattle.verifier_digits.specs.Taken.{Taken, t-and-g-found, h-found};
 ghost use Rattle.verifier_relations.specs.Held.{Challenged};
 ghost use Rattle.verifier_relations.specs.Order.{relations};
 ghost use Rattle.verifier.specs.Order.{rest};
-ghost use Rattle.verify_many_phi.specs.AlphaPart.{Alpha-if, phi-at};
 
 // 24 to 27, in order, with what is found of 24.
 fn check_relations(
@@ -39,10 +37,9 @@ fn check_relations(
     regions: Regions,
     window: &mut [u32],
     opened: Checked,
-    weighed: bool,
 ) -> Checked
     requires { ⌜ Sent (now job) (now randomness) (now transcript) params × Ready (now job) params regions (now window) × Challenged (now job) (now randomness) regions (now window) ⌝ }
-    requires { ⌜ ofChecked opened ≡ az (now job) (now randomness) (now transcript) × Alpha-if weighed (now job) (now randomness) (regions .phi) (now window) ⌝ }
+    requires { ⌜ ofChecked opened ≡ az (now job) (now randomness) (now transcript) ⌝ }
     ensures { λ v. ⌜ ofChecked v ≡ relations (now (job .entry)) (now (randomness .entry)) (now (transcript .entry)) ⌝ }
     ensures { λ v. ⌜ Unchanged (scratch-need (parameters (now (job .entry)))) (now (window .entry)) (now (window .exit)) ⌝ }
 {
@@ -53,15 +50,7 @@ fn check_relations(
     let Checked::Passed = second else {
         return second;
     };
-    beta::check_aggregated(
-        job,
-        randomness,
-        transcript,
-        params,
-        regions,
-        window,
-        weighed,
-    )
+    relations::check_aggregated(job, randomness, transcript, params, regions, window)
 }
 
 // 14, 15, 28, 16 and 29, in order, with what is found of the digits, of 28 and of 29.
@@ -90,11 +79,10 @@ fn check_rest(
     params: EnvironmentParameters,
     regions: Regions,
     window: &mut [u32],
-    weighed: bool,
     digits: SentDigits,
 ) -> Checked
     requires { ⌜ Sent (now job) (now randomness) (now transcript) params × Ready (now job) params regions (now window) × Taken (parametersOf params) (now transcript) digits ⌝ }
-    requires { ⌜ Rows-done (now job) (now transcript) (now window) (row-count (parameters (now job))) × Alpha-if weighed (now job) (now randomness) (regions .phi) (now window) ⌝ }
+    requires { ⌜ Rows-done (now job) (now transcript) (now window) (row-count (parameters (now job))) ⌝ }
     ensures { λ v. ⌜ ofChecked v ≡ rest (now (job .entry)) (now (randomness .entry)) (now (transcript .entry)) ⌝ }
     ensures { λ v. ⌜ Unchanged (scratch-need (parameters (now (job .entry)))) (now (window .entry)) (now (window .exit)) ⌝ }
 {
@@ -102,16 +90,7 @@ fn check_rest(
     let opened = verify_many_checks::check_az(job, transcript, params, regions, window);
     let u1 = verify_many_checks::check_u1(job, transcript, params, window);
     let u2 = verify_many_checks::check_u2(job, transcript, params, window);
-    let first = check_relations(
-        job,
-        randomness,
-        transcript,
-        params,
-        regions,
-        window,
-        opened,
-        weighed,
-    );
+    let first = check_relations(job, randomness, transcript, params, regions, window, opened);
     let Checked::Passed = first else {
         return first;
     };
@@ -125,12 +104,10 @@ pub fn judge(
     transcript: &[u32],
     params: EnvironmentParameters,
     window: &mut [u32],
-    weighed: bool,
 ) -> Verdict
     requires { ⌜ Verifiable (now job) (now randomness) (now transcript) (length (now window)) params ⌝ }
     requires { ⌜ length (now window) ≡ scratch-need (parameters (now job)) ⌝ }
     requires { ⌜ Rows-done (now job) (now transcript) (now window) (row-count (parameters (now job))) ⌝ }
-    requires { ⌜ Alpha-if weighed (now job) (now randomness) (phi-at (parameters (now job))) (now window) ⌝ }
     ensures { λ v. ⌜ ofVerdict v ≡ verdict-of (now (job .entry)) (now (randomness .entry)) (now (transcript .entry)) ⌝ }
     ensures { λ v. ⌜ length (now (window .exit)) ≡ length (now (window .entry)) ⌝ }
 {
@@ -146,15 +123,6 @@ pub fn judge(
         return verdict::verdict_of(first, 0);
     };
     let digits = norms.digits;
-    let rest = check_rest(
-        job,
-        randomness,
-        transcript,
-        params,
-        regions,
-        window,
-        weighed,
-        digits,
-    );
+    let rest = check_rest(job, randomness, transcript, params, regions, window, digits);
     verdict::verdict_of(rest, digits.cells_left)
 }

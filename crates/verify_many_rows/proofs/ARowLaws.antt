@@ -1,5 +1,5 @@
 -- Values of z at the start of a window while values and products are stored, and the products of rows in NTT form.
-use mathlib.Core.Path.{_≡_, refl, sym, ap, subst, _∙_}
+use mathlib.Core.Path.{_≡_, sym, ap, subst, _∙_}
 use mathlib.Core.Bool.{Bool, true, false, true≢false}
 use mathlib.Core.List.{List, []}
 use Prim.Native.Nat.{ℕ, _+_, _-_, _*_, _≤_, _<_}
@@ -25,15 +25,12 @@ use Rattle.verifier_commitments.proofs.OuterLaws.{job-at}
 use Rattle.core_workspace.specs.Holds.{Unchanged}
 use Rattle.core_workspace.proofs.Unchanged.{unchanged-refl, unchanged-stored}
 use Rattle.ntt_vectors.specs.NttForm.{NttForm, AllValues, ntt-words, ntt-dot}
-use Rattle.ntt_vectors.proofs.Stored.{length-ntt-words}
-use Rattle.ntt_vectors.proofs.Laws.{ntt-form-before, ntt-dot-is}
-use Rattle.verify_many_phi.proofs.Stores.{ntt-form-same, values-same}
+use Rattle.ntt_vectors.proofs.Laws.{values-same, ntt-form-same, ntt-dot-is}
 use Rattle.verify_many_windows.proofs.Products.{row-of-a}
 use Rattle.verify_many_windows.specs.Product.{stored-for}
 use Rattle.verify_many_windows.specs.Rowable.{Rowable}
-use Rattle.verify_many_windows.proofs.WindowDigits.{rows-stay}
 use Rattle.verify_many_windows.proofs.Progress.{Progress, progress-none, progress-all, progress-next}
-use Rattle.verify_many_rows.specs.NttForm.{z-at, z-for, NttForm-z, All-z, product-for, Valued, Row-made}
+use Rattle.verify_many_rows.specs.NttForm.{z-at, NttForm-z, All-z, product-for, Valued, Row-made}
 
 -- the values of z have room before the products
 pub z-fits : (P : Parameters) → Within P → 192 * P .n ≤ products-at P
@@ -75,62 +72,6 @@ pub bare : (J : List ℕ) (count : ℕ) (passes : ℕ → Bool) (S : List ℕ) (
     → Rowable J [] count (λ m. false) scratch params
 bare J count passes S scratch params v = record { same = v .same; sound = v .sound; job = v .job; few = v .few; room = v .room; laid = λ m h t. absurd (true≢false (sym t)) }
 
--- the values of one transcript's z more
-module _ (J T₀ : List ℕ) (count : ℕ) (passes : ℕ → Bool) where
-  abbrev need : ℕ
-  need = scratch-need (parameters J)
-
-  abbrev values-of : ℕ → List ℕ
-  values-of i = ntt-words (transcript-part (parameters J) count T₀ i) (z-at (parameters J)) (parameters J .n)
-
-  -- z of the transcripts before m is in NTT form, and no row is done
-  pub record Begun (S : List ℕ) (m : ℕ) : Type 0 where
-    pub z : (i : ℕ) → i < m → i < count → passes i ≡ true → NttForm-z (parameters J) T₀ count i (i * need) S
-    pub none : All-rows-done J count passes T₀ S 0
-
-  pub begun-none : (S : List ℕ) → All-rows-done J count passes T₀ S 0 → Begun S 0
-  begun-none S all = record { z = λ i h. absurd (omega arith); none = all }
-
-  module _ (within : Within (parameters J)) (S₀ S S′ : List ℕ) (m start : ℕ) (room : many-need (parameters J) count ≤ length S) (h : m < count) (at : start ≡ m * need) where
-    size : length (values-of m) ≡ 192 * parameters J .n
-    size = length-ntt-words (transcript-part (parameters J) count T₀ m) (z-at (parameters J)) (parameters J .n)
-
-    next : (pass : Bool) → pass ≡ passes m → S′ ≡ z-for (parameters J) T₀ count m start pass S → (pass ≡ true → NttForm-z (parameters J) T₀ count m start S′) → Begun S m → Begun S′ (m + 1)
-    next true t e k b = record {
-      z = λ i l c u. go i l c u (decLt i m);
-      none = rows-stay J T₀ count passes 0 S S′ m start (values-of m) room at (omega (arith, size, z-fits (parameters J) within)) e (b .none);
-    }
-      where
-        go : (i : ℕ) → i < m + 1 → i < count → passes i ≡ true → Dec (i < m) → NttForm-z (parameters J) T₀ count i (i * need) S′
-        go i l c u (yes less) =
-            ntt-form-before S (i * need) (transcript-part (parameters J) count T₀ i) (z-at (parameters J)) S′ start (values-of m) (parameters J .n) e
-            (omega (arith, at, z-fits (parameters J) within, rows-within i m need less)) (b .z i less c u)
-        go i l c u (no more) =
-            let same : m ≡ i = omega arith in
-            subst (λ i. NttForm-z (parameters J) T₀ count i (i * need) S′) same (subst (λ a. NttForm-z (parameters J) T₀ count m a S′) at (k refl))
-    next false t e k b = record {
-      z = λ i l c u. go i l c u (decLt i m);
-      none = subst (λ s. All-rows-done J count passes T₀ s 0) (sym e) (b .none);
-    }
-      where
-        go : (i : ℕ) → i < m + 1 → i < count → passes i ≡ true → Dec (i < m) → NttForm-z (parameters J) T₀ count i (i * need) S′
-        go i l c u (yes less) = subst (λ s. NttForm-z (parameters J) T₀ count i (i * need) s) (sym e) (b .z i less c u)
-        go i l c u (no more) =
-            let k : i ≡ m = omega arith in
-            let z : _≡_ {A = ℕ} 0 1 = cc in
-            absurd (omega arith)
-
-    unchanged-next : (pass : Bool) → S′ ≡ z-for (parameters J) T₀ count m start pass S → Unchanged (many-need (parameters J) count) S₀ S → Unchanged (many-need (parameters J) count) S₀ S′
-    unchanged-next true e k = unchanged-stored (many-need (parameters J) count) S₀ S S′ start (values-of m) k e (omega (arith, at, size, z-fits (parameters J) within, rows-within m count need h))
-    unchanged-next false e k = subst (λ s. Unchanged (many-need (parameters J) count) S₀ s) (sym e) k
-
-    -- z of transcript m in NTT form too, where it passes
-    pub begun-next : (P : Parameters) → P ≡ parameters J → (pass : Bool) → pass ≡ passes m → S′ ≡ z-for P T₀ count m start pass S → (pass ≡ true → NttForm-z P T₀ count m start S′)
-        → Begun S m × Unchanged (many-need (parameters J) count) S₀ S → Begun S′ (m + 1) × Unchanged (many-need (parameters J) count) S₀ S′
-    begun-next P same pass t stored keeps (b, k) =
-        let e : S′ ≡ z-for (parameters J) T₀ count m start pass S = stored ∙ ap (λ P. z-for P T₀ count m start pass S) same in
-        (next pass t e (λ u. subst (λ P. NttForm-z P T₀ count m start S′) same (keeps u)) b, unchanged-next pass e k)
-
 -- a product stored leaves the values at the start of every window
 module _ (P : Parameters) (S S′ new : List ℕ) (m ρ place : ℕ) (few : ρ < 64) (at : place ≡ m * scratch-need P + (scratch-need P - 4096) + 64 * ρ) (size : length new ≡ 64)
     (fits : 192 * P .n ≤ products-at P)
@@ -146,7 +87,7 @@ module _ (P : Parameters) (S S′ new : List ℕ) (m ρ place : ℕ) (few : ρ <
       by (no more) = part-splice-before 0 S place new (i * scratch-need P + o) k (omega (arith, at, fits, mul-le-mul-right {m = i} {n = m} (scratch-need P) (omega arith)))
 
   z-stays : (i : ℕ) (X : List ℕ) (from : ℕ) → NttForm S (i * scratch-need P) X from (P .n) → NttForm S′ (i * scratch-need P) X from (P .n)
-  z-stays i X from = ntt-form-same S S′ (i * scratch-need P) X from (P .n) same-length (starts-stay i)
+  z-stays i X from = ntt-form-same S (i * scratch-need P) X from S′ (P .n) same-length (starts-stay i)
 
   values-stay : (i : ℕ) → AllValues S (i * scratch-need P) (P .n) → AllValues S′ (i * scratch-need P) (P .n)
   values-stay i = values-same S S′ (i * scratch-need P) (P .n) same-length (starts-stay i)

@@ -4,6 +4,7 @@ use layout_sizes::buffers;
 use relation_env_params::env_params::EnvironmentParameters;
 use ring_words;
 use verify_many_admission::bounds;
+use verify_many_digits::rows as digit_rows;
 use verify_many_windows::row;
 use verify_many_windows::row::Held;
 use verify_many_windows::windows;
@@ -179,8 +180,8 @@ fn rows_of_a(
     }
 }
 
-// The rows of B, C and D, with the digits stored where they have room.
-fn other_rows(
+// The rows of B, C and D by plain products, with the digits stored where they have room.
+fn plain_rows(
     job: &[u32],
     params: EnvironmentParameters,
     count: usize,
@@ -220,6 +221,27 @@ fn other_rows(
             scratch,
             false,
         );
+    }
+}
+
+// The rows of B, C and D, in NTT form where this costs less.
+fn other_rows(
+    job: &[u32],
+    params: EnvironmentParameters,
+    count: usize,
+    passes: [bool; 8],
+    transcripts: &[u32],
+    scratch: &mut [u32],
+)
+    requires { ⌜ Rowable (now job) (now transcripts) count (λ m. getD passes m false) (length (now scratch)) params ⌝ }
+    requires { ⌜ All-rows-done (now job) count (λ m. getD passes m false) (now transcripts) (now scratch) (parameters (now job) .κ) ⌝ }
+    ensures { λ _. ⌜ All-rows-done (now (job .entry)) count (λ m. getD passes m false) (now (transcripts .entry)) (now (scratch .exit)) (row-count (parameters (now (job .entry)))) ⌝ }
+    ensures { λ _. ⌜ Unchanged (many-need (parameters (now (job .entry))) count) (now (scratch .entry)) (now (scratch .exit)) ⌝ }
+{
+    if digit_rows::shared(params, count) {
+        digit_rows::rows_of_digits(job, params, count, passes, transcripts, scratch);
+    } else {
+        plain_rows(job, params, count, passes, transcripts, scratch);
     }
 }
 

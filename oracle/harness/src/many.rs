@@ -151,9 +151,8 @@ enum Kind {
     Unmet,
 }
 
-/// Eight transcripts for one job; the limits of 21 and 23 are those that the transcripts themselves reach, and a little more.
-fn desk(random: &mut Random, mut parameters: Parameters, kind: Kind) -> Desk {
-    // from n 5 on the rows of A are taken by kept transforms, and from K 3 on alpha's part of φ is made for all together
+/// Small sizes: from n 5 on the rows of A are taken by kept transforms.
+fn narrow(random: &mut Random, mut parameters: Parameters, kind: Kind) -> Parameters {
     (parameters.n, parameters.r) = (random.pick(&[1, 2, 5]), 1 + random.below(2));
     if parameters.ring > 0 {
         parameters.ring = 1 + random.below(4);
@@ -162,6 +161,30 @@ fn desk(random: &mut Random, mut parameters: Parameters, kind: Kind) -> Desk {
         // a base in which a large z has a large second part
         parameters.b = random.pick(&[2, 3, 4, 7, 10, 16, 255, 256]);
     }
+    parameters
+}
+
+/// Sizes at which the rows of B, C and D are taken by transforms for all transcripts together, and vectors are summed with the challenges.
+fn wide(random: &mut Random) -> Parameters {
+    Parameters {
+        n: 20,
+        r: 3,
+        ring: 2,
+        constant: 2,
+        log_q: 32,
+        kappa: 4,
+        kappa1: 3,
+        kappa2: 3,
+        b: random.pick(&[3, 256, 65538]),
+        t1: 4,
+        t2: 4,
+        aggregations: 4,
+        ..small(random, 0)
+    }
+}
+
+/// Eight transcripts for one job; the limits of 21 and 23 are those that the transcripts themselves reach, and a little more.
+fn desk(random: &mut Random, mut parameters: Parameters, kind: Kind) -> Desk {
     let mut first = Instance::random(random, parameters, Size::Bits(2));
     if matches!(kind, Kind::Witnesses | Kind::Bound(_)) {
         first.job[..6].iter_mut().for_each(|section| section.fill(0));
@@ -436,6 +459,7 @@ pub fn all(tally: &mut Tally, random: &mut Random, count: usize) {
             _ => apart(random, i),
         };
         let kind = [Kind::OneWitness, Kind::Witnesses, Kind::Bound(i / 4 % 3), Kind::Unmet][i % 4];
+        let parameters = narrow(random, parameters, kind);
         let desk = desk(random, parameters, kind);
         if let Kind::Bound(k) = kind {
             above(tally, random, &desk, k);
@@ -449,5 +473,11 @@ pub fn all(tally: &mut Tally, random: &mut Random, count: usize) {
         for _ in 0..6 {
             anything(tally, random, &desk);
         }
+    }
+    for _ in 0..count.div_ceil(20) {
+        let parameters = wide(random);
+        let desk = desk(random, parameters, Kind::OneWitness);
+        good(tally, random, &desk);
+        damaged(tally, random, &desk);
     }
 }

@@ -1,41 +1,23 @@
 -- `weigh` meets its contract.
-use mathlib.Core.Path.{_≡_, sym, ap, subst, _∙_}
-use mathlib.Core.Logic.{⊎-elim}
-use mathlib.Core.Bool.{cond}
+use mathlib.Core.Path.{_≡_, ap, subst, _∙_}
 use mathlib.Core.List.{List}
-use Prim.Native.Nat.{ℕ}
 use lib.ListN.{length}
 use Rattle.math.proofs.lists.Splice.{length-splice}
 use Rattle.layout_regions.specs.declared.Regions.{Regions}
 use Rattle.relation_env_params.specs.declared.env_params.EnvironmentParameters.{EnvironmentParameters}
+use Prim.Native.Nat.{ℕ}
 use Rattle.core_workspace.specs.Holds.{Unchanged}
 use Rattle.prover_commit.specs.Work.{with-h}
 use Rattle.prover_commit.proofs.Commitments.{given-changed, ready-for-h}
-use Rattle.prover_fill.specs.Stored.{with-φ, with-b″, weighed-scratch}
 use Rattle.prover_fill.proofs.WithH.{length-weighed}
 use Rattle.prover_fill.proofs.weigh.Statement.{statement}
 use Rattle.prover_fill.proofs.weigh.Tie as tie
 
--- after either way the scratch is the one that is named
-joined : (c : tie.Joined1)
-    → let s = c .before .before .before .before .before .args in
-    c .if1 .scratch ≡ weighed-scratch (s .with-b) (s .job .now) (s .randomness .now) (s .witness .now) (s .params) (s .regions) (s .scratch .now)
-joined c =
-    let s = c .before .before .before .before .before .args in
-    let J = s .job .now in
-    let R = s .randomness .now in
-    let W = s .witness .now in
-    let S = s .scratch .now in
-    ⊎-elim
-    (λ t. t .5 ∙ t .2 .ensures ∙ sym (ap (λ b. cond b (with-b″ (with-φ J R (s .regions) S) W (s .params) (s .regions)) (with-φ J R (s .regions) S)) (t .0 .taken)))
-    (λ t. t .5 ∙ t .2 .ensures ∙ sym (ap (λ b. cond b (with-b″ (with-φ J R (s .regions) S) W (s .params) (s .regions)) (with-φ J R (s .regions) S)) (t .0 .left)))
-    (c .if1 .came)
-
 add-h-requires : tie.Need-add-h-requires
 add-h-requires c κs =
-    let b = c .before .before .before .before .before .before in
+    let b = c .before .before .before .before .before .before .before .before .before in
     ready-for-h _ _ _ _ _ (given-changed _ _ _ _ _ (b .pre .0) _
-    (ap length (joined (c .before)) ∙ length-weighed (b .args .with-b) (b .args .job .now) (b .args .randomness .now) (b .args .witness .now) (b .args .params)
+    (ap length (c .before .before .before .phi-and-b .ensures) ∙ length-weighed (b .args .with-b) (b .args .job .now) (b .args .randomness .now) (b .args .witness .now) (b .args .params)
     (b .args .regions) (b .args .scratch .now)))
 
 -- h after a scratch that is another's equal
@@ -48,23 +30,16 @@ length-h W params regions S E k = k .size ∙ length-splice S (regions .«a_or_h
 
 same-length : tie.Need-same-length
 same-length c =
-    let b = c .before .before .before .before .before .before .before .before .before in
+    let b = c .before .before .before .before .before .before .before .before .before .before .before .before in
     length-h (b .args .witness .now) (b .args .params) (b .args .regions) _ _ (c .before .before .add-h .ensures .1)
-    ∙ ap length (joined (c .before .before .before .before))
+    ∙ ap length (c .before .before .before .before .before .before .phi-and-b .ensures)
     ∙ length-weighed (b .args .with-b) (b .args .job .now) (b .args .randomness .now) (b .args .witness .now) (b .args .params) (b .args .regions) (b .args .scratch .now)
 
 returns : tie.Need-returns
 returns c =
-    let b = c .before .before .before .before .before .before .before .before .before in
+    let b = c .before .before .before .before .before .before .before .before .before .before .before .before in
     let h = c .before .before .add-h in
-    (h .ensures .0, moved (b .args .witness .now) (b .args .params) (b .args .regions) _ _ _ (joined (c .before .before .before .before)) (h .ensures .1))
+    (h .ensures .0, moved (b .args .witness .now) (b .args .params) (b .args .regions) _ _ _ (c .before .before .before .before .before .before .phi-and-b .ensures) (h .ensures .1))
 
 pub weigh-spec : {M : Type 1} → statement M
-weigh-spec =
-    tie.close
-    (tie.spec
-    (λ c κs. c .before .before .before .before .before .before .pre)
-    (λ c κs. let h = c .before .before .before .before .before .before .pre in (h .0 .ready, h .1, h .2))
-    add-h-requires
-    same-length
-    returns)
+weigh-spec = tie.close (tie.spec (λ c κs. c .before .before .before .before .before .pre) add-h-requires same-length returns)

@@ -30,7 +30,7 @@ size c = length-flat-table (c .args .params .rank) _
 room : (c : tie.Start) → c .args .at + 1 + 64 * c .args .params .rank ≤ length (c .args .output .now)
 room c =
     section-room (c .args .at) (64 * c .args .params .rank) (z-in (parametersOf (c .args .params)) (c .args .regions) (c .args .scratch .now) (c .args .witness .now)) (c .args .output .now) (size c)
-    (c .pre .2)
+    (c .pre .3)
 
 few : (c : tie.Start) → c .args .params .rank ≤ 1024
 few c = up (c .args .params .rank) (c .pre .0 .sized .within .n .1)
@@ -81,12 +81,10 @@ compute-z-requires c κs =
       i .pre .1,
       i .pre .0 .challenges,
       words-room (i .args .at) (64 * i .args .params .rank) (64 * i .args .params .rank) (i .args .output .now) (room i),
-      up (i .args .params .multiplicity) (l .r .1),
+      l .r .1,
       l .n .1,
+      i .pre .2,
     )
-  where
-    up : (k : ℕ) → k ≤ 16 → k ≤ 64
-    up k h = omega arith
 
 add-result : tie.Need-add-result
 add-result c =

@@ -5,6 +5,7 @@ use Rattle.admission_slices.specs.declared.calls.Call.the-variants as C
 use Rattle.prover_commit.proofs.Answers.{drawn-known}
 use Rattle.prover_commit.proofs.Room.{placed, s-room}
 use Rattle.prover_p_and_b.proofs.SectionRoom.{projects}
+use Rattle.prover_sections.proofs.SectionMade.{c-sparse}
 use Rattle.prover_sections.proofs.Calls.{sections₁, sections₂, sections₃, sections₄, sections₅, sections-all, filled-known, room-known, put-known}
 use Rattle.prover_sections.proofs.put.Statement.{statement}
 use Rattle.prover_sections.proofs.put.Tie as tie
@@ -17,6 +18,8 @@ put-all-requires c κs =
         b .pre .0 .0 .ready,
         projects 7 (a .job .now) (a .randomness .now) (a .witness .now) (a .params) (a .regions) (a .scratch .now) (b .pre .0 .0)
             (drawn-known (a .call) C.Whole (a .job .now) (a .randomness .now) (c .before .enum-told .given .1) (b .pre .0 .1)) (omega arith),
+        c-sparse (a .job .now) (a .randomness .now) (a .witness .now) (a .params) (a .regions) (a .scratch .now) (b .pre .0 .0 .ready .same)
+            (filled-known (a .job .now) (a .randomness .now) (a .witness .now) (a .call) C.Whole (c .before .enum-told .given .1) (a .regions) (a .scratch .now) (b .pre .1 .0) .1 .1),
       ),
       room-known (a .job .now)
           (a .randomness .now) (a .witness .now) (a .call) C.Whole (c .before .enum-told .given .1) (a .output .now) _ (b .pre .1 .1)
@@ -119,6 +122,8 @@ put-z-t-g-h-requires c κs =
     let a = b .args in (
       placed _ _ _ _ (b .pre .0 .0 .ready),
       s-room (a .job .now) (a .witness .now) (a .params) (a .regions) (a .scratch .now) (b .pre .0 .0),
+      c-sparse (a .job .now) (a .randomness .now) (a .witness .now) (a .params) (a .regions) (a .scratch .now) (b .pre .0 .0 .ready .same)
+          (filled-known (a .job .now) (a .randomness .now) (a .witness .now) (a .call) C.Round5 (c .before .enum-told6 .given .1) (a .regions) (a .scratch .now) (b .pre .1 .0) .1),
       room-known (a .job .now)
           (a .randomness .now) (a .witness .now) (a .call) C.Round5 (c .before .enum-told6 .given .1) (a .output .now) _ (b .pre .1 .1)
           (sections₅ (a .job .now) (a .randomness .now) (a .witness .now) (a .params) (a .regions) (a .scratch .now) (b .pre .0 .0 .ready .same)

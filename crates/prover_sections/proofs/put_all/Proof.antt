@@ -77,6 +77,7 @@ put-z-t-g-h-requires c κs =
     let a = b .args in (
       placed _ _ _ _ (b .pre .0 .0),
       b .pre .0 .1 .vectors,
+      b .pre .0 .2,
       put-room (a .output .now) _ 0 _
           ((u₁-in (parametersOf (a .params)) (a .regions) (a .scratch .now) (a .job .now)) ∷ (p-in (parametersOf (a .params)) (a .randomness .now) (a .witness .now))
           ∷ (b″-in (parametersOf (a .params)) (a .regions) (a .scratch .now)) ∷ (u₂-in (parametersOf (a .params)) (a .regions) (a .scratch .now) (a .job .now)) ∷ [])

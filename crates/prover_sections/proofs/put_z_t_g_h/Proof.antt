@@ -13,8 +13,9 @@ compute-z-requires c κs =
     let a = b .args in (
       b .pre .0,
       b .pre .1,
+      b .pre .2,
       room-first _ (a .at) ((z-in (parametersOf (a .params)) (a .regions) (a .scratch .now) (a .witness .now)) ∷ [])
-          (t-g-h-in (parametersOf (a .params)) (a .regions) (a .scratch .now)) (b .pre .2),
+          (t-g-h-in (parametersOf (a .params)) (a .regions) (a .scratch .now)) (b .pre .3),
     )
 
 put-t-g-h-requires : tie.Need-put-t-g-h-requires
@@ -23,7 +24,7 @@ put-t-g-h-requires c κs =
     let a = b .args in (
       b .pre .0,
       put-room (a .output .now) _ (a .at) _ ((z-in (parametersOf (a .params)) (a .regions) (a .scratch .now) (a .witness .now)) ∷ [])
-          (t-g-h-in (parametersOf (a .params)) (a .regions) (a .scratch .now)) (b .pre .2) (c .before .before .before .compute-z .ensures),
+          (t-g-h-in (parametersOf (a .params)) (a .regions) (a .scratch .now)) (b .pre .3) (c .before .before .before .compute-z .ensures),
     )
 
 returns : tie.Need-returns

@@ -11,7 +11,7 @@ ghost use Rattle.spec_protocol.specs.Unchanged.{Unchanged};
 ghost use Rattle.spec_protocol.specs.Many.{many-need};
 ghost use Rattle.api_answers.specs.Calls.{failedCheck};
 ghost use Rattle.verify_many_admission.specs.Admitted.{Many-given, TranscriptsFound};
-ghost use Rattle.verify_many.specs.Windows.{Rows-ready, All-weighed, verdicts-of};
+ghost use Rattle.verify_many.specs.Windows.{Rows-ready, verdicts-of};
 
 // Eight times a number and zeros.
 pub fn eight(number: u32) -> [LabradorVerdict; 8]
@@ -38,10 +38,9 @@ pub fn verdicts(
     count: usize,
     found: [SliceChecked; 8],
     scratch: &mut [u32],
-    weighed: bool,
 ) -> [LabradorVerdict; 8]
     requires { ⌜ Many-given (now job) count (length (now scratch)) params × TranscriptsFound (parameters (now job)) count (now transcripts) found ⌝ }
-    requires { ⌜ Rows-ready (now job) count (now randomness) (now transcripts) (now scratch) × All-weighed weighed (now job) count (now randomness) (now transcripts) (now scratch) ⌝ }
+    requires { ⌜ Rows-ready (now job) count (now randomness) (now transcripts) (now scratch) ⌝ }
     ensures { λ r. ⌜ r ≡ verdicts-of (now (job .entry)) count (now (randomness .entry)) (now (transcripts .entry)) ⌝ }
     ensures { λ r. ⌜ Unchanged (many-need (parameters (now (job .entry))) count) (now (scratch .entry)) (now (scratch .exit)) ⌝ }
 {
@@ -50,17 +49,7 @@ pub fn verdicts(
     while m < count {
         let sent = found[m];
         let one = check_part(randomness, params, count, m, sent);
-        let v = part::verdict(
-            job,
-            randomness,
-            transcripts,
-            params,
-            count,
-            m,
-            one,
-            scratch,
-            weighed,
-        );
+        let v = part::verdict(job, randomness, transcripts, params, count, m, one, scratch);
         out[m] = v;
         m += 1;
     }

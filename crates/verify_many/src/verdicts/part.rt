@@ -20,8 +20,7 @@ ghost use Rattle.spec_protocol.specs.Many.{many-need, part-refusal, part-verdic
 ghost use Rattle.admission_slices.specs.Admission.{Verifiable, ofSliceChecked};
 ghost use Rattle.api_answers.specs.Calls.{labradorVerdict};
 ghost use Rattle.verify_many_admission.specs.Admitted.{Many-given};
-ghost use Rattle.verify_many_phi.specs.AlphaPart.{Alpha-if, phi-at};
-ghost use Rattle.verify_many.specs.Windows.{Part-ready, Ready-if-passing, Part-weighed, Weighed-if-passing};
+ghost use Rattle.verify_many.specs.Windows.{Part-ready, Ready-if-passing};
 
 // With the parts of transcript m lent on, and its window of the scratch.
 fn judge_window(
@@ -31,26 +30,17 @@ fn judge_window(
     params: EnvironmentParameters,
     m: usize,
     scratch: &mut [u32],
-    weighed: bool,
 ) -> Verdict
     requires { ⌜ Verifiable (now job) (now randomness) (now transcript) (scratch-need (parameters (now job))) params ⌝ }
     requires { ⌜ (m < 8) × (many-need (parameters (now job)) (m + 1) ≤ length (now scratch)) ⌝ }
     requires { ⌜ Rows-done (now job) (now transcript) (window (parameters (now job)) (now scratch) m) (row-count (parameters (now job))) ⌝ }
-    requires { ⌜ Alpha-if weighed (now job) (now randomness) (phi-at (parameters (now job))) (window (parameters (now job)) (now scratch) m) ⌝ }
     ensures { λ v. ⌜ ofVerdict v ≡ verdict-of (now (job .entry)) (now (randomness .entry)) (now (transcript .entry)) ⌝ }
     ensures { λ v. ⌜ Unchanged (many-need (parameters (now (job .entry))) (m + 1)) (now (scratch .entry)) (now (scratch .exit)) ⌝ }
 {
     let need = buffers::scratch_length(params);
     let from = m * need;
     let to = from + need;
-    judge(
-        job,
-        randomness,
-        transcript,
-        params,
-        &mut scratch[from..to],
-        weighed,
-    )
+    judge(job, randomness, transcript, params, &mut scratch[from..to])
 }
 
 // Of transcript m, which passes 7 to 10.
@@ -62,11 +52,10 @@ fn judge_part(
     count: usize,
     m: usize,
     scratch: &mut [u32],
-    weighed: bool,
 ) -> Verdict
     requires { ⌜ Many-given (now job) count (length (now scratch)) params × (m < count) ⌝ }
     requires { ⌜ part-refusal (parameters (now job)) count (now randomness) (now transcripts) m ≡ fine ⌝ }
-    requires { ⌜ Part-ready (now job) count (now transcripts) m (now scratch) × Part-weighed weighed (now job) count (now randomness) m (now scratch) ⌝ }
+    requires { ⌜ Part-ready (now job) count (now transcripts) m (now scratch) ⌝ }
     ensures { λ v. ⌜ ofVerdict v ≡ part-verdict (now (job .entry)) count (now (randomness .entry)) (now (transcripts .entry)) m ⌝ }
     ensures { λ v. ⌜ Unchanged (many-need (parameters (now (job .entry))) (m + 1)) (now (scratch .entry)) (now (scratch .exit)) ⌝ }
 {
@@ -83,7 +72,6 @@ fn judge_part(
         params,
         m,
         scratch,
-        weighed,
     )
 }
 
@@ -97,28 +85,17 @@ pub fn verdict(
     m: usize,
     found: SliceChecked,
     scratch: &mut [u32],
-    weighed: bool,
 ) -> LabradorVerdict
     requires { ⌜ Many-given (now job) count (length (now scratch)) params × (m < count) ⌝ }
     requires { ⌜ ofSliceChecked found ≡ part-refusal (parameters (now job)) count (now randomness) (now transcripts) m ⌝ }
     requires { ⌜ Ready-if-passing (now job) count (now randomness) (now transcripts) m (now scratch) ⌝ }
-    requires { ⌜ Weighed-if-passing weighed (now job) count (now randomness) (now transcripts) m (now scratch) ⌝ }
     ensures { λ v. ⌜ v ≡ labradorVerdict (part-verdict (now (job .entry)) count (now (randomness .entry)) (now (transcripts .entry)) m) ⌝ }
     ensures { λ v. ⌜ Unchanged (many-need (parameters (now (job .entry))) (m + 1)) (now (scratch .entry)) (now (scratch .exit)) ⌝ }
 {
     match found {
         SliceChecked::Refused(refusal) => verdicts::verdict_of(Verdict::Refused(refusal)),
         SliceChecked::Fine => {
-            let judged = judge_part(
-                job,
-                randomness,
-                transcripts,
-                params,
-                count,
-                m,
-                scratch,
-                weighed,
-            );
+            let judged = judge_part(job, randomness, transcripts, params, count, m, scratch);
             verdicts::verdict_of(judged)
         }
     }

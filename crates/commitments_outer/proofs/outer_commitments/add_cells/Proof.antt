@@ -102,8 +102,8 @@ loop-again c =
           (λ k q. cell-added (s .matrix .now) (s .m-at) (d .cells) (d .parts) (l .c) (l .column) (l .inv .1) (s .base) k cells cell (out k)
           (ap (λ p. element (part (s .from .now) p 64)) (l .inv .2)))),
       length-filled _ _ _ _ e ∙ l .inv .4,
-      length-filled _ _ _ _ (c .before .before .before .before .add-cell .ensures .1 .0) ∙ l .inv .5,
-      length-filled _ _ _ _ (c .before .before .before .before .add-cell .ensures .1 .1) ∙ l .inv .6,
+      c .before .before .before .before .add-cell .ensures .1 .0,
+      c .before .before .before .before .add-cell .ensures .1 .1,
     )
 
 returns : tie.Need-returns Inv-loop μ-loop

@@ -6,7 +6,7 @@ use borrow.Author.Needs.{needs}
 use Rattle.ring_rq_matrix.proofs.Place.{product-bound}
 use Rattle.ring_rq_matrix.proofs.Fill.{length-filled}
 use Rattle.core_aggregate_ntt.specs.Pass.{with-b″}
-use Rattle.core_aggregate_ntt.proofs.Made.{pass-weights}
+use Rattle.core_aggregate_ntt.proofs.Made.{chosen-first, chosen-second, pass-weights}
 use Rattle.core_aggregate_ntt.proofs.one_pass.phi_and_b.Statement.{statement}
 use Rattle.core_aggregate_ntt.proofs.one_pass.phi_and_b.Tie as tie
 
@@ -28,14 +28,20 @@ phi-and-b-ntt-requires c κs =
 
 b-double-prime-requires : tie.Need-b-double-prime-requires
 b-double-prime-requires c κs =
-    let p = c .before .before .before .before .before .before .before .before .before .before .before .pre .1 in
-    (p .0, p .1, p .2, omega (arith, p .3, length-filled _ _ _ _ (c .before .before .before .aggregate .ensures)), p .4, p .5, p .6)
+    let p = c .before .before .before .before .before .before .before .before .before .before .before .before .pre .1 in
+    (p .0, p .1, p .2, omega (arith, p .3, length-filled _ _ _ _ (c .before .before .before .before .aggregate .ensures)), p .4, p .5, p .6)
 
 returns-2 : tie.Need-returns-2
 returns-2 c =
-    let s = c .before .before .before .before .before .before .before .before .before .before .before .before .before .before .args in
-    c .before .before .b-double-prime .ensures
-    ∙ ap (λ x. with-b″ x (s .regions) (s .count) (s .r) (s .n) (s .witness .now) (s .s)) (c .before .before .before .before .before .before .aggregate .ensures)
+    let s = c .before .before .before .before .before .before .before .before .before .before .before .before .before .before .before .args in
+    chosen-first (s .with-b) _ _ _ (c .before .before .before .before .if2 .taken)
+    (c .before .before .b-double-prime .ensures
+    ∙ ap (λ x. with-b″ x (s .regions) (s .count) (s .r) (s .n) (s .witness .now) (s .s)) (c .before .before .before .before .before .before .before .aggregate .ensures))
+
+returns-3 : tie.Need-returns-3
+returns-3 c =
+    let s = c .before .before .before .before .before .before .before .before .before .before .before .args in
+    chosen-second (s .with-b) _ _ _ (c .if2 .left) (c .before .before .before .aggregate .ensures)
 
 pub phi-and-b-spec : {M : Type 1} → statement M
 phi-and-b-spec =
@@ -50,4 +56,6 @@ phi-and-b-spec =
     (λ c. search needs)
     (λ c. search needs)
     (λ c. search needs)
-    returns-2)
+    returns-2
+    (λ c. search needs)
+    returns-3)

@@ -9,7 +9,7 @@ use Rattle.load_constraints.proofs.products.line.Tie as tie
 add-terms-requires : tie.Need-add-terms-requires
 add-terms-requires c κs =
     let b = c .before .before .before .before in
-    (b .pre .0, b .pre .1, b .pre .2, none-small (b .args .n) (b .pre .3))
+    (b .pre .0, b .pre .1, b .pre .2, none-small (b .args .n) (omega arith))
 
 returns : tie.Need-returns
 returns c =

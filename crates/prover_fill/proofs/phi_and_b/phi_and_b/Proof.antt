@@ -1,5 +1,6 @@
 -- `phi_and_b` meets its contract.
 use mathlib.Core.Path.{_∙_, ap}
+use mathlib.Core.Bool.{cond}
 use native.Mathlib.Nat.{mul-le-mul}
 use native.Mathlib.Omega.{arith}
 use borrow.Author.Needs.{needs}
@@ -42,7 +43,7 @@ returns : tie.Need-returns
 returns c =
     let s = c .before .before .before .before .before .before .before .before .before .before .before .before in
     c .before .before .phi-and-b .ensures
-    ∙ ap (λ φ. with-b″ (splice (s .args .scratch .now) (s .args .regions .phi) φ) (s .args .witness .now) (s .args .params) (s .args .regions))
+    ∙ ap (λ φ. let S = splice (s .args .scratch .now) (s .args .regions .phi) φ in cond (s .args .with-b) (with-b″ S (s .args .witness .now) (s .args .params) (s .args .regions)) S)
     (φ-made (s .args .job .now) (s .args .randomness .now) (s .args .scratch .now) (s .args .params) (s .args .regions) (s .pre .0 .ready) _ _ _ (s .pre .2)
     (c .before .before .before .before .before .before .of-job .ensures) (c .before .before .before .before .before .of-randomness .ensures)
     (c .before .before .before .before .of-randomness2 .ensures))

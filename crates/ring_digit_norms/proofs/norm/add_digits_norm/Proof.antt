@@ -13,7 +13,8 @@ use Rattle.math.proofs.lists.Sum.{Σ-suc}
 use Rattle.spec_leaves.specs.Answer.{value128}
 use Rattle.spec_leaves.specs.Norm.{norm}
 use Rattle.spec_leaves.specs.Rq.{isZero, digitRow, leftRow}
-use Rattle.ring_rq_digits.proofs.Sizes.{sizesAfter, sizes-first, sizes-next, sizes-left, row-is}
+use Rattle.ring_rq_digits.proofs.Sizes.{sizesAfter, sizes-first, sizes-next, sizes-left, row-is, rows-zero, left-zero}
+use Rattle.ring_digit_norms.proofs.Squares.{Σ-used, norm-zero}
 use Rattle.ring_digit_norms.proofs.norm.add_digits_norm.Statement.{statement}
 use Rattle.ring_digit_norms.proofs.norm.add_digits_norm.Tie as tie
 
@@ -45,8 +46,8 @@ add-norm-requires c κs =
 
 loop-again : tie.Need-loop-again Inv-loop μ-loop
 loop-again c =
-    let s = c .before .before .before .before .before .before .before .before .before .args in
-    let l = c .before .before .before .before .before .before .loop in
+    let s = c .before .before .before .before .before .before .before .before .before .before .before .args in
+    let l = c .before .before .before .before .before .before .before .before .loop in
     let taken = c .before .before .before .before .take-row in
     let n : length (taken .result .row) ≡ 64 = search needs in
     let row = row-is (s .base) (s .a) (l .sizes) (taken .result .row) (l .k) (l .inv .1) (taken .ensures .0) in
@@ -64,20 +65,31 @@ returns : tie.Need-returns Inv-loop μ-loop
 returns c =
     let s = c .before .before .before .before .before .before .args in
     let l = c .before .before .before .loop in
-    let n : l .k ≡ s .parts = omega arith in
-    let left = nothing-left (s .base) (s .parts) (l .k) (s .a) (l .sizes) n (l .inv .1) (c .before .is-zero .ensures) in (
-      (l .inv .2 ∙ ap (λ k. value128 (s .sum .norm) + Σ k (λ q. norm (digitRow (s .base) (s .a) q))) n, omega arith),
-      sym (ap (λ t. s .sum .«cells_left» + cond t 0 1) (left ∙ c .if1 .taken) ∙ add-zero (s .sum .«cells_left»)),
+    let zero = sym (c .before .is-zero .ensures) ∙ c .if1 .taken in
+    let row : (q : ℕ) → l .k ≤ q → norm (digitRow (s .base) (s .a) q) ≡ 0 = λ q h. ap norm (rows-zero (s .base) (s .a) (l .sizes) (l .k) (l .inv .1) zero q h) ∙ norm-zero in
+    let left = left-zero (s .base) (s .a) (l .sizes) (l .k) (l .inv .1) zero (s .parts) (l .inv .0) in (
+      (l .inv .2 ∙ ap (λ x. value128 (s .sum .norm) + x) (Σ-used (l .k) (s .parts) (λ q. norm (digitRow (s .base) (s .a) q)) (l .inv .0) row), omega arith),
+      sym (ap (λ t. s .sum .«cells_left» + cond t 0 1) left ∙ add-zero (s .sum .«cells_left»)),
     )
 
 returns-2 : tie.Need-returns-2 Inv-loop μ-loop
 returns-2 c =
+    let s = c .before .before .before .before .before .before .args in
+    let l = c .before .before .before .loop in
+    let n : l .k ≡ s .parts = omega arith in
+    let left = nothing-left (s .base) (s .parts) (l .k) (s .a) (l .sizes) n (l .inv .1) (c .before .is-zero2 .ensures) in (
+      (l .inv .2 ∙ ap (λ k. value128 (s .sum .norm) + Σ k (λ q. norm (digitRow (s .base) (s .a) q))) n, omega arith),
+      sym (ap (λ t. s .sum .«cells_left» + cond t 0 1) (left ∙ c .if2 .taken) ∙ add-zero (s .sum .«cells_left»)),
+    )
+
+returns-3 : tie.Need-returns-3 Inv-loop μ-loop
+returns-3 c =
     let s = c .before .before .before .before .before .before .before .args in
     let l = c .before .before .before .before .loop in
     let n : l .k ≡ s .parts = omega arith in
-    let left = nothing-left (s .base) (s .parts) (l .k) (s .a) (l .sizes) n (l .inv .1) (c .before .before .is-zero .ensures) in (
+    let left = nothing-left (s .base) (s .parts) (l .k) (s .a) (l .sizes) n (l .inv .1) (c .before .before .is-zero2 .ensures) in (
       (l .inv .2 ∙ ap (λ k. value128 (s .sum .norm) + Σ k (λ q. norm (digitRow (s .base) (s .a) q))) n, omega arith),
-      sym (ap (λ t. s .sum .«cells_left» + cond t 0 1) (left ∙ c .before .if1 .left)),
+      sym (ap (λ t. s .sum .«cells_left» + cond t 0 1) (left ∙ c .before .if2 .left)),
     )
 
 pub add-digits-norm-spec : {M : Type 1} → statement M
@@ -88,6 +100,8 @@ add-digits-norm-spec =
     μ-loop
     (λ c κs. search needs)
     loop-holds
+    (λ c κs. search needs)
+    returns
     (λ c κs. omega arith)
     slice-aggregate-add-norm
     add-norm-requires
@@ -96,5 +110,5 @@ add-digits-norm-spec =
     loop-again
     (λ c κs. search needs)
     (λ c. omega arith)
-    returns
-    returns-2)
+    returns-2
+    returns-3)

@@ -9,7 +9,7 @@ use Rattle.spec_leaves.specs.Answer.{ofChecked}
 use Rattle.verifier_common.specs.Answers.{phi, relation}
 use Rattle.verifier_common.proofs.Sent.{received}
 use Rattle.verifier_common.proofs.Verdicts.{goes-on, stops}
-use Rattle.verifier_relations.proofs.Sides.{c-within, φ-within, phi-held}
+use Rattle.verifier_relations.proofs.Sides.{c-within, phi-held}
 use Rattle.verifier_relations.proofs.Scratch.{Made, a-made}
 use Rattle.verifier_relations.proofs.relations.check_phi_and_relation.Statement.{statement}
 use Rattle.verifier_relations.proofs.relations.check_phi_and_relation.Tie as tie
@@ -21,20 +21,19 @@ check-phi-requires c κs =
     let w = s .pre .0 .0 .posed in (
       received w,
       c-within (a .job .now) (a .transcript .now) (a .params) (a .regions) _ w (s .pre .0 .1),
-      φ-within (a .job .now) (a .transcript .now) (a .params) (a .regions) _ w (s .pre .0 .1),
     )
 
--- 26 of the challenges and the lines in the scratch is that of the randomness
+-- 26 of the challenges in the scratch is that of the randomness
 phi-is : (c : tie.After-check-phi) → let s = c .before .before .before .before .before .before .args in ofChecked (c .check-phi .result) ≡ phi (s .job .now) (s .randomness .now) (s .transcript .now)
 phi-is c =
     let s = c .before .before .before .before .before .before in
     let a = s .args in
-    c .check-phi .ensures ∙ phi-held (a .job .now) (a .randomness .now) (a .transcript .now) (a .params) (a .regions) _ (s .pre .0 .1 .same) (s .pre .0 .2) (s .pre .1 .0)
+    c .check-phi .ensures ∙ phi-held (a .job .now) (a .randomness .now) (a .transcript .now) (a .params) (a .regions) _ (s .pre .0 .1 .same) (s .pre .0 .2 .0) _ (s .pre .1)
 
 a-requires : tie.Need-a-requires
 a-requires c κs =
     let s = c .before .before .before .before .before .before .before .before .before in
-    (s .pre .0 .1, drawn-fewer 7 5 (s .args .job .now) (s .args .randomness .now) (omega arith) (s .pre .0 .0 .drawn), s .pre .1 .1)
+    (s .pre .0 .1, drawn-fewer 7 5 (s .args .job .now) (s .args .randomness .now) (omega arith) (s .pre .0 .0 .drawn), s .pre .0 .2 .1)
 
 -- a is in the scratch
 whole : (c : tie.After-a)

@@ -1,18 +1,14 @@
 -- `work` meets its contract.
-use mathlib.Core.Path.{_≡_, refl, sym, ap, subst, _∙_}
-use mathlib.Core.Bool.{false}
-use Prim.Native.Nat.{_≤_}
+use mathlib.Core.Path.{_≡_, refl, sym, ap, _∙_}
 use native.Mathlib.Omega.{arith}
 use borrow.Author.Needs.{needs}
-use lib.ListN.{length, getD}
+use lib.ListN.{length}
 use Rattle.spec_protocol.specs.Parameters.{parameters}
-use Rattle.spec_protocol.specs.Many.{many-need, row-count}
-use Rattle.spec_protocol.specs.Unchanged.{Unchanged}
+use Rattle.spec_protocol.specs.Many.{many-need}
 use Rattle.relation_env_params.specs.Parameters.{parametersOf}
 use Rattle.layout_sizes.specs.Sizes.{Sized}
 use Rattle.admission_slices.proofs.Ready.{job-sized}
-use Rattle.core_workspace.proofs.Unchanged.{unchanged-trans}
-use Rattle.verify_many.proofs.Rows.{of-job, rowable, still-given, rows-stay, rows-ready, parts-ready, cleared, length-cleared}
+use Rattle.verify_many.proofs.Rows.{of-job, rowable, still-given, rows-ready, cleared, length-cleared}
 use Rattle.verify_many.proofs.call.work.Statement.{statement}
 use Rattle.verify_many.proofs.call.work.Tie as tie
 
@@ -28,61 +24,35 @@ row-products-requires c κs =
     rowable (a .job .now) (a .randomness .now) (a .transcripts .now) (a .count) (length (a .scratch .now)) (a .params) (s .pre) (f .check-transcripts .result)
     (c .before .passing-parts .result) (c .before .passing-parts .ensures) (f .check-transcripts .ensures)
 
-alpha-parts-requires : tie.Need-alpha-parts-requires
-alpha-parts-requires c κs =
-    let s = c .before .before .before .before .before .before .before .before .before .before .before in
-    let a = s .args in
-    still-given (a .job .now) (a .randomness .now) (a .transcripts .now) (a .count) (length (a .scratch .now)) (a .params) (s .pre)
-    (c .before .before .before .before .before .before .check-transcripts .result) (c .before .before .before .before .before .passing-parts .result)
-    (c .before .before .before .before .before .passing-parts .ensures) (c .before .before .before .row-products .ensures .1) refl
-
--- beyond the windows the scratch is as it was after alpha's part
-unchanged : (c : tie.After-alpha-parts) → let s = c .before .before .before .before .before .before .before .before .before .before .before .before .args in Unchanged
-    (many-need (parameters (s .job .now)) (s .count)) (s .scratch .now) (c .alpha-parts .last .1 .1 .1 .1 .1 .0)
-unchanged c = unchanged-trans _ _ _ _ (c .before .before .before .before .row-products .ensures .1) (c .alpha-parts .ensures .1 .1 .1)
-
 verdicts-requires : tie.Need-verdicts-requires
 verdicts-requires c κs =
-    let e = c .before .before .before in
-    let r = c .before .before .before .before .before .before .before in
-    let g = c .before .before .before .before .before .before .before .before .before in
-    let f = c .before .before .before .before .before .before .before .before .before .before in
-    let s = c .before .before .before .before .before .before .before .before .before .before .before .before .before .before .before in
+    let g = c .before .before .before .before .before in
+    let f = c .before .before .before .before .before .before in
+    let s = c .before .before .before .before .before .before .before .before .before .before .before in
     let a = s .args in
-    let d = r .row-products .ensures in
-    let room = subst (λ n. many-need (parameters (a .job .now)) (a .count) ≤ n) (sym (d .1 .size)) (s .pre .room) in
-    let done = rows-stay (a .job .now) (a .transcripts .now) (a .count) (λ m. getD (g .passing-parts .result) m false) (row-count (parameters (a .job .now))) _ _ room
-    (e .alpha-parts .ensures .1 .1 .1) (e .alpha-parts .ensures .1 .1 .0) (d .0) in (
+    let d = c .before .before .before .row-products .ensures in (
       (
         still-given (a .job .now) (a .randomness .now) (a .transcripts .now) (a .count) (length (a .scratch .now)) (a .params) (s .pre) (f .check-transcripts .result)
-            (g .passing-parts .result) (g .passing-parts .ensures) (unchanged e) refl,
+            (g .passing-parts .result) (g .passing-parts .ensures) (d .1) refl,
         of-job (a .job .now) (a .randomness .now) (a .transcripts .now) (a .count)
             (length (a .scratch .now)) (a .params) (s .pre) (f .check-transcripts .result) (g .passing-parts .result) (g .passing-parts .ensures) (f .check-transcripts .ensures),
       ),
-      (
-        rows-ready (a .job .now) (a .randomness .now) (a .transcripts .now) (a .count) (length (a .scratch .now)) (a .params) (s .pre) (f .check-transcripts .result)
-            (g .passing-parts .result) (g .passing-parts .ensures) (unchanged e) refl (f .check-transcripts .ensures) done,
-        parts-ready (a .job .now) (a .randomness .now) (a .transcripts .now) (a .count) (length (a .scratch .now)) (a .params) (s .pre) (f .check-transcripts .result)
-            (g .passing-parts .result) (g .passing-parts .ensures) (unchanged e) refl (f .check-transcripts .ensures) (e .alpha-parts .result) (e .alpha-parts .ensures .1 .0),
-      ),
+      rows-ready (a .job .now) (a .randomness .now) (a .transcripts .now) (a .count) (length (a .scratch .now)) (a .params) (s .pre) (f .check-transcripts .result)
+          (g .passing-parts .result) (g .passing-parts .ensures) (d .1) refl (f .check-transcripts .ensures) (d .0),
     )
 
 -- the length that is cleared
 need-is : (c : tie.After-need)
-    → let s = c .before .before .before .before .before .before .before .before .before .before .before .before .before .before .before .before .before .before .before in
+    → let s = c .before .before .before .before .before .before .before .before .before .before .before .before .before .before .before in
     c .need .result ≡ many-need (parameters (s .args .job .now)) (s .args .count)
-need-is c = let s = c .before .before .before .before .before .before .before .before .before .before .before .before .before .before .before .before .before .before .before in
+need-is c =
+    let s = c .before .before .before .before .before .before .before .before .before .before .before .before .before .before .before in
     c .need .ensures ∙ ap (λ P. many-need P (s .args .count)) (s .pre .same)
 
 clear-requires : tie.Need-clear-requires
 clear-requires c κs =
-    let size = c .before .before .before .before .verdicts .ensures .1 .size ∙ unchanged (c .before .before .before .before .before .before .before .before) .size in
-    omega (
-      arith,
-      need-is (c .before),
-      c .before .before .before .before .before .before .before .before .before .before .before .before .before .before .before .before .before .before .before .before .pre .room,
-      size,
-    )
+    let size = c .before .before .before .before .verdicts .ensures .1 .size ∙ c .before .before .before .before .before .before .before .before .row-products .ensures .1 .size in
+    omega (arith, need-is (c .before), c .before .before .before .before .before .before .before .before .before .before .before .before .before .before .before .before .pre .room, size)
 
 returns : tie.Need-returns
 returns c =
@@ -90,9 +60,8 @@ returns c =
     let rows = n .before .before .before .before .before .before .before in
     let v = c .before .before .before .before .before .before .before .verdicts .ensures in (
       v .0,
-      cleared (n .need .result) (unchanged rows) (v .1)
-          (c .before .before .clear .ensures) (need-is n)
-          (rows .before .before .before .before .before .before .before .before .before .before .before .before .pre .room),
+      cleared (n .need .result) (rows .row-products .ensures .1) (v .1) (c .before .before .clear .ensures) (need-is n)
+          (rows .before .before .before .before .before .before .before .before .pre .room),
     )
 
 pub work-spec : {M : Type 1} → statement M
@@ -102,10 +71,10 @@ work-spec =
     (λ c κs. let s = c .before .before .before .before in (sized s, s .pre .few))
     (λ c κs. search needs)
     row-products-requires
-    alpha-parts-requires
     verdicts-requires
-    (λ c κs. let s = c .before .before .before .before .before .before .before .before .before .before .before .before .before .before .before .before .before .before in (sized s, s .pre .few))
+    (λ c κs. let s = c .before .before .before .before .before .before .before .before .before .before .before .before .before .before in (sized s, s .pre .few))
     clear-requires
-    (λ c. length-cleared (c .before .before .before .before .need .result) (unchanged (c .before .before .before .before .before .before .before .before .before .before .before))
+    (λ c. length-cleared (c .before .before .before .before .need .result)
+    (c .before .before .before .before .before .before .before .before .before .before .before .row-products .ensures .1)
     (c .before .before .before .before .before .before .before .verdicts .ensures .1) (c .before .before .clear .ensures))
     returns)

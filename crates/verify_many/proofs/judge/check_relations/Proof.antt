@@ -17,7 +17,7 @@ returns c =
     let J = s .args .job .now in
     let R = s .args .randomness .now in
     let T = s .args .transcript .now in
-    (stops (s .args .opened) (stops (s .args .opened) (s .pre .1 .0) (c .match .keys2) (z-inner J R T)) (c .match .keys2) (aggregated J R T), unchanged-refl _ _)
+    (stops (s .args .opened) (stops (s .args .opened) (s .pre .1) (c .match .keys2) (z-inner J R T)) (c .match .keys2) (aggregated J R T), unchanged-refl _ _)
 
 -- 24 passes and the answer is that of 25
 second : (c : tie.After-check-z-inner)
@@ -27,7 +27,7 @@ second c =
     let s = c .before .before .before .before .before .before .before .before in
     c .check-z-inner .ensures
     ∙ z-inner-held (s .args .job .now) (s .args .randomness .now) (s .args .transcript .now) (s .args .params) (s .args .regions) (s .args .window .now) (s .pre .0 .1 .same) (s .pre .0 .2)
-    ∙ goes-on (s .args .opened) (s .pre .1 .0) (c .before .before .enum-told .given .1) (z-inner (s .args .job .now) (s .args .randomness .now) (s .args .transcript .now))
+    ∙ goes-on (s .args .opened) (s .pre .1) (c .before .before .enum-told .given .1) (z-inner (s .args .job .now) (s .args .randomness .now) (s .args .transcript .now))
 
 returns-2 : tie.Need-returns-2
 returns-2 c =
@@ -52,6 +52,6 @@ check-relations-spec =
     (λ c. search needs)
     (λ c. search needs)
     returns-2
-    (λ c κs. let s = c .before .before .before .before .before .before .before .before .before .before .before in (s .pre .0, s .pre .1 .1))
+    (λ c κs. c .before .before .before .before .before .before .before .before .before .before .before .pre .0)
     (λ c. c .before .before .check-aggregated .ensures .1 .size)
     returns-3)

@@ -11,7 +11,7 @@ use Rattle.verifier_common.proofs.Verdicts.{goes-on, stops}
 use Rattle.verifier_relations.proofs.Sides.{az-held}
 use Rattle.verifier_relations.proofs.Scratch.{Made, challenges-made}
 use Rattle.verifier_commitments.specs.Order.{commitments}
-use Rattle.verify_many.proofs.Window.{products-stay, alpha-stays, found}
+use Rattle.verify_many.proofs.Window.{products-stay, found}
 use Rattle.verify_many.proofs.judge.check_rest.Statement.{statement}
 use Rattle.verify_many.proofs.judge.check_rest.Tie as tie
 
@@ -39,7 +39,7 @@ products : (c : tie.After-generate-challenges)
     Rows-done (s .job .now) (s .transcript .now) (c .generate-challenges .last .1 .1 .1 .0) (row-count (parameters (s .job .now)))
 products c =
     let s = c .before .before .before .before .before .before in
-    products-stay (s .args .job .now) (s .args .randomness .now) (s .args .transcript .now) (s .args .params) (s .args .regions) (s .args .window .now) _ (s .pre .0 .1) (stored c) _ (s .pre .1 .0)
+    products-stay (s .args .job .now) (s .args .randomness .now) (s .args .transcript .now) (s .args .params) (s .args .regions) (s .args .window .now) _ (s .pre .0 .1) (stored c) _ (s .pre .1)
 
 check-az-requires : tie.Need-check-az-requires
 check-az-requires c κs =
@@ -63,11 +63,7 @@ check-relations-requires c κs =
     let a = s .args in
     let held = az-held (a .job .now) (a .randomness .now) (a .transcript .now) (a .params) (a .regions) _ (s .pre .0 .1 .same) (drawn g .holds) in (
       (s .pre .0 .0, drawn g .ready, drawn g .holds),
-      (
-        c .before .before .before .before .before .check-az .ensures
-            ∙ held,
-        alpha-stays (a .weighed) (a .job .now) (a .randomness .now) (a .params) (a .regions) (a .window .now) _ (s .pre .0 .1) (stored g) (s .pre .1 .1),
-      ),
+      c .before .before .before .before .before .check-az .ensures ∙ held,
     )
 
 returns : tie.Need-returns

@@ -2,7 +2,6 @@
 use mathlib.Core.Path.{refl}
 use borrow.Author.Needs.{needs}
 use Rattle.verifier.proofs.Whole.{stopped-is, goes-on-is, sent-of, ready-of, few-regions}
-use Rattle.verify_many.proofs.Window.{alpha-placed}
 use Rattle.verify_many.proofs.judge.judge.Statement.{statement}
 use Rattle.verify_many.proofs.judge.judge.Tie as tie
 
@@ -16,7 +15,7 @@ check-rest-requires c κs =
     let s = n .before .before .before .before .before .before in
     let ready = ready-of _ _ _ _ _ (s .pre .0) _ (s .args .window .now) refl (n .before .lay-out .ensures) in (
       (sent-of _ _ _ _ _ (s .pre .0), ready, n .check-norms .ensures .1 (t .enum-told .given .1)),
-      (s .pre .1 .1 .0, alpha-placed (s .args .weighed) (s .args .job .now) (s .args .randomness .now) (s .args .params) _ (s .args .window .now) ready (s .pre .1 .1 .1)),
+      s .pre .1 .1,
     )
 
 returns : tie.Need-returns

@@ -6,11 +6,13 @@ use native.Mathlib.Omega.{arith}
 use lib.ListN.{length, getD}
 use Rattle.spec_protocol.specs.Parameters.{parameters}
 use Rattle.spec_protocol.specs.Unchanged.{Unchanged}
-use Rattle.spec_protocol.specs.Many.{many-need}
+use Rattle.spec_protocol.specs.Many.{many-need, transcript-part}
 use Rattle.relation_env_params.specs.Parameters.{parametersOf}
 use Rattle.core_workspace.proofs.Unchanged.{unchanged-refl}
 use Rattle.verify_many_windows.proofs.WindowLaws.{rowable-sized, part-received, need-is, need-large, window-within}
-use Rattle.verify_many_rows.proofs.ARowLaws.{z-fits, Begun, begun-none, begun-next}
+use Rattle.verify_many_digits.proofs.FormLaws.{Begun, begun-none, begun-next}
+use Rattle.verify_many_rows.specs.NttForm.{z-at, z-for, NttForm-z}
+use Rattle.verify_many_rows.proofs.ARowLaws.{z-fits}
 use Rattle.verify_many_rows.proofs.a_rows.all_to_ntt_form.Statement.{statement}
 use Rattle.verify_many_rows.proofs.a_rows.all_to_ntt_form.Tie as tie
 
@@ -18,7 +20,7 @@ abbrev Inv-loop : tie.InvT-loop
 Inv-loop job params count transcripts w scratch₀ passes need m₀ start₀ scratch m start =
     (m ≤ count)
     × (start ≡ m * need)
-    × Begun job transcripts count (λ m. getD passes m false) scratch m
+    × Begun job transcripts count (λ m. getD passes m false) 0 (transcript-part (parameters job) count transcripts) (z-at (parameters job)) (parameters job .n) scratch m
     × Unchanged (many-need (parameters job) count) scratch₀ scratch
 
 abbrev μ-loop : tie.MeasureT-loop
@@ -27,7 +29,7 @@ abbrev μ-loop : tie.MeasureT-loop
 loop-holds : tie.Need-loop-holds Inv-loop μ-loop
 loop-holds c =
     let s = c .before .before .before .before .before in
-    (omega arith, omega arith, begun-none _ _ _ _ (s .args .scratch .now) (s .pre .1), unchanged-refl _ _)
+    (omega arith, omega arith, begun-none _ _ _ _ _ _ _ _ (s .args .scratch .now) (s .pre .1), unchanged-refl _ _)
 
 -- window m lies within the scratch
 bounds : (c : tie.In-loop Inv-loop μ-loop)
@@ -58,16 +60,20 @@ loop-again c =
     let at = l .inv .1 ∙ ap (λ k. l .m * k) (need-is _ _ _ _ _ _ (s .pre .0 .1) _ (n .ensures)) in
     let room = subst (λ k. many-need (parameters (s .args .job .now)) (s .args .count) ≤ k) (sym (l .inv .3 .size)) (s .pre .0 .1 .room) in
     let e = c .before .before .one-to-ntt-form .ensures in
+    let J = s .args .job .now in
+    let T = s .args .transcripts .now in
     let next =
-    begun-next (s .args .job .now) (s .args .transcripts .now) (s .args .count) _ (s .pre .0 .1 .sound .within) (s .args .scratch .now) (l .scratch) _ (l .m) (l .start) room h at
-    (parametersOf (s .args .params)) (s .pre .0 .1 .same) _ refl (e .0) (e .1) (l .inv .2, l .inv .3) in
+    begun-next J T (s .args .count) _ 0 (transcript-part (parameters J) (s .args .count) T) (z-at (parameters J)) (parameters J .n) (z-fits (parameters J) (s .pre .0 .1 .sound .within))
+    (s .args .scratch .now) (l .scratch) _ (l .m) (l .start) room h at _ refl
+    (e .0 ∙ ap (λ P. z-for P T (s .args .count) (l .m) (l .start) (getD (s .args .t4) (l .m) false) (l .scratch)) (s .pre .0 .1 .same))
+    (λ t. subst (λ P. NttForm-z P T (s .args .count) (l .m) (l .start) (c .before .before .one-to-ntt-form .last .1 .1 .1 .1 .1 .1 .0)) (s .pre .0 .1 .same) (e .1 t)) (l .inv .2, l .inv .3) in
     (omega arith, omega (arith, l .inv .1), next .0, next .1)
 
 returns : tie.Need-returns Inv-loop μ-loop
 returns c =
     let l = c .before .loop in
     let b = l .inv .2 in
-    (b .none, (λ i h t. b .z i (omega arith) h t, l .inv .3))
+    (b .done, (λ i h t. b .forms i (omega arith) h t, l .inv .3))
 
 pub all-to-ntt-form-spec : {M : Type 1} → statement M
 all-to-ntt-form-spec =

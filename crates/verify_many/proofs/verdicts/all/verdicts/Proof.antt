@@ -16,8 +16,6 @@ use Rattle.relation_env_params.specs.Parameters.{parametersOf}
 use Rattle.admission_slices.proofs.Ready.{job-sized}
 use Rattle.api_answers.specs.declared.verdicts.LabradorVerdict.{LabradorVerdict}
 use Rattle.api_answers.specs.Calls.{labradorVerdict}
-use Rattle.core_workspace.specs.Holds.{Holds}
-use Rattle.verify_many_phi.specs.AlphaPart.{alpha-words, phi-at}
 use Rattle.core_workspace.proofs.Unchanged.{unchanged-refl, unchanged-trans, unchanged-weaken}
 use Rattle.verify_many.specs.Windows.{unused-verdict}
 use Rattle.verify_many.proofs.Windows.{same-window}
@@ -29,11 +27,11 @@ abbrev of-part : (J : List ℕ) (count : ℕ) (R T : List ℕ) → ℕ → Labra
 of-part J count R T m = labradorVerdict (part-verdict J count R T m)
 
 abbrev Inv-loop : tie.InvT-loop
-Inv-loop job randomness transcripts params count scratch₀ weighed found out₀ m₀ scratch out m =
+Inv-loop job randomness transcripts params count scratch₀ found out₀ m₀ scratch out m =
     (m ≤ count) × (out ≡ padded 8 m unused-verdict (of-part job count randomness transcripts)) × Unchanged (many-need (parameters job) m) scratch₀ scratch
 
 abbrev μ-loop : tie.MeasureT-loop
-μ-loop job randomness transcripts params count scratch₀ weighed found out₀ m₀ scratch out m = count - m
+μ-loop job randomness transcripts params count scratch₀ found out₀ m₀ scratch out m = count - m
 
 loop-holds : tie.Need-loop-holds Inv-loop μ-loop
 loop-holds c =
@@ -65,10 +63,7 @@ verdict-requires c κs =
       (record { fit = g .fit; same = g .same; few = g .few; room = subst (λ n. many-need P (a .count) ≤ n) (sym (k .size)) (g .room) }, taken),
       (
         found-part P (parametersOf (a .params)) (a .count) (a .randomness .now) (a .transcripts .now) (l .m) _ _ (g .same) (c .before .check-part .ensures) (s .pre .0 .1 (l .m) taken),
-        (
-          λ pass. subst (λ w. Rows-done (a .job .now) (transcript-part P (a .count) (a .transcripts .now) (l .m)) w (row-count P)) same (s .pre .1 .0 (l .m) taken pass),
-          λ pass t. subst (λ w. Holds w (phi-at P) (alpha-words (a .job .now) (randomness-part P (a .count) (a .randomness .now) (l .m)))) same (s .pre .1 .1 t (l .m) taken pass),
-        ),
+        λ pass. subst (λ w. Rows-done (a .job .now) (transcript-part P (a .count) (a .transcripts .now) (l .m)) w (row-count P)) same (s .pre .1 (l .m) taken pass),
       ),
     )
 

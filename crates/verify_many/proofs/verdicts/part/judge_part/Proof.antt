@@ -13,7 +13,6 @@ use Rattle.relation_env_params.specs.Parameters.{parametersOf}
 use Rattle.layout_sizes.specs.Sizes.{Sized}
 use Rattle.admission_slices.proofs.Ready.{job-sized}
 use Rattle.verify_many_admission.proofs.Cut.{in-order, between}
-use Rattle.verify_many_phi.specs.AlphaPart.{Alpha-if, phi-at}
 use Rattle.verify_many_admission.proofs.Verdicts.{part-verifiable, part-judged}
 use Rattle.verify_many.proofs.verdicts.part.judge_part.Statement.{statement}
 use Rattle.verify_many.proofs.verdicts.part.judge_part.Tie as tie
@@ -63,10 +62,7 @@ judge-window-requires c κs =
       part-verifiable (a .job .now) (a .count) (a .randomness .now) (a .transcripts .now) (a .m) (g .fit) _ _ (randomness-is r) (transcript-is t) (s .pre .1 .0) (a .params) (g .same),
       (
         (omega (arith, g .few), omega (arith, more, g .room)),
-        (
-          subst (λ T. Rows-done (a .job .now) T (window (parameters (a .job .now)) (a .scratch .now) (a .m)) (row-count (parameters (a .job .now)))) (sym (transcript-is t)) (s .pre .1 .1 .0),
-          subst (λ R. Alpha-if (a .weighed) (a .job .now) R (phi-at (parameters (a .job .now))) (window (parameters (a .job .now)) (a .scratch .now) (a .m))) (sym (randomness-is r)) (s .pre .1 .1 .1),
-        ),
+        subst (λ T. Rows-done (a .job .now) T (window (parameters (a .job .now)) (a .scratch .now) (a .m)) (row-count (parameters (a .job .now)))) (sym (transcript-is t)) (s .pre .1 .1),
       ),
     )
 

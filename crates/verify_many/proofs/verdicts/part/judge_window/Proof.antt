@@ -8,7 +8,6 @@ use Rattle.spec_protocol.specs.Parameters.{parameters}
 use Rattle.spec_protocol.specs.Layout.{scratch-need}
 use Rattle.spec_protocol.specs.Many.{Rows-done, row-count}
 use Rattle.admission_slices.specs.Admission.{Verifiable}
-use Rattle.verify_many_phi.specs.AlphaPart.{Alpha-if, phi-at}
 use Rattle.verifier.proofs.Whole.{call-sized}
 use Rattle.verify_many.proofs.Windows.{inside, lent-window, lent-length, unchanged-window}
 use Rattle.verify_many.proofs.verdicts.part.judge_window.Statement.{statement}
@@ -37,10 +36,7 @@ judge-requires c κs =
       subst (λ n. Verifiable (s .args .job .now) (s .args .randomness .now) (s .args .transcript .now) n (s .args .params)) (sym l) (s .pre .0),
       (
         l,
-        (
-          subst (λ w. Rows-done (s .args .job .now) (s .args .transcript .now) w (row-count (parameters (s .args .job .now)))) (sym w) (s .pre .1 .1 .0),
-          subst (λ w. Alpha-if (s .args .weighed) (s .args .job .now) (s .args .randomness .now) (phi-at (parameters (s .args .job .now))) w) (sym w) (s .pre .1 .1 .1),
-        ),
+        subst (λ w. Rows-done (s .args .job .now) (s .args .transcript .now) w (row-count (parameters (s .args .job .now)))) (sym w) (s .pre .1 .1),
       ),
     )
 

@@ -16,7 +16,7 @@ judge-part-requires c κs =
     let is = k .enum-told .given .1 in
     let e = sym (s .pre .1 .0) ∙ ap ofSliceChecked is in
     let pass = ap is-fine e in
-    (s .pre .0, (e, (s .pre .1 .1 .0 pass, s .pre .1 .1 .1 pass)))
+    (s .pre .0, (e, s .pre .1 .1 pass))
 
 returns : tie.Need-returns
 returns c =

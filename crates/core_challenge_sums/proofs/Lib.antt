@@ -1,0 +1,3 @@
+pub mod Swapped
+pub mod Columns
+pub mod Lines

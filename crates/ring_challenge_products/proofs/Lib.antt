@@ -1,0 +1,5 @@
+pub mod Sparse
+mod Row
+pub mod Product
+mod Extension
+mod Grown

@@ -1,0 +1,5 @@
+mod CellLaws
+pub mod FormLaws
+pub mod RowLaws
+mod SumLaws
+mod Values

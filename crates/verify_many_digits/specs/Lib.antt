@@ -1,0 +1,3 @@
+pub mod NttDigits
+pub mod Rows
+pub mod Sums

@@ -1,4 +1,0 @@
-pub mod Stores
-pub mod Shares
-pub mod Parts
-mod Sums

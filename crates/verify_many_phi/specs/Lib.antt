@@ -1,3 +1,0 @@
-pub mod Alpha
-pub mod AlphaPart
-pub mod Beta
