@@ -4,7 +4,7 @@ use mathlib.Core.List.{List}
 use Prim.Native.Nat.{ℕ}
 use Rattle.spec_leaves.specs.declared.answers.Refusal.{Refusal}
 use Rattle.spec_leaves.specs.declared.answers.Refusal.TheVariants as R
-use Rattle.spec_leaves.specs.Answer.{result, of_refusal}
+use Rattle.spec_leaves.specs.Answer.{result_of, of_refusal}
 use Rattle.spec_protocol.specs.Parameters.{parameters}
 use Rattle.spec_protocol.specs.Layout.{job_refusal}
 use Rattle.relation_env_params.specs.declared.env_params.EnvironmentParameters.{EnvironmentParameters}
@@ -16,7 +16,7 @@ use Rattle.admission_slices.specs.Admission.{of_admitted, At}
 use Rattle.admission_slices.proofs.Ready.{job-sized}
 
 -- a refusal's result is none
-pub refusal_none {ℓ} : {A : Type ℓ} (r : Refusal) (value none : A) → none ≡ result (of_refusal r) value none
+pub refusal_none {ℓ} : {A : Type ℓ} (r : Refusal) (value none : A) → none ≡ result_of (of_refusal r) value none
 refusal_none (R.ScratchTooShort params) value none = refl
 refusal_none (R.OutputTooShort params) value none = refl
 refusal_none (R.JobLayout params) value none = refl

@@ -3,7 +3,7 @@ ghost use Rattle.std.specs.Prelude.{◌≡◌, ◌+◌, ◌≤◌};
 ghost use Rattle.admission_slices.specs.Admission.{call_of};
 
 // The whole call, and the five rounds.
-#[derive(Drop)]
+#[derive(Clone, Copy)]
 pub enum Call {
     Whole,
     Round1,
@@ -14,7 +14,7 @@ pub enum Call {
 }
 
 // The transcript's sections that a call makes: how many, from which on.
-#[derive(Drop)]
+#[derive(Clone, Copy)]
 pub struct Made {
     pub from: usize,
     pub makes: usize,

@@ -1,4 +1,6 @@
 // The refusals before the work: each module tests one slice.
+#![tactic(auto)]
+
 pub mod answers;
 pub mod calls;
 pub mod job;

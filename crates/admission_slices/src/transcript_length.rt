@@ -1,6 +1,6 @@
 // The length of a job's transcript.
 ghost use Rattle.std.specs.Prelude.{◌≡◌};
-ghost use Rattle.spec_leaves.specs.Answer.{result};
+ghost use Rattle.spec_leaves.specs.Answer.{result_of};
 ghost use Rattle.spec_protocol.specs.Parameters.{parameters};
 ghost use Rattle.spec_protocol.specs.Layout.{span, transcript_sections, job_refusal};
 
@@ -10,7 +10,7 @@ use layout_sizes::buffers;
 
 // The length of a transcript of this job; 0 where the job is refused.
 pub fn transcript_length(job: &[u32]) -> usize
-    ensures* { λ r. ⌜ r ≡ result (job_refusal job.now) (span (transcript_sections (parameters job.now))) 0 ⌝ }
+    ensures { result ≡ result_of (job_refusal job.now) (span (transcript_sections (parameters job.now))) 0 }
 {
     match job::check(job) {
         Admitted::Refused(_) => 0,

@@ -1,6 +1,6 @@
 -- The structs of the exported calls on whole slices as answers.
 use Rattle.std.specs.Prelude.{[], ◌∷◌, ℕ, ◌/◌, ◌%◌, ◌^◌}
-use Rattle.spec_leaves.specs.Answer.{Answer, fine, accepted, refused, failed, number, place, result}
+use Rattle.spec_leaves.specs.Answer.{Answer, fine, accepted, refused, failed, number, place, result_of}
 use Rattle.api_answers.specs.declared.verdicts.LabradorAnswer.{LabradorAnswer}
 use Rattle.api_answers.specs.declared.verdicts.LabradorNeed.{LabradorNeed}
 use Rattle.api_answers.specs.declared.verdicts.LabradorVerdict.{LabradorVerdict}
@@ -11,7 +11,7 @@ labrador_answer a = record { number = number a; place = place a }
 
 -- a length needed, 0 on a refusal
 abbrev pub labrador_need : Answer → ℕ → LabradorNeed
-labrador_need a need = record { number = number a; place = place a; words = result a need 0 }
+labrador_need a need = record { number = number a; place = place a; words = result_of a need 0 }
 
 -- a check that fails, with an index in 32 bits and two values
 abbrev pub failed_check : (n index first second : ℕ) → LabradorVerdict

@@ -5,7 +5,7 @@ ghost use Rattle.spec_leaves.specs.Answer.{number, place, of_refusal};
 use spec_leaves::answers::Refusal;
 
 // A refusal's number and place.
-#[derive(Drop)]
+#[derive(Clone, Copy)]
 pub struct Numbered {
     pub number: u32,
     pub place: usize,

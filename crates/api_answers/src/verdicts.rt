@@ -8,7 +8,7 @@ use spec_leaves::answers::{FailedCheck, Proved, Refusal, U128, Verdict};
 
 // A refusal's number and place, 0 and 0 where something was made.
 #[repr(C)]
-#[derive(Drop)]
+#[derive(Clone, Copy)]
 pub struct LabradorAnswer {
     pub number: u32,
     pub place: u64,
@@ -16,7 +16,7 @@ pub struct LabradorAnswer {
 
 // The length that a buffer needs, or the job's refusal.
 #[repr(C)]
-#[derive(Drop)]
+#[derive(Clone, Copy)]
 pub struct LabradorNeed {
     pub number: u32,
     pub place: u64,
@@ -26,7 +26,7 @@ pub struct LabradorNeed {
 // 0 where a transcript is accepted, with the number of cells that have something left; a refusal's number and place; or the number of the check that fails with its
 // index and its two values.
 #[repr(C)]
-#[derive(Drop)]
+#[derive(Clone, Copy)]
 pub struct LabradorVerdict {
     pub number: u32,
     pub index: u32,

@@ -17,7 +17,7 @@ use Rattle.math.proofs.lists.Splice.{splice_eq}
 use Rattle.spec_leaves.specs.Digits.{digit}
 use Rattle.spec_leaves.specs.Rq.{coeff, rzero, digit_row, digit_rows}
 use Rattle.spec_leaves.specs.Leaf.{digit_operands}
-use Rattle.spec_leaves.specs.Answer.{Answer, fine, accepted, refused, failed, result}
+use Rattle.spec_leaves.specs.Answer.{Answer, fine, accepted, refused, failed, result_of}
 use Rattle.spec_leaves.proofs.Cases.{ltb_cases}
 use Rattle.api_leaf_answers.specs.Rows.{rows_or_zero, row_words, words_written}
 
@@ -41,7 +41,7 @@ zero_rows i h = ap length (get_or-replicate 32 i rzero [] h) ∙ length-table 64
 rows_or_zero_lem : (base parts : ℕ) (a : List ℕ) → Rows64 (rows_or_zero base parts a)
 rows_or_zero_lem base parts a = by (digit_operands base parts a)
   where
-    by : (x : Answer) → Rows64 (result x (digit_rows base parts a) (replicate 32 rzero))
+    by : (x : Answer) → Rows64 (result_of x (digit_rows base parts a) (replicate 32 rzero))
     by fine = digit_rows_lem base parts a
     by (accepted cells) = zero_rows
     by (refused n p) = zero_rows

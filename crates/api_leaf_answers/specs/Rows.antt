@@ -2,13 +2,13 @@
 use Rattle.std.specs.Prelude.{cond, List, [], ℕ, ltb, length, get_or, replicate}
 use Rattle.math.specs.lists.Table.{cat}
 use Rattle.math.specs.lists.Part.{splice}
-use Rattle.spec_leaves.specs.Answer.{Answer, fine, refused, result, ◌then◌}
+use Rattle.spec_leaves.specs.Answer.{Answer, fine, refused, result_of, ◌then◌}
 use Rattle.spec_leaves.specs.Rq.{rzero, digit_rows}
 use Rattle.spec_leaves.specs.Leaf.{digit_operands}
 
 -- "32 rows of 64, rows past the parts zero, all zero on refusal"
 abbrev pub rows_or_zero : ℕ → ℕ → List ℕ → List (List ℕ)
-rows_or_zero base parts a = result (digit_operands base parts a) (digit_rows base parts a) (replicate 32 rzero)
+rows_or_zero base parts a = result_of (digit_operands base parts a) (digit_rows base parts a) (replicate 32 rzero)
 
 -- the words of 32 rows, row after row
 abbrev pub row_words : List (List ℕ) → List ℕ

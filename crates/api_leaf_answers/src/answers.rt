@@ -7,14 +7,14 @@ use ring_rq::rq::Rq;
 use spec_leaves::answers::{Operands, U128};
 
 #[repr(C)]
-#[derive(Drop)]
+#[derive(Clone, Copy)]
 pub struct Status {
     pub number: u32,
     pub place: u32,
 }
 
 #[repr(C)]
-#[derive(Drop)]
+#[derive(Clone, Copy)]
 pub struct WordAnswer {
     pub number: u32,
     pub place: u32,
@@ -22,7 +22,7 @@ pub struct WordAnswer {
 }
 
 #[repr(C)]
-#[derive(Drop)]
+#[derive(Clone, Copy)]
 pub struct CentreAnswer {
     pub number: u32,
     pub place: u32,
@@ -31,7 +31,7 @@ pub struct CentreAnswer {
 
 // The digits and the size left over (document 02, Item 5).
 #[repr(C)]
-#[derive(Drop)]
+#[derive(Clone, Copy)]
 pub struct DigitsAnswer {
     pub number: u32,
     pub place: u32,
@@ -40,7 +40,7 @@ pub struct DigitsAnswer {
 }
 
 #[repr(C)]
-#[derive(Drop)]
+#[derive(Clone, Copy)]
 pub struct ElementAnswer {
     pub number: u32,
     pub place: u32,
@@ -49,7 +49,7 @@ pub struct ElementAnswer {
 
 // The norm is hi · 2^64 + lo.
 #[repr(C)]
-#[derive(Drop)]
+#[derive(Clone, Copy)]
 pub struct NormAnswer {
     pub number: u32,
     pub place: u32,

@@ -10,7 +10,7 @@ use api_answers::numbers::number_of;
 
 // A refusal's number, 0 where nothing is refused, and its place.
 #[repr(C)]
-#[derive(Drop)]
+#[derive(Clone, Copy)]
 pub struct Judged {
     pub number: u32,
     pub place: usize,

@@ -11,7 +11,7 @@ use ring_rq_vector::vector::zero;
 use ring_zq::wide::wide;
 
 // The digits of `cells` elements from `at` on, each element in `parts` digits.
-#[derive(Drop)]
+#[derive(Clone, Copy)]
 pub struct Digits {
     pub at: usize,
     pub cells: usize,

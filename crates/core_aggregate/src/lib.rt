@@ -1,5 +1,7 @@
 // The two aggregations (core/aggregate.rs). The constraints' cells or vectors stand one constraint after the other, `width` elements each; element c of
 // the result is weighed over the constraints' elements c.
+#![tactic(auto)]
+
 pub mod omega;
 
 ghost use Rattle.std.specs.Prelude.{◌≡◌, ◌+◌, ◌*◌, ◌≤◌, length};

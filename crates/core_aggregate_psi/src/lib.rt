@@ -1,5 +1,7 @@
 // Elements of the constant_term constraints weighed by the numbers of psi (core/aggregate.rs). The constraints' cells or vectors stand one constraint after
 // the other, `width` elements each; element c of the result is weighed over the constraints' elements c.
+#![tactic(auto)]
+
 ghost use Rattle.std.specs.Prelude.{◌≡◌, ◌+◌, ◌*◌, ◌≤◌, length};
 ghost use Rattle.math.specs.lists.Part.{splice};
 ghost use Rattle.ring_inner_product.specs.Run.{Room};

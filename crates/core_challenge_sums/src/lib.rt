@@ -1,4 +1,6 @@
 // Σ⟨φ_i,z⟩·c_i without φ (core/aggregate.rs, verifier.rs): of each constraint Σ c_i·φ_i is made first, and its inner product with z by transforms.
+#![tactic(auto)]
+
 ghost use Rattle.std.specs.Prelude.{◌≡◌, ◌+◌, ◌*◌, ◌≤◌, ◌<◌, length};
 ghost use Rattle.spec_leaves.specs.Ring.{words};
 ghost use Rattle.ntt_transform.specs.Roots.{twiddle_table};

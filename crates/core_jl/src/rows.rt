@@ -18,7 +18,7 @@ const MODULUS: u64 = Zq::Q as u64;
 const FLIP: u64 = (MODULUS - (modulus::LACK as u64 - 1)) % MODULUS;
 
 // Sums of the lower and of the upper halves of flipped words, and the number of those whose entry is −1.
-#[derive(Drop)]
+#[derive(Clone, Copy)]
 pub struct FlippedHalves {
     pub low: u32,
     pub high: u32,
@@ -48,7 +48,7 @@ fn join(h: FlippedHalves) -> u64
 }
 
 // The sums of four rows.
-#[derive(Drop)]
+#[derive(Clone, Copy)]
 pub struct RowSums {
     pub a: u64,
     pub b: u64,

@@ -1,5 +1,7 @@
 // The omega part of φ'' (`calculate_agg_phi_double_prime` of core/aggregate.rs) of one vector for one k: row after row of the projection,
 // omega is added to or taken from each column's sum; each finished element is conjugated once.
+#![tactic(auto)]
+
 ghost use Rattle.std.specs.Prelude.{◌≡◌, ◌+◌, ◌*◌, ◌≤◌, length};
 ghost use Rattle.math.specs.lists.Table.{table};
 ghost use Rattle.math.specs.lists.Part.{splice};

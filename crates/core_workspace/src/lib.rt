@@ -1,5 +1,7 @@
 // The aggregated constraints and the challenges in the lent scratch, as the prover and the verifier both need them. Each step is handed the call's
 // slices whole, with the parameters and the places of the regions.
+#![tactic(auto)]
+
 ghost use Rattle.std.specs.Prelude.{◌≡◌};
 ghost use Rattle.math.specs.lists.Part.{splice};
 ghost use Rattle.core_workspace.specs.Ready.{Ready, Drawn, Challengeable};

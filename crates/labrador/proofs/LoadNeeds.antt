@@ -2,7 +2,7 @@
 use mathlib.Core.Path.{◌≡◌, sym, ap, subst, ◌∙◌}
 use Prim.Native.Nat.{ℕ}
 use Rattle.spec_leaves.specs.declared.answers.Refusal.{Refusal}
-use Rattle.spec_leaves.specs.Answer.{of_refusal, number, place, result}
+use Rattle.spec_leaves.specs.Answer.{of_refusal, number, place, result_of}
 use Rattle.spec_protocol.specs.Parameters.{Parameters}
 use Rattle.spec_protocol.specs.Load.{Given, load_parameters, needs_refusal, job_need, witness_need, randomness_need}
 use Rattle.relation_env_params.specs.declared.env_params.EnvironmentParameters.{EnvironmentParameters}
@@ -30,7 +30,7 @@ module _ (G : Given) (x : SectionOne) (e : (of_section_one x ≡ needs_refusal G
         witness = refusal_none r (witness_need G) 0 i;
         randomness = refusal_none r (randomness_need G) 0 i;
       })
-      ∙ ap (λ a. record { number = number a; place = place a; job = result a (job_need G) 0; witness = result a (witness_need G) 0; randomness = result a (randomness_need G) 0 })
+      ∙ ap (λ a. record { number = number a; place = place a; job = result_of a (job_need G) 0; witness = result_of a (witness_need G) 0; randomness = result_of a (randomness_need G) 0 })
       (sym (ap of_section_one is) ∙ e.0)
 
   pub load_lengths : (params : EnvironmentParameters) (n : Needs) → x ≡ S.Read params → Lengths (parameters_of params) n
@@ -39,5 +39,5 @@ module _ (G : Given) (x : SectionOne) (e : (of_section_one x ≡ needs_refusal G
       let same = (ready G params x is e).same in
       let l : Lengths (load_parameters G) n = subst (λ P. Lengths P n) same h in
       (λ i. record { number = 0; place = 0; job = l.job i; witness = l.witness i; randomness = l.randomness i })
-      ∙ ap (λ a. record { number = number a; place = place a; job = result a (job_need G) 0; witness = result a (witness_need G) 0; randomness = result a (randomness_need G) 0 })
+      ∙ ap (λ a. record { number = number a; place = place a; job = result_of a (job_need G) 0; witness = result_of a (witness_need G) 0; randomness = result_of a (randomness_need G) 0 })
       (sym (ap of_section_one is) ∙ e.0)

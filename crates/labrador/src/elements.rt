@@ -71,7 +71,7 @@ pub extern "C" fn labrador_rq_norm(a: Rq) -> NormAnswer
 
 // 41 sign words, then 63 shuffle words.
 #[repr(C)]
-#[derive(Drop)]
+#[derive(Clone, Copy)]
 pub struct ChallengeWords {
     pub words: [u32; 104],
 }

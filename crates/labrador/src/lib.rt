@@ -1,4 +1,6 @@
 // The exported calls.
+#![tactic(auto)]
+
 pub mod calls;
 pub mod digits;
 pub mod elements;

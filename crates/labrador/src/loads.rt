@@ -11,7 +11,7 @@ use load_needs::LabradorParameters;
 
 // The lengths that a load needs, or the refusal of its parameters with zeros.
 #[repr(C)]
-#[derive(Drop)]
+#[derive(Clone, Copy)]
 pub struct LabradorLoadNeed {
     pub number: u32,
     pub place: u64,

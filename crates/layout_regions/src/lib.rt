@@ -1,10 +1,12 @@
 // The regions of the lent scratch: places in words, one region after the other from the scratch's first word on.
+#![tactic(auto)]
+
 ghost use Rattle.std.specs.Prelude.{◌≤◌};
 ghost use Rattle.layout_regions.specs.Laid.{Laid};
 
 use ring_rq_matrix::triangles;
 
-#[derive(Drop)]
+#[derive(Clone, Copy)]
 pub struct Regions {
     // φ'': L·r·n elements
     pub phi2: usize,

@@ -1,4 +1,6 @@
 // Section one of the job: its layout (3), its parameters' limits (4), and an L below its least (5).
+#![tactic(auto)]
+
 ghost use Rattle.std.specs.Prelude.{◌≡◌, ◌≤◌, length, get_or};
 ghost use Rattle.spec_leaves.specs.Answer.{fine, ◌then◌};
 ghost use Rattle.spec_protocol.specs.Checks.{first};
@@ -16,7 +18,7 @@ use spec_leaves::answers::Refusal;
 use spec_leaves::modulus;
 
 // A refusal, or the parameters.
-#[derive(Drop)]
+#[derive(Clone, Copy)]
 pub enum SectionOne {
     Refused(Refusal),
     Read(EnvironmentParameters),

@@ -1,20 +1,22 @@
 // "A record with the lent slice and a position reads the sections." The borrow checker covers no function over such a record,
 // so each is thin and proved by hand; the work is in `section_at` and `behind_at`, which take the slice and the position.
 // Callers use `section_from`, whose parameters are plain, and go on behind the section that it gives.
+#![tactic(auto)]
+
 ghost use Rattle.std.specs.Prelude.{◌≡◌, length};
 ghost use Rattle.layout_section_reader.specs.Read.{read_at, behind_at, read_by, behind_by, Inside};
 
 use ring_zq::wide::wide_usize;
 
 // A slice of sections, and the position of the next section's count.
-#[derive(Drop)]
+#[derive(Clone, Copy)]
 pub struct SectionReader<'a> {
     pub words: &'a [u32],
     pub position: usize,
 }
 
 // What stands at a position.
-#[derive(Drop)]
+#[derive(Clone, Copy)]
 pub enum Read {
     // the place of a section's first word, and its count
     Section(usize, usize),

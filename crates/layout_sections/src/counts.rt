@@ -7,14 +7,14 @@ use crate::sections::Sections;
 use ring_zq::wide::wide_usize;
 
 // Where sections that start at a place go wrong, or end.
-#[derive(Drop)]
+#[derive(Clone, Copy)]
 pub enum Counted {
     Wrong(usize),
     End(usize),
 }
 
 // The first place at which something is wrong.
-#[derive(Drop)]
+#[derive(Clone, Copy)]
 pub enum Found {
     At(usize),
     Nowhere,

@@ -4,7 +4,7 @@ ghost use Rattle.spec_protocol.specs.Layout as L;
 ghost use Rattle.layout_sections.specs.Sections.{listed};
 
 // Section m, for m below `len`, has `counts[m]` words of at most `greatest[m]`.
-#[derive(Drop)]
+#[derive(Clone, Copy)]
 pub struct Sections {
     pub counts: [usize; 10],
     pub greatest: [u32; 10],

@@ -9,7 +9,7 @@ use crate::sections::Sections;
 use crate::{counts, ranges};
 
 // What a slice is found to be: the place of a wrong layout or of a word out of range, or neither.
-#[derive(Drop)]
+#[derive(Clone, Copy)]
 pub enum Examined {
     Layout(usize),
     Word(usize),

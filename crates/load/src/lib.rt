@@ -1,4 +1,6 @@
 // A test load: job, witness and randomness from twelve parameters and a seed (document 02, Items 1 and 6).
+#![tactic(auto)]
+
 ghost use Rattle.std.specs.Prelude.{◌≡◌, ◌+◌, ◌≤◌, length};
 ghost use Rattle.math.specs.lists.Part.{splice};
 ghost use Rattle.spec_leaves.specs.Answer.{of_proved};

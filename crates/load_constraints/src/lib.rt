@@ -1,4 +1,6 @@
 // The left sides of all constraints of a job, added up where b0 and b stand: each ⟨s_i, s_j⟩ is worked out once and weighed into every constraint.
+#![tactic(auto)]
+
 pub mod products;
 pub mod sums;
 

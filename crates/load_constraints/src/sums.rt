@@ -17,7 +17,7 @@ use ring_zq::zq::Zq;
 const MODULUS: u64 = Zq::Q as u64;
 
 // Where the sums stand: l numbers from `b0_at` on, k elements from `b_at` on.
-#[derive(Drop)]
+#[derive(Clone, Copy)]
 pub struct Target {
     pub b0_at: usize,
     pub l: usize,

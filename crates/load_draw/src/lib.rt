@@ -1,4 +1,6 @@
 // The words of a test load, drawn one after the other (document 02, Item 1).
+#![tactic(auto)]
+
 ghost use Rattle.std.specs.Prelude.{◌≡◌, ◌∷◌, ◌+◌, ◌≤◌, ◌<◌, ◌^◌, length};
 ghost use Rattle.math.specs.lists.Part.{splice};
 ghost use Rattle.spec_protocol.specs.Layout as L;
@@ -11,7 +13,7 @@ use layout_sections::sections::Sections;
 use ring_zq::zq::Zq;
 
 // How the words of a section come about.
-#[derive(Drop)]
+#[derive(Clone, Copy)]
 pub enum Rule {
     // the state, 0 where that is not below Q
     Word,

@@ -1,4 +1,6 @@
 // The parameters of a test load, what is refused of them, and the lengths that the three buffers need (document 02, Item 1).
+#![tactic(auto)]
+
 ghost use Rattle.std.specs.Prelude.{◌≡◌, ◌∷◌, ◌<◌, ◌^◌};
 ghost use Rattle.spec_protocol.specs.Load.{load_refusal, needs_refusal};
 ghost use Rattle.relation_env_params.specs.Parameters.{parameters_of};
@@ -16,7 +18,7 @@ use spec_leaves::answers::Refusal;
 
 // "From eleven parameters", with L the twelfth: in section one's order.
 #[repr(C)]
-#[derive(Drop)]
+#[derive(Clone, Copy)]
 pub struct LabradorParameters {
     pub n: u32,
     pub r: u32,
@@ -33,7 +35,7 @@ pub struct LabradorParameters {
 }
 
 // The lengths needed.
-#[derive(Drop)]
+#[derive(Clone, Copy)]
 pub struct Needs {
     pub job: usize,
     pub witness: usize,

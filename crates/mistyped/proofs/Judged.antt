@@ -8,7 +8,7 @@ use lib.ListN.{length, drop, replicate, length-replicate, replicate-append-repli
 use lib.Seq.{drop_at, drop-append-le}
 use Rattle.math.specs.lists.Part.{splice}
 use Rattle.math.proofs.lists.Splice.{splice_eq, splice-nil, length-splice}
-use Rattle.spec_leaves.specs.Answer.{Answer, fine, accepted, refused, failed, number, result}
+use Rattle.spec_leaves.specs.Answer.{Answer, fine, accepted, refused, failed, number, result_of}
 use Rattle.spec_protocol.specs.Parameters.{parameters}
 use Rattle.spec_protocol.specs.Views.{public, message}
 use Rattle.spec_protocol.specs.Mistyped.{Entry, Listed, judged, some_entry, verdict_of, entry_words, written, list_need}
@@ -21,7 +21,7 @@ use Rattle.mistyped.specs.Told.{mistyped_answer, counted_answer, kept, Judged, W
 use Rattle.mistyped.proofs.Verdicts.{Without}
 
 -- a value that does not depend on the answer
-result-same {ℓ} : {A : Type ℓ} (a : Answer) (x : A) → result a x x ≡ x
+result-same {ℓ} : {A : Type ℓ} (a : Answer) (x : A) → result_of a x x ≡ x
 result-same fine x = refl
 result-same (accepted cells) x = refl
 result-same (refused n params) x = refl
@@ -33,7 +33,7 @@ counted_is [] n e = ap counted_answer (sym e)
 counted_is (x ∷ es) n e = ap counted_answer (sym e)
 
 -- entries that are listed stand in the list
-some-kept : (es : List Entry) → result (some_entry es) es [] ≡ es
+some-kept : (es : List Entry) → result_of (some_entry es) es [] ≡ es
 some-kept [] = refl
 some-kept (x ∷ es) = refl
 
@@ -57,7 +57,7 @@ module _ (J R T : List ℕ) (list : List ℕ) where
   judged-with {params} {count} {list'} {vs} w v e r is =
       let l : params.constraint_l ≡ (parameters J).l = ap (λ P. P.l) w.posed.same in
       let same : judged (verdict_of J R T) e.found ≡ some_entry e.found = ap (λ u. judged u e.found) (sym v) in
-      let all : kept J R T e.found ≡ e.found = ap (λ a. result a e.found []) same ∙ some-kept e.found in
+      let all : kept J R T e.found ≡ e.found = ap (λ a. result_of a e.found []) same ∙ some-kept e.found in
       record {
         found = e.found;
         asked = λ n. subst (λ b. Listed (public J R) (message (parameters J) T) b e.found) l e.listed;

@@ -7,7 +7,7 @@ use native.Mathlib.Omega.{arith}
 use denote.Enum.Declared.{tag_of}
 use types.Run.{OneOf}
 use Rattle.spec_leaves.specs.contracts.answers.FailedCheck.{the_type}
-use Rattle.spec_leaves.specs.Answer.{Answer, accepted, refused, failed, number, result, of_refusal, of_failed}
+use Rattle.spec_leaves.specs.Answer.{Answer, accepted, refused, failed, number, result_of, of_refusal, of_failed}
 use Rattle.spec_leaves.specs.declared.answers.Refusal.{Refusal}
 use Rattle.spec_leaves.specs.declared.answers.Refusal.TheVariants as R
 use Rattle.spec_leaves.specs.declared.answers.FailedCheck.{FailedCheck}

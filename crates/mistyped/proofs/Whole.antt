@@ -5,7 +5,7 @@ use Prim.Native.Nat.{ℕ, ◌*◌, ◌≤◌, ◌<◌}
 use native.Mathlib.Decide.{dec_le}
 use native.Mathlib.Omega.{arith}
 use lib.ListN.{length}
-use Rattle.spec_leaves.specs.Answer.{Answer, fine, refused, result, of_refusal, ◌then◌}
+use Rattle.spec_leaves.specs.Answer.{Answer, fine, refused, result_of, of_refusal, ◌then◌}
 use Rattle.spec_leaves.specs.declared.answers.Refusal.{Refusal}
 use Rattle.spec_protocol.specs.Checks.{require}
 use Rattle.spec_protocol.specs.Parameters.{parameters}
@@ -56,12 +56,12 @@ module _ (J R T S list : List ℕ) where
       found = [];
       asked = λ f. absurd (refused_not-fine n p (sym e ∙ f));
       answer = is ∙ ap (λ a. mistyped_answer (a then judged (verdict_of J R T) []) 0) (sym e);
-      words = ap (λ a. result a (written (list_need (parameters J)) (kept J R T []) list) list) (sym e);
+      words = ap (λ a. result_of a (written (list_need (parameters J)) (kept J R T []) list) list) (sym e);
     }
 
     pub refused-scratch : S ≡ mistyped_scratch J R T S (length list)
     unfolding mistyped_scratch
-    refused-scratch = ap (λ a. result a (zeroed (scratch_need (parameters J)) S) S) (sym e)
+    refused-scratch = ap (λ a. result_of a (zeroed (scratch_need (parameters J)) S) S) (sym e)
 
   -- a call whose work is done
   module _ (e : refusal ≡ fine) where
@@ -71,9 +71,9 @@ module _ (J R T S list : List ℕ) where
       found = w.found;
       asked = λ f. w.asked;
       answer = w.answer ∙ ap (λ a. mistyped_answer (a then judged (verdict_of J R T) w.found) (length w.found)) (sym e);
-      words = w.words ∙ ap (λ a. result a (written (list_need (parameters J)) (kept J R T w.found) list) list) (sym e);
+      words = w.words ∙ ap (λ a. result_of a (written (list_need (parameters J)) (kept J R T w.found) list) list) (sym e);
     }
 
     pub worked-scratch : {S' : List ℕ} → S' ≡ zeroed (scratch_need (parameters J)) S → S' ≡ mistyped_scratch J R T S (length list)
     unfolding mistyped_scratch
-    worked-scratch f = f ∙ ap (λ a. result a (zeroed (scratch_need (parameters J)) S) S) (sym e)
+    worked-scratch f = f ∙ ap (λ a. result_of a (zeroed (scratch_need (parameters J)) S) S) (sym e)

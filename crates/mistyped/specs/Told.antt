@@ -1,7 +1,7 @@
 -- The struct of the call as an answer, and what the call does to the list (document 02, Item 8).
 use Rattle.std.specs.Prelude.{◌≡◌, List, [], ℕ, zero, suc, ◌≤◌, length}
 use Rattle.math.specs.lists.Part.{splice}
-use Rattle.spec_leaves.specs.Answer.{Answer, fine, refused, number, place, result}
+use Rattle.spec_leaves.specs.Answer.{Answer, fine, refused, number, place, result_of}
 use Rattle.spec_protocol.specs.Parameters.{parameters}
 use Rattle.spec_protocol.specs.Views.{public, message}
 use Rattle.spec_protocol.specs.Mistyped as M
@@ -10,7 +10,7 @@ use Rattle.mistyped.specs.declared.answers.MistypedAnswer.{MistypedAnswer}
 
 -- a refusal's number and place, or how many entries there are: "the answer gives how many entries there are"
 abbrev pub mistyped_answer : Answer → (entries : ℕ) → MistypedAnswer
-mistyped_answer a entries = record { number = number a; place = place a; entries = result a entries 0 }
+mistyped_answer a entries = record { number = number a; place = place a; entries = result_of a entries 0 }
 
 -- what is answered by how many entries there are where check 22 is the failed one
 abbrev pub counted_answer : ℕ → MistypedAnswer
@@ -24,7 +24,7 @@ module _ (J R T : List ℕ) where
 
   -- the entries that stand in the list: none on a refusal
   abbrev pub kept : List Entry → List Entry
-  kept es = result (judged (verdict_of J R T) es) es []
+  kept es = result_of (judged (verdict_of J R T) es) es []
 
   -- what is judged after the verifier's work, and the list that is left then
   pub record Judged (list list' : List ℕ) (r : MistypedAnswer) : Type 0 where

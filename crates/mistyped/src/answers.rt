@@ -8,7 +8,7 @@ use spec_leaves::answers::Refusal;
 
 // A refusal's number and place, or 0 and 0 with the number of entries in the list.
 #[repr(C)]
-#[derive(Drop)]
+#[derive(Clone, Copy)]
 pub struct MistypedAnswer {
     pub number: u32,
     pub place: u64,

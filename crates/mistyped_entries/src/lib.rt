@@ -1,4 +1,6 @@
 // The entries of the list of indexes at which check 22 can be mended (document 02, Item 8).
+#![tactic(auto)]
+
 ghost use Rattle.std.specs.Prelude.{◌≡◌, ◌+◌, ◌*◌, ◌≤◌, ◌<◌, length};
 ghost use Rattle.verifier_common.specs.Work.{Sent};
 ghost use Rattle.mistyped_entries.specs.Lacking.{lacking, all_lacking};

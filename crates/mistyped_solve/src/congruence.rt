@@ -5,21 +5,21 @@ ghost use Rattle.mistyped_solve.specs.Congruence.{Solves, Reduced, Combines, Fou
 use ring_zq::zq::Zq;
 
 // factor·x is the value modulo Q.
-#[derive(Drop)]
+#[derive(Clone, Copy)]
 pub struct Congruence {
     pub factor: u32,
     pub value: u32,
 }
 
 // Two congruences as one, or that no number solves both.
-#[derive(Drop)]
+#[derive(Clone, Copy)]
 pub enum Combined {
     One(Congruence),
     None,
 }
 
 // The solution of smallest centred size, or that there is none.
-#[derive(Drop)]
+#[derive(Clone, Copy)]
 pub enum Solution {
     Number(u32),
     None,

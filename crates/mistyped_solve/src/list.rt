@@ -7,7 +7,7 @@ ghost use Rattle.mistyped_solve.specs.Insert.{entry, entries, first_of, later_of
 use ring_zq::zq::Zq;
 
 // Two entries: the one that comes first, and the other.
-#[derive(Drop)]
+#[derive(Clone, Copy)]
 pub struct InOrder {
     pub index: u32,
     pub number: u32,

@@ -10,7 +10,7 @@ use ntt_transform::transforms;
 use ring_zq::wide::wide;
 
 // The values of an element modulo the three primes.
-#[derive(Drop)]
+#[derive(Clone, Copy)]
 pub struct Transformed {
     pub first: [u32; 64],
     pub second: [u32; 64],
@@ -18,7 +18,7 @@ pub struct Transformed {
 }
 
 // Sums of products of values.
-#[derive(Drop)]
+#[derive(Clone, Copy)]
 pub struct Sums {
     pub first: [u64; 64],
     pub second: [u64; 64],

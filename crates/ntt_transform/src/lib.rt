@@ -1,3 +1,5 @@
 // The transform of length 64 and its inverse modulo one of three primes, over one table of the powers of their roots.
+#![tactic(auto)]
+
 pub mod table;
 pub mod transforms;

@@ -8,7 +8,7 @@ use lib.Seq.{get_or-take, length-take-le}
 use Rattle.math.specs.lists.Part.{splice}
 use Rattle.math.proofs.lists.Splice.{splice_eq}
 use Rattle.spec_leaves.specs.declared.answers.Refusal.{Refusal}
-use Rattle.spec_leaves.specs.Answer.{Answer, fine, result, of_refusal}
+use Rattle.spec_leaves.specs.Answer.{Answer, fine, result_of, of_refusal}
 use Rattle.spec_protocol.specs.Parameters.{parameters}
 use Rattle.spec_protocol.specs.Layout.{Section, canonical, span, start, randomness_sections, witness_sections, scratch_need}
 use Rattle.spec_protocol.specs.Views.{public, witness}
@@ -41,8 +41,8 @@ none_before : (a b : ℕ) → a ≡ b → 0 + a ≡ b
 none_before a b h = omega arith
 
 -- a refusal that is an answer: that answer's result part
-pub refused_is {ℓ} : {A : Type ℓ} (r : Refusal) {a : Answer} (value none : A) → of_refusal r ≡ a → none ≡ result a value none
-refused_is r value none e = refusal_none r value none ∙ ap (λ x. result x value none) e
+pub refused_is {ℓ} : {A : Type ℓ} (r : Refusal) {a : Answer} (value none : A) → of_refusal r ≡ a → none ≡ result_of a value none
+refused_is r value none e = refusal_none r value none ∙ ap (λ x. result_of x value none) e
 
 -- an output with what a call makes at its start
 pub output-made : (J R W : List ℕ) (call : Call) (O : List ℕ) → span (made_sections call (parameters J)) ≤ length O
@@ -126,8 +126,8 @@ module _ (call : Call) (J R W S O : List ℕ) where
 
     pub worked-output : worked call J R W O ≡ prove_output call J R W S O
     unfolding prove_output
-    worked-output = ap (λ a. result a (worked call J R W O) O) e
+    worked-output = ap (λ a. result_of a (worked call J R W O) O) e
 
     pub worked-scratch : zeroed (scratch_need (parameters J)) S ≡ prove_scratch call J R W S O
     unfolding prove_scratch
-    worked-scratch = ap (λ a. result a (zeroed (scratch_need (parameters J)) S) S) e
+    worked-scratch = ap (λ a. result_of a (zeroed (scratch_need (parameters J)) S) S) e

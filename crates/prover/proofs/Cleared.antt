@@ -8,7 +8,7 @@ use Rattle.math.specs.lists.Part.{splice}
 use Rattle.spec_leaves.specs.declared.answers.Refusal.{Refusal}
 use Rattle.spec_leaves.specs.declared.answers.Proved.{Proved}
 use Rattle.spec_leaves.specs.declared.answers.Proved.TheVariants as E
-use Rattle.spec_leaves.specs.Answer.{result, of_proved}
+use Rattle.spec_leaves.specs.Answer.{result_of, of_proved}
 use Rattle.spec_protocol.specs.Parameters.{parameters}
 use Rattle.spec_protocol.specs.Layout.{span, transcript_sections, scratch_need}
 use Rattle.spec_protocol.specs.Prover.{made_sections, zeroed}
@@ -56,7 +56,7 @@ module _ (call : Call) (J R W : List ℕ) (params : EnvironmentParameters) (S O 
     output_left O₁ stored =
         stored
         ∙ output-made J R W (call_of call) O h.output_fits
-        ∙ ap (λ a. result a (makes J R W (call_of call) ++ drop (span (made_sections (call_of call) (parameters J))) O) (zeroed (span (made_sections (call_of call) (parameters J))) O)) answer-made
+        ∙ ap (λ a. result_of a (makes J R W (call_of call) ++ drop (span (made_sections (call_of call) (parameters J))) O) (zeroed (span (made_sections (call_of call) (parameters J))) O)) answer-made
 
   -- and where it is refused
   module _ (k : Proved) (r : Refusal) (told : k ≡ E.Refused r) (e : of_proved k ≡ work J R W (call_of call))

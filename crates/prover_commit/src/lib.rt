@@ -1,4 +1,6 @@
 // t and g into the scratch, with the refusals 13 to 15; what the prover's steps stand on and leave there.
+#![tactic(auto)]
+
 ghost use Rattle.std.specs.Prelude.{◌≡◌, ◌≤◌};
 ghost use Rattle.spec_leaves.specs.Answer.{of_proved, ◌then◌};
 ghost use Rattle.spec_protocol.specs.Parameters.{parameters};

@@ -1,4 +1,6 @@
 // What the prover works out into the scratch, with the refusals 13 to 16: b'', h and the challenges after t and g.
+#![tactic(auto)]
+
 pub mod phi_and_b;
 
 ghost use Rattle.std.specs.Prelude.{◌≡◌};

@@ -1,4 +1,6 @@
 // p and b'' in the lent output, each after its count. Each function writes from a place on and answers the place after it.
+#![tactic(auto)]
+
 ghost use Rattle.std.specs.Prelude.{[], ◌∷◌};
 ghost use Rattle.relation_env_params.specs.Parameters.{parameters_of};
 ghost use Rattle.prover_commit.specs.Work.{Placed};

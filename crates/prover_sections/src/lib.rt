@@ -1,4 +1,6 @@
 // The transcript's sections in the lent output, each after its count. Each function writes from a place on and answers the place after it.
+#![tactic(auto)]
+
 ghost use Rattle.std.specs.Prelude.{◌≡◌, [], ◌∷◌, ◌≤◌, length};
 ghost use Rattle.math.specs.lists.Part.{splice};
 ghost use Rattle.spec_protocol.specs.Parameters.{parameters};

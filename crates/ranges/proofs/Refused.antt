@@ -8,7 +8,7 @@ use lib.IntN.{ℤ}
 use lib.ListN.{replicate}
 use Rattle.math.specs.lists.Table.{padded}
 use Rattle.spec_leaves.specs.declared.answers.Refusal.{Refusal}
-use Rattle.spec_leaves.specs.Answer.{Answer, fine, refused, number, place, result, of_refusal}
+use Rattle.spec_leaves.specs.Answer.{Answer, fine, refused, number, place, result_of, of_refusal}
 use Rattle.spec_protocol.specs.Parameters.{Parameters}
 use Rattle.spec_protocol.specs.Ranges.{unused, length_refusal}
 use Rattle.spec_protocol.proofs.Fine.{require-holds, require_fails, refused_not-fine}
@@ -30,7 +30,7 @@ module _ (need handed : ℕ) where
 
 -- a refusal of document 01's list is not fine
 never_fine : (r : Refusal) → of_refusal r ≡ fine → ⊥
-never_fine r e = let n : ◌≡◌ {A = ℕ} 0 1 = refusal_none r 1 0 ∙ ap (λ a. result a 1 0) e in omega arith
+never_fine r e = let n : ◌≡◌ {A = ℕ} 0 1 = refusal_none r 1 0 ∙ ap (λ a. result_of a 1 0) e in omega arith
 
 module _ (P : Parameters) (lows highs : List ℤ) (a : Answer) (x : RangesAnswer) where
   -- a refusal of document 01's list

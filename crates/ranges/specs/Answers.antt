@@ -1,7 +1,7 @@
 -- The struct of the call on ranges as an answer, and what its tests stand for (document 02, Item 14).
 use Rattle.std.specs.Prelude.{◌≡◌, List, ℕ, ℤ, length, replicate}
 use Rattle.math.specs.lists.Table.{padded}
-use Rattle.spec_leaves.specs.Answer.{Answer, fine, refused, number, place, result, of_refusal, ◌then◌}
+use Rattle.spec_leaves.specs.Answer.{Answer, fine, refused, number, place, result_of, of_refusal, ◌then◌}
 use Rattle.spec_protocol.specs.Parameters.{Parameters, parameters}
 use Rattle.spec_protocol.specs.Ranges.{Answered, unused, AllHold, length_refusal, beyond_refusal, crossed_refusal, pairs_refusal, ranges_refusal}
 use Rattle.ranges_vectors.specs.Vectors.{range_norms}
@@ -33,7 +33,7 @@ abbrev pub ranges_answer : Answer → (r : ℕ) → (ℕ → Answered) → Range
 ranges_answer a r vectors = record {
   number = number a;
   place = place a;
-  vectors = result a (padded 16 r (range_norms unused) (λ i. range_norms (vectors i))) (replicate 16 (range_norms unused));
+  vectors = result_of a (padded 16 r (range_norms unused) (λ i. range_norms (vectors i))) (replicate 16 (range_norms unused));
 }
 
 -- what the call answers: a refusal, or of each vector what holds of its choices

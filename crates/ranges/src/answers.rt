@@ -9,7 +9,7 @@ use spec_leaves::answers::Refusal;
 
 // A refusal's number and place with sixteen unused answers, or 0 and 0 with those of the r witness vectors.
 #[repr(C)]
-#[derive(Drop)]
+#[derive(Clone, Copy)]
 pub struct RangesAnswer {
     pub number: u32,
     pub place: u64,
@@ -17,7 +17,7 @@ pub struct RangesAnswer {
 }
 
 // What is found of the lows and the highs.
-#[derive(Drop)]
+#[derive(Clone, Copy)]
 pub enum RangesChecked {
     Fine,
     Refused(Refusal),

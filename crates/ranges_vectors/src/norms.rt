@@ -10,7 +10,7 @@ use ring_zq::norm;
 use spec_leaves::answers::U128;
 
 // The smallest and the largest norm.
-#[derive(Drop)]
+#[derive(Clone, Copy)]
 pub struct Norms {
     pub least: U128,
     pub greatest: U128,

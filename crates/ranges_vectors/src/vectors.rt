@@ -12,7 +12,7 @@ use spec_leaves::answers::U128;
 
 // meets is 0 unused, 1 for every choice, 2 for some but not every, 3 for none. A norm is hi · 2^64 + lo.
 #[repr(C)]
-#[derive(Drop)]
+#[derive(Clone, Copy)]
 pub struct RangeNorms {
     pub meets: u32,
     pub least_hi: u64,

@@ -8,7 +8,7 @@ use ring_zq::wide::wide;
 use spec_leaves::answers::U128;
 
 // The Rust's record, less what neither prover nor verifier reads (b_1, b_2 and the gammas), with the norm bounds of A, B, C and D.
-#[derive(Drop)]
+#[derive(Clone, Copy)]
 pub struct EnvironmentParameters {
     // n, the size of each witness vector
     pub rank: usize,

@@ -1,5 +1,7 @@
 // The left side of one constraint (`calculate_b_constraint` of relation/statement.rs): Σ a_ij·⟨s_i, s_j⟩ + Σ ⟨φ_i, s_i⟩, of a triangle a and r vectors
 // φ_i and s_i of n elements.
+#![tactic(auto)]
+
 ghost use Rattle.std.specs.Prelude.{◌≡◌, ◌+◌, ◌*◌, ◌≤◌, ◌<◌, length};
 ghost use Rattle.math.specs.algebra.Ops.{form};
 ghost use Rattle.spec_leaves.specs.Ring.{RqOps, words};

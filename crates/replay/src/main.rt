@@ -1,5 +1,7 @@
 // Replays the published Rust's recorded answers on the leaf calls and on the calls on whole slices.
 // It prints how many of each kind are the same, and a `differs` line for each that is not.
+#![tactic(auto)]
+
 mod answers;
 mod calls;
 mod elements;

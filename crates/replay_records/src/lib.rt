@@ -1,4 +1,6 @@
 // Recorded answers: records, the slices in them, and the report of what differs.
+#![tactic(auto)]
+
 pub mod counts;
 pub mod marks;
 mod names;

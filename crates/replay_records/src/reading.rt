@@ -2,7 +2,7 @@
 use crate::words;
 
 // A record's kind and how many bytes its body has, or that no whole record follows.
-#[derive(Drop)]
+#[derive(Clone, Copy)]
 pub enum Next {
     Record(u32, usize),
     Nothing,

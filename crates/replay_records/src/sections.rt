@@ -6,7 +6,7 @@ use layout_section_reader::Read;
 pub const VERIFY: u32 = 6;
 
 // The position behind sections, or that there are fewer.
-#[derive(Drop)]
+#[derive(Clone, Copy)]
 enum Found {
     At(usize),
     Fewer,

@@ -34,7 +34,7 @@ pub fn elements_norm(from: &[u32], at: usize, count: usize) -> U128
 }
 
 // The squared norm of the digits of cells, and how many of the cells have a coefficient with something left (document 02, Item 5).
-#[derive(Drop)]
+#[derive(Clone, Copy)]
 pub struct DigitsNorm {
     pub norm: U128,
     pub cells_left: usize,

@@ -8,7 +8,7 @@ use ring_rq_product::product;
 use spec_leaves::modulus;
 
 // Four sums.
-#[derive(Drop)]
+#[derive(Clone, Copy)]
 pub struct Sums {
     pub a: u64,
     pub b: u64,

@@ -1,5 +1,7 @@
 // Inner products and linear combinations of elements in lent slices (core/inner_product.rs), one call per scalar kind. A run of elements is given
 // by its slice, the place of its first element and the step from one to the next, in words.
+#![tactic(auto)]
+
 ghost use Rattle.std.specs.Prelude.{◌≡◌, ◌+◌, ◌≤◌, length, get_or};
 ghost use Rattle.math.specs.algebra.Ops.{sum, dot};
 ghost use Rattle.spec_leaves.specs.Ring.{RqOps, words, scale};
@@ -9,7 +11,7 @@ use ring_rq::rq::Rq;
 use ring_rq_product::sums;
 
 // A run of elements in a slice: the place of the first, the step from one to the next, both in words, and how many there are.
-#[derive(Drop)]
+#[derive(Clone, Copy)]
 pub struct Strided {
     pub at: usize,
     pub step: usize,

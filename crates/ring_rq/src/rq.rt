@@ -14,7 +14,7 @@ use spec_leaves::answers::U128;
 use spec_leaves::modulus;
 
 #[repr(C)]
-#[derive(Drop)]
+#[derive(Clone, Copy)]
 pub struct Rq {
     pub coeffs: [u32; 64],
 }

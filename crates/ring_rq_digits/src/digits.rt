@@ -22,7 +22,7 @@ pub fn sizes_of(a: [u32; 64]) -> [u32; 64]
 }
 
 // A row of digits, and the sizes that go on.
-#[derive(Drop)]
+#[derive(Clone, Copy)]
 pub struct Taken {
     pub row: [u32; 64],
     pub sizes: [u32; 64],

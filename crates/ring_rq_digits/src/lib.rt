@@ -1,2 +1,4 @@
 // The digits of ring elements (ring/rq.rs).
+#![tactic(auto)]
+
 pub mod digits;

@@ -1,5 +1,7 @@
 // Matrices of elements in lent slices (ring/rq_matrix.rs), and the sums over their cells that the verifier compares (verifier.rs). A triangle is
 // the lower half of a symmetric matrix: row i, columns 0 to i, rows rising.
+#![tactic(auto)]
+
 pub mod triangles;
 
 ghost use Rattle.std.specs.Prelude.{◌≡◌, ◌+◌, ◌*◌, ◌≤◌, ◌<◌, ◌^◌, length};

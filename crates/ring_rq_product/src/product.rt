@@ -50,7 +50,7 @@ pub fn reverse(b: [u32; 64]) -> [u64; 64]
 }
 
 // A sum of products modulo 2^64, and the sum of their upper halves.
-#[derive(Drop)]
+#[derive(Clone, Copy)]
 pub struct Halves {
     pub sum: u64,
     pub upper: u64,
@@ -91,7 +91,7 @@ pub fn dot(x: &[u64], y: &[u64], at: usize) -> u64
 }
 
 // Four sums.
-#[derive(Drop)]
+#[derive(Clone, Copy)]
 pub struct Sums {
     pub a: u64,
     pub b: u64,

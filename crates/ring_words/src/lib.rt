@@ -1,4 +1,6 @@
 // Elements and runs of words in lent slices. A slice is passed whole, with the place of what is read or written.
+#![tactic(auto)]
+
 ghost use Rattle.std.specs.Prelude.{◌≡◌, ◌∷◌, ◌+◌, ◌≤◌, ◌<◌, ◌^◌, length, replicate};
 ghost use Rattle.math.specs.lists.Part.{part, splice};
 

@@ -7,7 +7,7 @@ use spec_leaves::modulus;
 use spec_leaves::modulus::LACK;
 
 // A word; canonical below Q. No operation asks for a canonical word, and each gives one.
-#[derive(Drop)]
+#[derive(Clone, Copy)]
 pub struct Zq(pub u32);
 
 // 2^32.

@@ -1,4 +1,6 @@
 // Prints the sections of two files of little-endian words: each one's number, place and count, and where the words end.
+#![tactic(auto)]
+
 ghost use Rattle.std.specs.Prelude.{◌<◌};
 
 use layout_section_reader::Read;

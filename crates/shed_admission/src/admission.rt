@@ -13,7 +13,7 @@ use relation_env_params::env_params::EnvironmentParameters;
 use spec_leaves::answers::Refusal;
 
 // A refusal of document 01's list, 34 with the run's first index, or the parameters of a call that is refused nothing.
-#[derive(Drop)]
+#[derive(Clone, Copy)]
 pub enum RunAdmitted {
     Refused(Refusal),
     Outside(usize),

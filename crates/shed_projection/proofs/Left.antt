@@ -7,7 +7,7 @@ use lib.ListN.{length}
 use Rattle.math.specs.lists.Table.{table}
 use Rattle.math.proofs.lists.Table.{table_ext}
 use Rattle.spec_leaves.specs.declared.answers.Refusal.{Refusal}
-use Rattle.spec_leaves.specs.Answer.{Answer, fine, refused, result, of_refusal}
+use Rattle.spec_leaves.specs.Answer.{Answer, fine, refused, result_of, of_refusal}
 use Rattle.spec_protocol.specs.Parameters.{parameters}
 use Rattle.spec_protocol.specs.Layout.{span, start, scratch_need}
 use Rattle.spec_protocol.specs.Prover.{zeroed}
@@ -36,21 +36,21 @@ module _ (J : List ℕ) (x : Run) (Π S scratch output : List ℕ) where
   module _ (r : Refusal) (e : of_refusal r ≡ answer) where
     pub refused-output : output ≡ project_output J x Π S scratch output
     unfolding project_output
-    refused-output = refusal_none r made output ∙ ap (λ a. result a made output) e
+    refused-output = refusal_none r made output ∙ ap (λ a. result_of a made output) e
 
     pub refused-scratch : scratch ≡ project_scratch J x Π S scratch output
     unfolding project_scratch
-    refused-scratch = refusal_none r cleared scratch ∙ ap (λ a. result a cleared scratch) e
+    refused-scratch = refusal_none r cleared scratch ∙ ap (λ a. result_of a cleared scratch) e
 
   -- and so does 34
   module _ (place : ℕ) (e : refused 34 place ≡ answer) where
     pub outside_output : output ≡ project_output J x Π S scratch output
     unfolding project_output
-    outside_output = ap (λ a. result a made output) e
+    outside_output = ap (λ a. result_of a made output) e
 
     pub outside_scratch : scratch ≡ project_scratch J x Π S scratch output
     unfolding project_scratch
-    outside_scratch = ap (λ a. result a cleared scratch) e
+    outside_scratch = ap (λ a. result_of a cleared scratch) e
 
   -- what the work needs of a call that is refused nothing, and what it leaves
   module _ (params : EnvironmentParameters) (h : Projectable J x Π S (length scratch) (length output) params) where
@@ -90,11 +90,11 @@ module _ (J : List ℕ) (x : Run) (Π S scratch output : List ℕ) where
           f
           ∙ ap (λ n. stored p_section (Jl.run Π 1 S 1 n 0 (size x)) output) n
           ∙ ap (λ ws. stored p_section ws output) (table_ext 256 (Jl.run_row Π 1 S 1 (parameters J).n 0 (size x)) (run_p J x Π S) (λ j l. run_of_first J Π S (size x) j))
-          ∙ ap (λ a. result a made output) e
+          ∙ ap (λ a. result_of a made output) e
 
       pub worked-scratch : (exit : List ℕ) → exit ≡ zeroed (scratch_need (parameters_of params)) scratch → exit ≡ project_scratch J x Π S scratch output
       unfolding project_scratch
-      worked-scratch exit f = f ∙ ap (λ Q. zeroed (scratch_need Q) scratch) same ∙ ap (λ a. result a cleared scratch) e
+      worked-scratch exit f = f ∙ ap (λ Q. zeroed (scratch_need Q) scratch) same ∙ ap (λ a. result_of a cleared scratch) e
 
 -- an answer of no refusal
 pub made-answer : (r : LabradorAnswer) → r.number ≡ 0 → r.place ≡ 0 → r ≡ labrador_answer fine

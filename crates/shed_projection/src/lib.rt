@@ -1,4 +1,6 @@
 // The call that gives the p of a run of witness vectors (document 02, Item 10), for every input.
+#![tactic(auto)]
+
 ghost use Rattle.std.specs.Prelude.{◌≡◌, ◌≤◌, length};
 ghost use Rattle.spec_protocol.specs.Layout.{scratch_need};
 ghost use Rattle.spec_protocol.specs.Prover.{zeroed};

@@ -8,7 +8,7 @@ use lib.ListN.{length, set, replicate}
 use Rattle.math.specs.lists.Part.{splice}
 use Rattle.math.specs.lists.Table.{table}
 use Rattle.spec_leaves.specs.declared.answers.Refusal.{Refusal}
-use Rattle.spec_leaves.specs.Answer.{Answer, fine, accepted, refused, failed, number, place, result, of_refusal, value128, ◌then◌}
+use Rattle.spec_leaves.specs.Answer.{Answer, fine, accepted, refused, failed, number, place, result_of, of_refusal, value128, ◌then◌}
 use Rattle.spec_protocol.specs.Checks.{require, first}
 use Rattle.spec_protocol.specs.Parameters.{Parameters, parameters}
 use Rattle.spec_protocol.specs.Layout.{canonical, span, start, job_sections}
@@ -33,7 +33,7 @@ use Rattle.shed_admission.proofs.Order.{run-sized, few}
 
 -- an answer whose place is counted from further back
 moved : ℕ → Answer → Answer
-moved k a = result a a (refused (number a) (k + place a))
+moved k a = result_of a a (refused (number a) (k + place a))
 
 -- of the first of two answers that is not fine
 moved_then : (k : ℕ) (a b : Answer) → moved k (a then b) ≡ moved k a then moved k b
@@ -155,8 +155,8 @@ module _ (J : List ℕ) (x : Run) (S O : List ℕ) (params : EnvironmentParamete
     made-output O' f =
         let made = rows_section (parameters J) x in
         f
-        ∙ ap (λ a. result (moved x.first a) (stored made (run_rows J x S) O) (zeroed (span made) O)) e
-        ∙ ap (λ a. result a (stored made (run_rows J x S) O) (zeroed (span made) O)) (sym norm_is)
+        ∙ ap (λ a. result_of (moved x.first a) (stored made (run_rows J x S) O) (zeroed (span made) O)) e
+        ∙ ap (λ a. result_of a (stored made (run_rows J x S) O) (zeroed (span made) O)) (sym norm_is)
 
   -- where one is
   module _ (r : Refusal) (e : of_refusal r ≡ tests) where
@@ -173,4 +173,4 @@ module _ (J : List ℕ) (x : Run) (S O : List ℕ) (params : EnvironmentParamete
         let made = rows_section (parameters J) x in
         zeros_put (1 + 64 * (size x * params.kappa)) O O' rows-room f
         ∙ ap (λ n. zeroed n O) need_is
-        ∙ ap (λ a. result a (stored made (run_rows J x S) O) (zeroed (span made) O)) (sym norm-refused)
+        ∙ ap (λ a. result_of a (stored made (run_rows J x S) O) (zeroed (span made) O)) (sym norm-refused)

@@ -4,7 +4,7 @@ use mathlib.Core.List.{List}
 use Prim.Native.Nat.{ℕ, ◌≤◌}
 use lib.ListN.{length}
 use Rattle.spec_leaves.specs.declared.answers.Refusal.{Refusal}
-use Rattle.spec_leaves.specs.Answer.{Answer, fine, refused, result, of_refusal, ◌then◌}
+use Rattle.spec_leaves.specs.Answer.{Answer, fine, refused, result_of, of_refusal, ◌then◌}
 use Rattle.spec_protocol.specs.Parameters.{parameters}
 use Rattle.spec_protocol.specs.Layout.{scratch_need}
 use Rattle.spec_protocol.specs.Prover.{zeroed}
@@ -31,11 +31,11 @@ module _ (J : List ℕ) (x : Run) (S scratch output : List ℕ) where
 
     pub refused-output : output ≡ rows_output J x S scratch output
     unfolding rows_output
-    refused-output = refusal_none r (rows_made J x S output) output ∙ ap (λ a. result a (rows_made J x S output) output) e
+    refused-output = refusal_none r (rows_made J x S output) output ∙ ap (λ a. result_of a (rows_made J x S output) output) e
 
     pub refused-scratch : scratch ≡ rows_scratch J x S scratch output
     unfolding rows_scratch
-    refused-scratch = refusal_none r cleared scratch ∙ ap (λ a. result a cleared scratch) e
+    refused-scratch = refusal_none r cleared scratch ∙ ap (λ a. result_of a cleared scratch) e
 
   -- and so does 34
   module _ (place : ℕ) (e : refused 34 place ≡ answer) where
@@ -45,11 +45,11 @@ module _ (J : List ℕ) (x : Run) (S scratch output : List ℕ) where
 
     pub outside_output : output ≡ rows_output J x S scratch output
     unfolding rows_output
-    outside_output = ap (λ a. result a (rows_made J x S output) output) e
+    outside_output = ap (λ a. result_of a (rows_made J x S output) output) e
 
     pub outside_scratch : scratch ≡ rows_scratch J x S scratch output
     unfolding rows_scratch
-    outside_scratch = ap (λ a. result a cleared scratch) e
+    outside_scratch = ap (λ a. result_of a cleared scratch) e
 
   -- a call that is not refused before its work
   module _ (e : fine ≡ answer) where
@@ -59,7 +59,7 @@ module _ (J : List ℕ) (x : Run) (S scratch output : List ℕ) where
 
     pub worked-output : rows_made J x S output ≡ rows_output J x S scratch output
     unfolding rows_output
-    worked-output = ap (λ a. result a (rows_made J x S output) output) e
+    worked-output = ap (λ a. result_of a (rows_made J x S output) output) e
 
     module _ (params : EnvironmentParameters) (h : Runnable J x S (length scratch) (rows_section (parameters J) x) (length output) params) where
       pub scratch_fits : scratch_need (parameters_of params) ≤ length scratch
@@ -67,4 +67,4 @@ module _ (J : List ℕ) (x : Run) (S scratch output : List ℕ) where
 
       pub worked-scratch : (exit : List ℕ) → exit ≡ zeroed (scratch_need (parameters_of params)) scratch → exit ≡ rows_scratch J x S scratch output
       unfolding rows_scratch
-      worked-scratch exit f = f ∙ ap (λ Q. zeroed (scratch_need Q) scratch) h.given.in_job.same ∙ ap (λ a. result a cleared scratch) e
+      worked-scratch exit f = f ∙ ap (λ Q. zeroed (scratch_need Q) scratch) h.given.in_job.same ∙ ap (λ a. result_of a cleared scratch) e

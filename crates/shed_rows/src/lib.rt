@@ -1,4 +1,6 @@
 // The call that gives the rows of t of a run of witness vectors (document 02, Item 10), for every input.
+#![tactic(auto)]
+
 ghost use Rattle.std.specs.Prelude.{◌≡◌, ◌+◌, ◌*◌, length};
 ghost use Rattle.spec_protocol.specs.Parameters.{parameters};
 ghost use Rattle.api_answers.specs.Calls.{labrador_answer};

@@ -6,7 +6,7 @@ use native.Mathlib.Decide.{dec_le}
 use native.Mathlib.Omega.{arith}
 use lib.ListN.{length}
 use Rattle.spec_leaves.specs.declared.answers.Refusal.{Refusal}
-use Rattle.spec_leaves.specs.Answer.{Answer, fine, refused, result, of_refusal, ◌then◌}
+use Rattle.spec_leaves.specs.Answer.{Answer, fine, refused, result_of, of_refusal, ◌then◌}
 use Rattle.spec_protocol.specs.Layout.{span, layout, ranged, output_refusal}
 use Rattle.spec_protocol.proofs.Fine.{required, refused_not-fine, then_fine_left, then_fine_right}
 use Rattle.spec_protocol.proofs.Laid.{layout-whole}
@@ -49,8 +49,8 @@ lengths p q output e =
 module _ (p q output : List ℕ) where
   pub refused-output : (r : Refusal) → of_refusal r ≡ add_refusal p q (length output) → output ≡ add_output p q output
   unfolding add_output
-  refused-output r e = refusal_none r (stored p_section (p_sum p q) output) output ∙ ap (λ a. result a (stored p_section (p_sum p q) output) output) e
+  refused-output r e = refusal_none r (stored p_section (p_sum p q) output) output ∙ ap (λ a. result_of a (stored p_section (p_sum p q) output) output) e
 
   pub made-output : fine ≡ add_refusal p q (length output) → stored p_section (p_sum p q) output ≡ add_output p q output
   unfolding add_output
-  made-output e = ap (λ a. result a (stored p_section (p_sum p q) output) output) e
+  made-output e = ap (λ a. result_of a (stored p_section (p_sum p q) output) output) e

@@ -1,4 +1,6 @@
 // The call that adds two p (document 02, Item 10), for every input.
+#![tactic(auto)]
+
 ghost use Rattle.std.specs.Prelude.{◌≡◌, ◌≤◌, length};
 ghost use Rattle.admission_slices.specs.Admission.{of_slice_checked};
 ghost use Rattle.spec_sheds.specs.Runs.{p_section, stored, p_sum, add_refusal};

@@ -37,15 +37,15 @@ place (refused n p) = p
 place (failed n vs) = 0
 
 -- "On a refusal the result part is zero."; an acceptance has none
-abbrev pub result {ℓ} : {A : Type ℓ} → Answer → A → A → A
-result fine value none = value
-result (accepted cells) value none = none
-result (refused n p) value none = none
-result (failed n vs) value none = none
+abbrev pub result_of {ℓ} : {A : Type ℓ} → Answer → A → A → A
+result_of fine value none = value
+result_of (accepted cells) value none = none
+result_of (refused n p) value none = none
+result_of (failed n vs) value none = none
 
 -- whether all is well
 abbrev pub is_fine : Answer → Bool
-is_fine a = result a true false
+is_fine a = result_of a true false
 
 infixl 20 ◌then◌
 -- the first of two answers that is not fine

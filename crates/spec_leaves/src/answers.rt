@@ -1,14 +1,14 @@
 // The answers of the engine's calls. `Answer` in specs/ gives each case document 01's number and its values.
 
 // Rust's u128 of a norm or a limit: hi · 2^64 + lo.
-#[derive(Drop)]
+#[derive(Clone, Copy)]
 pub struct U128 {
     pub hi: u64,
     pub lo: u64,
 }
 
 // Why a call refuses its input. The number held is the place.
-#[derive(Drop)]
+#[derive(Clone, Copy)]
 pub enum Refusal {
     ScratchTooShort(usize),
     OutputTooShort(usize),
@@ -29,7 +29,7 @@ pub enum Refusal {
 }
 
 // The verifier's check that fails first.
-#[derive(Drop)]
+#[derive(Clone, Copy)]
 pub enum FailedCheck {
     ProjectionNorm {
         norm: U128,
@@ -53,7 +53,7 @@ pub enum FailedCheck {
 }
 
 // What a check of the verifier finds, and several in order.
-#[derive(Drop)]
+#[derive(Clone, Copy)]
 pub enum Checked {
     Passed,
     Refused(Refusal),
@@ -61,7 +61,7 @@ pub enum Checked {
 }
 
 // What the verifier answers. An acceptance holds the number of cells of t, g and h with a coefficient that has something left after its digits.
-#[derive(Drop)]
+#[derive(Clone, Copy)]
 pub enum Verdict {
     Accepted(usize),
     Refused(Refusal),
@@ -69,21 +69,21 @@ pub enum Verdict {
 }
 
 // What the digit rule gives of a number: its digits in 32 places, and the size left over.
-#[derive(Drop)]
+#[derive(Clone, Copy)]
 pub struct Decomposed {
     pub digits: [u32; 32],
     pub left: u32,
 }
 
 // What the prover and its rounds answer.
-#[derive(Drop)]
+#[derive(Clone, Copy)]
 pub enum Proved {
     Made,
     Refused(Refusal),
 }
 
 // What a leaf call finds of its operands. The number held is the place among them.
-#[derive(Drop)]
+#[derive(Clone, Copy)]
 pub enum Operands {
     Fit,
     ParameterOutOfLimits(u32),

@@ -5,7 +5,7 @@ use Prim.Native.Nat.{ℕ, ◌≤◌}
 use native.Mathlib.Decide.{dec_le}
 use lib.ListN.{length, take, drop}
 use lib.Seq.{take_at}
-use Rattle.spec_leaves.specs.Answer.{fine, refused, result}
+use Rattle.spec_leaves.specs.Answer.{fine, refused, result_of}
 use Rattle.spec_leaves.specs.Rq.{Element}
 use Rattle.spec_protocol.specs.Parameters.{parameters}
 use Rattle.spec_protocol.specs.Layout.{span, sections, job_refusal, randomness_refusal, witness_refusal, transcript_refusal, scratch_refusal, output_refusal, scratch_need}
@@ -82,8 +82,8 @@ module _ (call : Call) (J R W scratch output : List ℕ) (e : prove call J R W (
       let X = public J R in
       let s = witness (parameters J) W in
       let need = span (made_sections call (parameters J)) in
-      ap (λ a. result a (result (work_refusal X call s) (made X call s ++ drop need output) (zeroed need output)) output) before-work
-      ∙ ap (λ a. result a (made X call s ++ drop need output) (zeroed need output)) in_work
+      ap (λ a. result_of a (result_of (work_refusal X call s) (made X call s ++ drop need output) (zeroed need output)) output) before-work
+      ∙ ap (λ a. result_of a (made X call s ++ drop need output) (zeroed need output)) in_work
 
   -- the output's needed part is what the call makes
   pub output-made : take (span (made_sections call (parameters J))) (prove_output call J R W scratch output) ≡ made (public J R) call (witness (parameters J) W)

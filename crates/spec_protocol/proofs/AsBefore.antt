@@ -7,7 +7,7 @@ use borrow.Author.Tests.{ltb-false}
 use lib.Dec.{ltb}
 use lib.ListN.{length, drop}
 use Rattle.spec_leaves.specs.Zq.{top_Q}
-use Rattle.spec_leaves.specs.Answer.{Answer, fine, refused, result, ◌then◌}
+use Rattle.spec_leaves.specs.Answer.{Answer, fine, refused, result_of, ◌then◌}
 use Rattle.spec_leaves.specs.Leaf.{limited}
 use Rattle.spec_protocol.specs.Parameters.{Parameters, parameters, limits, enough_aggregations}
 use Rattle.spec_protocol.specs.Layout.{span, counted, layout, ranged, first_section, job_sections, job_refusal}
@@ -46,13 +46,13 @@ prove_output-before call J R W scratch output =
     let X = public J R in
     let s = witness (parameters J) W in
     let need = span (made_sections call (parameters J)) in
-    result (prove_refusal-before call J R W (length scratch) (length output))
-    (result (work_refusal X call s) (made X call s ++ drop need output) (zeroed need output))
+    result_of (prove_refusal-before call J R W (length scratch) (length output))
+    (result_of (work_refusal X call s) (made X call s ++ drop need output) (zeroed need output))
     output
 
 abbrev pub prove_scratch-before : Call → (J R W scratch output : List ℕ) → List ℕ
 prove_scratch-before call J R W scratch output =
-    result (prove_refusal-before call J R W (length scratch) (length output)) (zeroed (scratch_need (parameters J)) scratch) scratch
+    result_of (prove_refusal-before call J R W (length scratch) (length output)) (zeroed (scratch_need (parameters J)) scratch) scratch
 
 -- the verifier by those
 abbrev pub verify_refusal-before : (J R T : List ℕ) → (scratch : ℕ) → Answer
@@ -64,7 +64,7 @@ abbrev pub verify-before : (J R T : List ℕ) → (scratch : ℕ) → Answer
 verify-before J R T scratch = verify_refusal-before J R T scratch then checks (public J R) (message (parameters J) T)
 
 abbrev pub verify_scratch-before : (J R T scratch : List ℕ) → List ℕ
-verify_scratch-before J R T scratch = result (verify_refusal-before J R T (length scratch)) (zeroed (scratch_need (parameters J)) scratch) scratch
+verify_scratch-before J R T scratch = result_of (verify_refusal-before J R T (length scratch)) (zeroed (scratch_need (parameters J)) scratch) scratch
 
 -- a job's refusal, and with any other slices the answers and the buffers at exit, are as before
 pub record AsBefore (J : List ℕ) : Type 0 where
@@ -97,12 +97,12 @@ module _ (J : List ℕ) (same : job_refusal J ≡ job_refusal-before J) where
     output = λ call R W scratch output.
         let s = witness (parameters J) W in
         let need = span (made_sections call (parameters J)) in
-        ap (λ a. result a (result (work_refusal (public J R) call s) (made (public J R) call s ++ drop need output) (zeroed need output)) output)
+        ap (λ a. result_of a (result_of (work_refusal (public J R) call s) (made (public J R) call s ++ drop need output) (zeroed need output)) output)
         (prover_refusal call R W (length scratch) (length output));
     scratch = λ call R W scratch output.
-        ap (λ a. result a (zeroed (scratch_need (parameters J)) scratch) scratch) (prover_refusal call R W (length scratch) (length output));
+        ap (λ a. result_of a (zeroed (scratch_need (parameters J)) scratch) scratch) (prover_refusal call R W (length scratch) (length output));
     verdict = λ R T scratch. ap (λ a. a then checks (public J R) (message (parameters J) T)) (verifier_refusal R T scratch);
-    verifier_scratch = λ R T scratch. ap (λ a. result a (zeroed (scratch_need (parameters J)) scratch) scratch) (verifier_refusal R T (length scratch));
+    verifier_scratch = λ R T scratch. ap (λ a. result_of a (zeroed (scratch_need (parameters J)) scratch) scratch) (verifier_refusal R T (length scratch));
   }
 
 -- where both kinds of constraints are there

@@ -6,7 +6,7 @@ use native.Mathlib.Decide.{dec_le}
 use native.Mathlib.Omega.{arith}
 use lib.ListN.{length, take, drop, replicate, length-append, length-drop, length-replicate}
 use lib.Seq.{take_at, drop_at}
-use Rattle.spec_leaves.specs.Answer.{Answer, fine, accepted, refused, failed, result, ◌then◌}
+use Rattle.spec_leaves.specs.Answer.{Answer, fine, accepted, refused, failed, result_of, ◌then◌}
 use Rattle.spec_protocol.specs.Parameters.{parameters}
 use Rattle.spec_protocol.specs.Layout.{span, job_refusal, randomness_refusal, transcript_refusal, scratch_refusal, scratch_need}
 use Rattle.spec_protocol.specs.Views.{public, witness}
@@ -28,14 +28,14 @@ unchanged_written need new buffer e h = record {
 }
 
 -- a value that depends on whether an answer is fine
-result_cases {ℓ} : {A : Type ℓ} (C : A → Type 0) (a : Answer) (value none : A) → (a ≡ fine → C value) → ((a ≡ fine → ⊥) → C none) → C (result a value none)
+result_cases {ℓ} : {A : Type ℓ} (C : A → Type 0) (a : Answer) (value none : A) → (a ≡ fine → C value) → ((a ≡ fine → ⊥) → C none) → C (result_of a value none)
 result_cases C fine value none f g = f refl
 result_cases C (accepted cells) value none f g = g (accepted_not-fine cells)
 result_cases C (refused n p) value none f g = g (refused_not-fine n p)
 result_cases C (failed n vs) value none f g = g (failed_not-fine n vs)
 
 -- a value for answers that are not fine
-result-none {ℓ} : {A : Type ℓ} (a : Answer) (value none : A) → (a ≡ fine → ⊥) → result a value none ≡ none
+result-none {ℓ} : {A : Type ℓ} (a : Answer) (value none : A) → (a ≡ fine → ⊥) → result_of a value none ≡ none
 result-none fine value none h = absurd (h refl)
 result-none (accepted cells) value none h = refl
 result-none (refused n p) value none h = refl
@@ -48,15 +48,15 @@ take-zeroed need buffer = take_at (replicate need 0) (drop need buffer) need (le
 -- a buffer that is zeroed where an answer is fine, else left
 module _ (a : Answer) (need : ℕ) (buffer : List ℕ) where
   -- its length and the words beyond the need stay
-  zeroed_unchanged : (a ≡ fine → need ≤ length buffer) → Unchanged need buffer (result a (zeroed need buffer) buffer)
+  zeroed_unchanged : (a ≡ fine → need ≤ length buffer) → Unchanged need buffer (result_of a (zeroed need buffer) buffer)
   zeroed_unchanged fits =
       result_cases (Unchanged need buffer) a (zeroed need buffer) buffer
       (λ e. unchanged_written need (replicate need 0) buffer (length-replicate need 0) (fits e))
       (λ bad. unchanged_refl need buffer)
 
   -- its needed part is zero where the answer is fine
-  zeroed-fine : a ≡ fine → take need (result a (zeroed need buffer) buffer) ≡ replicate need 0
-  zeroed-fine e = ap (λ x. take need (result x (zeroed need buffer) buffer)) e ∙ take-zeroed need buffer
+  zeroed-fine : a ≡ fine → take need (result_of a (zeroed need buffer) buffer) ≡ replicate need 0
+  zeroed-fine e = ap (λ x. take need (result_of x (zeroed need buffer) buffer)) e ∙ take-zeroed need buffer
 
 module _ (call : Call) (J R W scratch output : List ℕ) where
   -- "Words beyond never change.": the output
@@ -67,7 +67,7 @@ module _ (call : Call) (J R W scratch output : List ℕ) where
       let s = witness (parameters J) W in
       let need = span (made_sections call (parameters J)) in
       let refusal = prove_refusal call J R W (length scratch) (length output) in
-      let worked = result (work_refusal X call s) (made X call s ++ drop need output) (zeroed need output) in
+      let worked = result_of (work_refusal X call s) (made X call s ++ drop need output) (zeroed need output) in
       result_cases (Unchanged need output) refusal worked output
       (λ e.
       let fits = (admitted call J R W (length scratch) (length output) e).output_fits in
@@ -90,7 +90,7 @@ module _ (call : Call) (J R W scratch output : List ℕ) where
       let X = public J R in
       let s = witness (parameters J) W in
       let need = span (made_sections call (parameters J)) in
-      result-none (prove_refusal call J R W (length scratch) (length output)) (result (work_refusal X call s) (made X call s ++ drop need output) (zeroed need output)) output bad
+      result-none (prove_refusal call J R W (length scratch) (length output)) (result_of (work_refusal X call s) (made X call s ++ drop need output) (zeroed need output)) output bad
 
   -- the scratch
   pub scratch_left : (prove_refusal call J R W (length scratch) (length output) ≡ fine → ⊥) → prove_scratch call J R W scratch output ≡ scratch
@@ -111,7 +111,7 @@ module _ (call : Call) (J R W scratch output : List ℕ) where
         let X = public J R in
         let s = witness (parameters J) W in
         let need = span (made_sections call (parameters J)) in
-        ap (λ a. take need (result a (result (work_refusal X call s) (made X call s ++ drop need output) (zeroed need output)) output)) e
+        ap (λ a. take need (result_of a (result_of (work_refusal X call s) (made X call s ++ drop need output) (zeroed need output)) output)) e
         ∙ ap (take need) (result-none (work_refusal X call s) (made X call s ++ drop need output) (zeroed need output) bad)
         ∙ take-zeroed need output
 

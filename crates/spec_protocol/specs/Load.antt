@@ -2,7 +2,7 @@
 use Rattle.std.specs.Prelude.{cond, List, [], ◌∷◌, ◌++◌, ℕ, zero, suc, ◌+◌, ◌*◌, ◌/◌, ◌%◌, ◌^◌, ltb, length, get_or, drop, replicate}
 use Rattle.math.specs.lists.Table.{table}
 use Rattle.spec_leaves.specs.Zq.{Q, zsub}
-use Rattle.spec_leaves.specs.Answer.{Answer, result, ◌then◌}
+use Rattle.spec_leaves.specs.Answer.{Answer, result_of, ◌then◌}
 use Rattle.spec_leaves.specs.Rq.{Element, coeff}
 use Rattle.spec_leaves.specs.Ring.{words}
 use Rattle.spec_protocol.specs.Parameters.{Parameters, parameters, limits, enough_aggregations}
@@ -167,7 +167,7 @@ load_refusal G job witness randomness =
 
 -- a buffer at exit: the words, then the words beyond; a refusal touches nothing
 abbrev pub loaded : Answer → List ℕ → List ℕ → List ℕ
-loaded answer made buffer = result answer (made ++ drop (length made) buffer) buffer
+loaded answer made buffer = result_of answer (made ++ drop (length made) buffer) buffer
 
 -- the lengths needed
 abbrev pub job_need : Given → ℕ

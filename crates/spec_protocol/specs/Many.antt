@@ -2,7 +2,7 @@
 use Rattle.std.specs.Prelude.{◌≡◌, Bool, true, cond, List, [], ◌++◌, ℕ, ◌+◌, ◌-◌, ◌*◌, ◌<◌, ltb, length, drop, replicate}
 use Rattle.std.proofs.Math.Decide.{dec_le}
 use Rattle.math.specs.lists.Table.{table}
-use Rattle.spec_leaves.specs.Answer.{Answer, refused, result, is_fine, ◌then◌}
+use Rattle.spec_leaves.specs.Answer.{Answer, refused, result_of, is_fine, ◌then◌}
 use Rattle.spec_leaves.specs.Rq.{Element}
 use Rattle.spec_protocol.specs.Checks.{require}
 use Rattle.spec_protocol.specs.Parameters.{Parameters, parameters}
@@ -57,7 +57,7 @@ part_verdict J count R T m =
 
 -- the scratch at exit: "zero to there whenever eight verdicts are given"
 unfoldable pub many_scratch : (J : List ℕ) → (count : ℕ) → (scratch : List ℕ) → List ℕ
-many_scratch J count scratch = result (many_refusal J count (length scratch)) (zeroed (many_need (parameters J) count) scratch) scratch
+many_scratch J count scratch = result_of (many_refusal J count (length scratch)) (zeroed (many_need (parameters J) count) scratch) scratch
 
 -- how many rows A, B, C and D have together
 abbrev pub row_count : Parameters → ℕ

@@ -3,7 +3,7 @@ use Rattle.std.specs.Prelude.{◌≡◌, Bool, true, cond, ℕ, ◌-◌, ◌*◌
 use mathlib.Core.List.{List, [], ◌∷◌, ◌++◌, flat_map, Memᴰ}
 use Rattle.std.proofs.Math.Decide.{dec_le}
 use Rattle.spec_leaves.specs.Zq.{Canonical, zadd, is_larger_than_half, size}
-use Rattle.spec_leaves.specs.Answer.{Answer, fine, accepted, refused, failed, result, ◌then◌}
+use Rattle.spec_leaves.specs.Answer.{Answer, fine, accepted, refused, failed, result_of, ◌then◌}
 use Rattle.spec_protocol.specs.Checks.{require}
 use Rattle.spec_protocol.specs.Parameters.{Parameters, parameters}
 use Rattle.spec_protocol.specs.Layout.{scratch_need}
@@ -118,9 +118,9 @@ written need es list = (entry_words es ++ replicate (need - length (entry_words 
 unfoldable pub mistyped_list : (J R T : List ℕ) → (scratch : ℕ) → (list : List ℕ) → List Entry → List ℕ
 mistyped_list J R T scratch list es =
     let need = list_need (parameters J) in
-    result (mistyped_refusal J R T scratch (length list)) (written need (result (judged (verdict_of J R T) es) es []) list) list
+    result_of (mistyped_refusal J R T scratch (length list)) (written need (result_of (judged (verdict_of J R T) es) es []) list) list
 
 -- the scratch at exit: "After any later answer scratch is zero to the length needed"
 unfoldable pub mistyped_scratch : (J R T scratch : List ℕ) → (list : ℕ) → List ℕ
 mistyped_scratch J R T scratch list =
-    result (mistyped_refusal J R T (length scratch) list) (zeroed (scratch_need (parameters J)) scratch) scratch
+    result_of (mistyped_refusal J R T (length scratch) list) (zeroed (scratch_need (parameters J)) scratch) scratch

@@ -2,7 +2,7 @@
 use Rattle.std.specs.Prelude.{Bool, true, false, cond, List, [], ◌∷◌, ◌++◌, ℕ, length, take, drop, replicate}
 use Rattle.std.proofs.Math.Decide.{dec_le}
 use Rattle.math.specs.lists.Table.{table}
-use Rattle.spec_leaves.specs.Answer.{Answer, fine, refused, result, ◌then◌}
+use Rattle.spec_leaves.specs.Answer.{Answer, fine, refused, result_of, ◌then◌}
 use Rattle.spec_leaves.specs.Rq.{Element}
 use Rattle.spec_protocol.specs.Checks.{require, first}
 use Rattle.spec_protocol.specs.Parameters.{Parameters, parameters}
@@ -105,11 +105,11 @@ prove_output call J R W scratch output =
     let X = public J R in
     let s = witness (parameters J) W in
     let need = span (made_sections call (parameters J)) in
-    result (prove_refusal call J R W (length scratch) (length output))
-    (result (work_refusal X call s) (made X call s ++ drop need output) (zeroed need output))
+    result_of (prove_refusal call J R W (length scratch) (length output))
+    (result_of (work_refusal X call s) (made X call s ++ drop need output) (zeroed need output))
     output
 
 -- the scratch at exit: "After any later answer scratch is zero to the length needed"
 unfoldable pub prove_scratch : Call → (J R W scratch output : List ℕ) → List ℕ
 prove_scratch call J R W scratch output =
-    result (prove_refusal call J R W (length scratch) (length output)) (zeroed (scratch_need (parameters J)) scratch) scratch
+    result_of (prove_refusal call J R W (length scratch) (length output)) (zeroed (scratch_need (parameters J)) scratch) scratch

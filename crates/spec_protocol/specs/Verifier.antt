@@ -6,7 +6,7 @@ use Rattle.math.specs.lists.Table.{table}
 use Rattle.math.specs.lists.Sum.{Σ}
 use Rattle.spec_leaves.specs.Zq.{Q}
 use Rattle.spec_leaves.specs.Norm.{norm}
-use Rattle.spec_leaves.specs.Answer.{Answer, accepted, failed, result, ◌then◌}
+use Rattle.spec_leaves.specs.Answer.{Answer, accepted, failed, result_of, ◌then◌}
 use Rattle.spec_leaves.specs.Rq.{Element, coeff}
 use Rattle.spec_leaves.specs.Ring.{words}
 use Rattle.spec_protocol.specs.Checks.{require, first}
@@ -104,4 +104,4 @@ verify J R T scratch = verify_refusal J R T scratch then checks (public J R) (me
 
 -- the scratch at exit: "After any later answer scratch is zero to the length needed"
 unfoldable pub verify_scratch : (J R T scratch : List ℕ) → List ℕ
-verify_scratch J R T scratch = result (verify_refusal J R T (length scratch)) (zeroed (scratch_need (parameters J)) scratch) scratch
+verify_scratch J R T scratch = result_of (verify_refusal J R T (length scratch)) (zeroed (scratch_need (parameters J)) scratch) scratch

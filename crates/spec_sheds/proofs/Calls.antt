@@ -8,7 +8,7 @@ use lib.Seq.{take_at}
 use Rattle.math.specs.lists.Part.{part}
 use Rattle.math.specs.lists.Table.{table}
 use Rattle.math.proofs.lists.Table.{length-table}
-use Rattle.spec_leaves.specs.Answer.{fine, result}
+use Rattle.spec_leaves.specs.Answer.{fine, result_of}
 use Rattle.spec_leaves.specs.Zq.{zadd}
 use Rattle.spec_protocol.specs.Parameters.{parameters}
 use Rattle.spec_protocol.specs.Layout.{span, sections}
@@ -90,14 +90,14 @@ module _ (J R W : List ℕ) where
       let Π = projection_of J R x in
       let S = vectors_of J W x in
       let made = stored p_section (table 256 (run_p J x Π S)) c.output in
-      c.handed_on ∙ ap (take (span p_section)) (c.left ∙ ap (λ a. result a made c.output) c.answer) ∙ section_taken (run_p J x Π S) c.output
+      c.handed_on ∙ ap (take (span p_section)) (c.left ∙ ap (λ a. result_of a made c.output) c.answer) ∙ section_taken (run_p J x Π S) c.output
 
   added : (p q sum : List ℕ) → Added p q sum → sum ≡ sections (p_sum p q ∷ [])
   unfolding add_output p_sum
   added p q sum c =
       let made = stored p_section (p_sum p q) c.output in
       c.handed_on
-      ∙ ap (take (span p_section)) (c.left ∙ ap (λ a. result a made c.output) c.answer)
+      ∙ ap (take (span p_section)) (c.left ∙ ap (λ a. result_of a made c.output) c.answer)
       ∙ section_taken (λ j. zadd (get_or p (1 + j) 0) (get_or q (1 + j) 0)) c.output
 
   summed : (t : Sum) (p : List ℕ) → Summed J R W t p → p ≡ sum_p J R W t
@@ -119,8 +119,8 @@ module _ (J R W : List ℕ) where
       c.handed_on
       ∙ ap (λ l. part l 1 (64 * (size x * (parameters J).κ)))
       (c.left
-      ∙ ap (λ a. result a (rows_made J x S c.output) c.output) before
-      ∙ ap (λ a. result a (stored (rows_section (parameters J) x) (run_rows J x S) c.output) (zeroed need c.output)) within)
+      ∙ ap (λ a. result_of a (rows_made J x S c.output) c.output) before
+      ∙ ap (λ a. result_of a (stored (rows_section (parameters J) x) (run_rows J x S) c.output) (zeroed need c.output)) within)
       ∙ after-count (run_rows J x S) (64 * (size x * (parameters J).κ)) (drop need c.output) (length-run_rows J x S)
 
   joined : (xs : List Run) (ws : List ℕ) → Joined J W xs ws → ws ≡ joined_rows J W xs

@@ -4,7 +4,7 @@ use Rattle.std.proofs.Math.Decide.{dec_le, dec_lt}
 use Rattle.math.specs.lists.Table.{table}
 use Rattle.math.specs.lists.Sum.{Σ}
 use Rattle.spec_leaves.specs.Zq.{Q, zadd}
-use Rattle.spec_leaves.specs.Answer.{Answer, refused, result, ◌then◌}
+use Rattle.spec_leaves.specs.Answer.{Answer, refused, result_of, ◌then◌}
 use Rattle.spec_protocol.specs.Checks.{require, first}
 use Rattle.spec_protocol.specs.Parameters.{Parameters, parameters}
 use Rattle.spec_protocol.specs.Layout.{Section, canonical, span, sections, layout, ranged, job_refusal, scratch_refusal, output_refusal, scratch_need}
@@ -92,12 +92,12 @@ stored made words output = sections (words ∷ []) ++ drop (span made) output
 -- the output of the projection call at exit: p's section; a refusal leaves it
 unfoldable pub project_output : (J : List ℕ) → Run → (Π S scratch output : List ℕ) → List ℕ
 project_output J x Π S scratch output =
-    result (project_answer J x Π S scratch output) (stored p_section (table 256 (run_p J x Π S)) output) output
+    result_of (project_answer J x Π S scratch output) (stored p_section (table 256 (run_p J x Π S)) output) output
 
 -- its scratch at exit: "After any later answer scratch is zero to the length needed"
 unfoldable pub project_scratch : (J : List ℕ) → Run → (Π S scratch output : List ℕ) → List ℕ
 project_scratch J x Π S scratch output =
-    result (project_answer J x Π S scratch output) (zeroed (scratch_need (parameters J)) scratch) scratch
+    result_of (project_answer J x Π S scratch output) (zeroed (scratch_need (parameters J)) scratch) scratch
 
 -- what the call on rows answers
 unfoldable pub commit_rows : (J : List ℕ) → Run → (S : List ℕ) → (scratch output : ℕ) → Answer
@@ -110,16 +110,16 @@ stored_rows J x S output = stored (rows_section (parameters J) x) (run_rows J x 
 -- what its work leaves in the output: the rows' section; "after 13 […] the output's needed part is zero too"
 unfoldable pub rows_made : (J : List ℕ) → Run → (S output : List ℕ) → List ℕ
 rows_made J x S output =
-    result (run_norm J x S) (stored_rows J x S output) (zeroed (span (rows_section (parameters J) x)) output)
+    result_of (run_norm J x S) (stored_rows J x S output) (zeroed (span (rows_section (parameters J) x)) output)
 
 -- its output at exit
 unfoldable pub rows_output : (J : List ℕ) → Run → (S scratch output : List ℕ) → List ℕ
-rows_output J x S scratch output = result (rows_refusal J x S (length scratch) (length output)) (rows_made J x S output) output
+rows_output J x S scratch output = result_of (rows_refusal J x S (length scratch) (length output)) (rows_made J x S output) output
 
 -- its scratch at exit
 unfoldable pub rows_scratch : (J : List ℕ) → Run → (S scratch output : List ℕ) → List ℕ
 rows_scratch J x S scratch output =
-    result (rows_refusal J x S (length scratch) (length output)) (zeroed (scratch_need (parameters J)) scratch) scratch
+    result_of (rows_refusal J x S (length scratch) (length output)) (zeroed (scratch_need (parameters J)) scratch) scratch
 
 -- "The adding call refuses by 9 and 10, the first p before the second, then by 2."
 unfoldable pub p_refusal : List ℕ → Answer
@@ -134,4 +134,4 @@ p_sum p q = table 256 (λ j. zadd (get_or p (1 + j) 0) (get_or q (1 + j) 0))
 
 -- its output at exit
 unfoldable pub add_output : (p q output : List ℕ) → List ℕ
-add_output p q output = result (add_refusal p q (length output)) (stored p_section (p_sum p q) output) output
+add_output p q output = result_of (add_refusal p q (length output)) (stored p_section (p_sum p q) output) output

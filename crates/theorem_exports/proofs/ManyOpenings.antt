@@ -6,7 +6,7 @@ use native.Mathlib.Decide.{dec_lt}
 use native.Mathlib.Omega.{arith}
 use lib.ListN.{length, get_or, replicate}
 use Rattle.math.proofs.lists.Padded.{padded-below, padded_past}
-use Rattle.spec_leaves.specs.Answer.{accepted, number, result}
+use Rattle.spec_leaves.specs.Answer.{accepted, number, result_of}
 use Rattle.spec_protocol.specs.Many.{part_verdict}
 use Rattle.spec_protocol.proofs.Acceptance.{many_no}
 use Rattle.api_answers.specs.declared.verdicts.LabradorVerdict.{LabradorVerdict}
@@ -27,7 +27,7 @@ module _ (J : List ℕ) (count : ℕ) (R T scratch : List ℕ) (x : LabradorVerd
   verdicts_are : x.verdicts ≡ verdicts_of J count R T
   verdicts_are =
       let e = (many_no J count (length scratch)).numbered (sym (ap (λ (x : LabradorVerdicts). x.number) is) ∙ whole) in
-      ap (λ (x : LabradorVerdicts). x.verdicts) is ∙ ap (λ a. result a (verdicts_of J count R T) (replicate 8 (failed_check 0 0 0 0))) e
+      ap (λ (x : LabradorVerdicts). x.verdicts) is ∙ ap (λ a. result_of a (verdicts_of J count R T) (replicate 8 (failed_check 0 0 0 0))) e
 
   -- one of them with the number 0 is that of a transcript
   verdict_is : (m : ℕ) → m < 8 → (verdict_at x m).number ≡ 0 → verdict_at x m ≡ labrador_verdict (part_verdict J count R T m)

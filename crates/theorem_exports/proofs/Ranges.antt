@@ -15,7 +15,7 @@ use lib.ListN.{length, get_or, replicate}
 use Rattle.math.specs.lists.Table.{padded}
 use Rattle.math.proofs.lists.Padded.{padded-below}
 use Rattle.spec_leaves.specs.Zq.{half_Q}
-use Rattle.spec_leaves.specs.Answer.{Answer, fine, refused, number, place, result, ◌then◌}
+use Rattle.spec_leaves.specs.Answer.{Answer, fine, refused, number, place, result_of, ◌then◌}
 use Rattle.spec_protocol.specs.Checks.{first}
 use Rattle.spec_protocol.specs.Parameters.{Parameters, parameters}
 use Rattle.spec_protocol.specs.Layout.{job_refusal}
@@ -112,7 +112,7 @@ module _ (J : List ℕ) (xs : List ℤ) (r : RangesAnswer) (told : RangesCall J 
   told_at i h =
       let f : ℕ → RangeNorms = λ i. range_norms (told.vectors i) in
       ap (λ (a : RangesAnswer). meets_at a i) told.answer
-      ∙ ap (λ a. (get_or (result a (padded 16 P.r (range_norms unused) f) (replicate 16 (range_norms unused))) i (range_norms unused)).meets) ok
+      ∙ ap (λ a. (get_or (result_of a (padded 16 P.r (range_norms unused) f) (replicate 16 (range_norms unused))) i (range_norms unused)).meets) ok
       ∙ ap (λ (v : RangeNorms). v.meets) (padded-below 16 (range_norms unused) f P.r i (omega (arith, r-within)) h)
 
   one_or-three : (i : ℕ) → i < P.r → (meets_at r i ≡ 1) ⊎ (meets_at r i ≡ 3)

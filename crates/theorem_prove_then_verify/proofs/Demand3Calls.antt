@@ -9,7 +9,7 @@ use Rattle.spec_leaves.specs.declared.answers.Refusal.{Refusal}
 use Rattle.spec_leaves.specs.declared.answers.Proved.{Proved}
 use Rattle.spec_leaves.specs.declared.answers.Proved.TheVariants as P
 use Rattle.spec_leaves.specs.declared.answers.Verdict.{Verdict}
-use Rattle.spec_leaves.specs.Answer.{Answer, fine, refused, result, ◌then◌, of_refusal, of_proved, of_verdict}
+use Rattle.spec_leaves.specs.Answer.{Answer, fine, refused, result_of, ◌then◌, of_refusal, of_proved, of_verdict}
 use Rattle.spec_protocol.specs.Parameters.{parameters}
 use Rattle.spec_protocol.specs.Layout.{span, sections, transcript_sections, job_refusal, scratch_need}
 use Rattle.spec_protocol.specs.Views.{public, witness}
@@ -79,9 +79,9 @@ module _ (J R W scratch output : List ℕ) where
       unfolding prove_scratch verify_scratch
       scratch_of-both middle last m enough l =
           let need = scratch_need (parameters J) in
-          let made = ap (λ a. result a (zeroed need scratch) scratch) (before-work whole J R W scratch output (sym proved)) in
+          let made = ap (λ a. result_of a (zeroed need scratch) scratch) (before-work whole J R W scratch output (sym proved)) in
           l
-          ∙ ap (λ a. result a (zeroed need middle) middle) (nothing_refused (length middle) enough)
+          ∙ ap (λ a. result_of a (zeroed need middle) middle) (nothing_refused (length middle) enough)
           ∙ ap (zeroed need) (m ∙ made)
           ∙ zeroed-twice need scratch
           ∙ sym made
@@ -91,17 +91,17 @@ module _ (J R W scratch output : List ℕ) where
       enough-left middle m = subst (λ n. scratch_need (parameters J) ≤ n) (sym (ap length m ∙ (scratch_unchanged whole J R W scratch output).size)) call.scratch_fits
 
       -- the length that is read of the output is the transcript's, and the output has it
-      length-sent : (n : ℕ) → n ≡ result (job_refusal J) (span (transcript_sections (parameters J))) 0 → n ≡ span (transcript_sections (parameters J))
-      length-sent n e = e ∙ ap (λ a. result a (span (transcript_sections (parameters J))) 0) call.job
+      length-sent : (n : ℕ) → n ≡ result_of (job_refusal J) (span (transcript_sections (parameters J))) 0 → n ≡ span (transcript_sections (parameters J))
+      length-sent n e = e ∙ ap (λ a. result_of a (span (transcript_sections (parameters J))) 0) call.job
 
-      pub sent-within : (n : ℕ) → n ≡ result (job_refusal J) (span (transcript_sections (parameters J))) 0 → n ≤ length exit
+      pub sent-within : (n : ℕ) → n ≡ result_of (job_refusal J) (span (transcript_sections (parameters J))) 0 → n ≤ length exit
       sent-within n e =
           subst (λ k. k ≤ length exit) (sym (length-sent n e))
           (subst (λ k. span (transcript_sections (parameters J)) ≤ k) (sym (ap length left ∙ (output_unchanged whole J R W scratch output).size)) call.output_fits)
 
       -- answer, output and scratch of both calls, one after the other
       pub both_calls : (v : Verdict) (n : ℕ) (middle last : List ℕ) → middle ≡ prove_scratch whole J R W scratch output
-          → n ≡ result (job_refusal J) (span (transcript_sections (parameters J))) 0
+          → n ≡ result_of (job_refusal J) (span (transcript_sections (parameters J))) 0
           → of_verdict v ≡ verify J R (take n exit) (length middle)
           → last ≡ verify_scratch J R (take n exit) middle
           → (of_verdict v ≡ prove whole J R W (length scratch) (length output) then conditions (public J R) (witness (parameters J) W))

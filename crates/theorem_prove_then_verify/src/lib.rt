@@ -1,4 +1,6 @@
 // The prover's whole call, then the verifier on the transcript that it makes: demand 3 over the two calls.
+#![tactic(auto)]
+
 ghost use Rattle.std.specs.Prelude.{◌≡◌, ◌≤◌, length, take};
 ghost use Rattle.spec_leaves.specs.Answer.{of_verdict};
 ghost use Rattle.spec_protocol.specs.Prover.{whole, prove_output, prove_scratch};

@@ -1,4 +1,6 @@
 // The challenges c_i of a randomness (`generate_challenges` of transcript/mod.rs), and z = Σ s_i·c_i (prover.rs).
+#![tactic(auto)]
+
 ghost use Rattle.std.specs.Prelude.{◌≡◌, ◌+◌, ◌*◌, ◌≤◌, length};
 ghost use Rattle.math.specs.lists.Part.{part, splice};
 ghost use Rattle.spec_leaves.specs.Challenge.{challenge as challenge_of};

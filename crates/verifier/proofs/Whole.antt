@@ -8,7 +8,7 @@ use Rattle.math.specs.lists.Part.{splice}
 use denote.Enum.Declared.{tag_of}
 use types.Run.{OneOf}
 use Rattle.spec_leaves.specs.contracts.answers.Checked.{the_type}
-use Rattle.spec_leaves.specs.Answer.{Answer, accepted, of_refusal, of_checked, of_verdict, result, ◌then◌}
+use Rattle.spec_leaves.specs.Answer.{Answer, accepted, of_refusal, of_checked, of_verdict, result_of, ◌then◌}
 use Rattle.spec_leaves.specs.declared.answers.Checked.{Checked}
 use Rattle.spec_leaves.specs.declared.answers.Checked.TheVariants as C
 use Rattle.spec_leaves.specs.declared.answers.Verdict.{Verdict}
@@ -181,7 +181,7 @@ module _ (J R T S : List ℕ) (x : Admitted) (e : of_admitted x ≡ verify_refus
     unfolding verify_scratch
     refused-scratch =
         let Z = zeroed (scratch_need (parameters J)) S in
-        refusal_none r Z S ∙ ap (λ a. result a Z S) (sym (ap of_admitted is) ∙ e)
+        refusal_none r Z S ∙ ap (λ a. result_of a Z S) (sym (ap of_admitted is) ∙ e)
 
   -- a call whose work is done
   module _ (params : EnvironmentParameters) (is : x ≡ A.Fit params) where
@@ -196,4 +196,4 @@ module _ (J R T S : List ℕ) (x : Admitted) (e : of_admitted x ≡ verify_refus
     unfolding verify_scratch
     worked-scratch f =
         let Z = zeroed (scratch_need (parameters J)) S in
-        f ∙ ap (λ a. result a Z S) (sym (ap of_admitted is) ∙ e)
+        f ∙ ap (λ a. result_of a Z S) (sym (ap of_admitted is) ∙ e)

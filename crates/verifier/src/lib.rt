@@ -1,2 +1,4 @@
 // The verifier (verifier.rs): all checks in order, and the call on whole slices.
+#![tactic(auto)]
+
 pub mod verify;

@@ -1,4 +1,6 @@
 // The verifier's check of the aggregated relation (verifier.rs): 27.
+#![tactic(auto)]
+
 ghost use Rattle.std.specs.Prelude.{◌≡◌};
 ghost use Rattle.spec_leaves.specs.Answer.{of_checked};
 ghost use Rattle.core_workspace.specs.Ready.{Ready};

@@ -1,4 +1,6 @@
 // The digits of what the prover sends, taken once for check 23, for 14 to 16 and for the number that an acceptance states (document 02, Item 5).
+#![tactic(auto)]
+
 ghost use Rattle.relation_env_params.specs.Parameters.{parameters_of};
 ghost use Rattle.verifier_common.specs.Work.{Received};
 ghost use Rattle.verifier_digits.specs.Taken.{Taken};
@@ -10,7 +12,7 @@ use ring_zq::bound;
 use spec_leaves::answers::U128;
 
 // The sum of check 23, whether the digits of t, g and h are within the bounds of B, C and D, and how many cells have something left.
-#[derive(Drop)]
+#[derive(Clone, Copy)]
 pub struct SentDigits {
     pub sum: U128,
     pub t_within: bool,

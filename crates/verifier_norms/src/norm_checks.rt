@@ -43,7 +43,7 @@ fn check_norm_sum(sum: U128, limit: U128) -> Checked
 }
 
 // What 21 to 23 answer, and where they pass what is found of the digits.
-#[derive(Drop)]
+#[derive(Clone, Copy)]
 pub struct NormChecks {
     pub checked: Checked,
     pub digits: SentDigits,

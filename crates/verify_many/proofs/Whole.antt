@@ -4,7 +4,7 @@ use mathlib.Core.List.{List}
 use Prim.Native.Nat.{ℕ}
 use lib.ListN.{length, replicate}
 use Rattle.spec_leaves.specs.declared.answers.Refusal.{Refusal}
-use Rattle.spec_leaves.specs.Answer.{fine, refused, number, place, result, of_refusal}
+use Rattle.spec_leaves.specs.Answer.{fine, refused, number, place, result_of, of_refusal}
 use Rattle.spec_protocol.specs.Parameters.{parameters}
 use Rattle.spec_protocol.specs.Prover.{zeroed}
 use Rattle.spec_protocol.specs.Many.{many_need, many_refusal, many_scratch}
@@ -22,7 +22,7 @@ module _ (J : List ℕ) (count : ℕ) (S : List ℕ) (verdicts : List LabradorVe
 
     pub count-scratch : S ≡ many_scratch J count S
     unfolding many_scratch
-    count-scratch = ap (λ a. result a (zeroed (many_need (parameters J) count) S) S) e
+    count-scratch = ap (λ a. result_of a (zeroed (many_need (parameters J) count) S) S) e
 
   -- a refusal of document 01's list
   module _ (r : Refusal) (e : of_refusal r ≡ many_refusal J count (length S)) where
@@ -38,7 +38,7 @@ module _ (J : List ℕ) (count : ℕ) (S : List ℕ) (verdicts : List LabradorVe
 
     pub refused-scratch : S ≡ many_scratch J count S
     unfolding many_scratch
-    refused-scratch = let Z = zeroed (many_need (parameters J) count) S in refusal_none r Z S ∙ ap (λ a. result a Z S) e
+    refused-scratch = let Z = zeroed (many_need (parameters J) count) S in refusal_none r Z S ∙ ap (λ a. result_of a Z S) e
 
   -- eight verdicts
   module _ (e : fine ≡ many_refusal J count (length S)) where
@@ -47,4 +47,4 @@ module _ (J : List ℕ) (count : ℕ) (S : List ℕ) (verdicts : List LabradorVe
 
     pub given-scratch : {S' : List ℕ} → S' ≡ zeroed (many_need (parameters J) count) S → S' ≡ many_scratch J count S
     unfolding many_scratch
-    given-scratch f = f ∙ ap (λ a. result a (zeroed (many_need (parameters J) count) S) S) e
+    given-scratch f = f ∙ ap (λ a. result_of a (zeroed (many_need (parameters J) count) S) S) e

@@ -1,6 +1,6 @@
 -- The struct of the call on many transcripts as an answer (document 02, Item 11).
 use Rattle.std.specs.Prelude.{◌≡◌, List, ℕ, length, replicate}
-use Rattle.spec_leaves.specs.Answer.{Answer, number, place, result}
+use Rattle.spec_leaves.specs.Answer.{Answer, number, place, result_of}
 use Rattle.spec_protocol.specs.Many.{many_refusal, many_scratch}
 use Rattle.api_answers.specs.declared.verdicts.LabradorVerdict.{LabradorVerdict}
 use Rattle.api_answers.specs.Calls.{failed_check}
@@ -13,7 +13,7 @@ refused_verdicts number place = record { number = number; place = place; verdict
 
 -- eight verdicts; "a refused job or short scratch […] is the answer to the whole call", with zeros
 abbrev pub labrador_verdicts : Answer → List LabradorVerdict → LabradorVerdicts
-labrador_verdicts a verdicts = record { number = number a; place = place a; verdicts = result a verdicts (replicate 8 (failed_check 0 0 0 0)) }
+labrador_verdicts a verdicts = record { number = number a; place = place a; verdicts = result_of a verdicts (replicate 8 (failed_check 0 0 0 0)) }
 
 -- what the call answers
 abbrev pub many_verdicts : (J : List ℕ) → (count : ℕ) → (R T : List ℕ) → (scratch : ℕ) → LabradorVerdicts

@@ -9,7 +9,7 @@ use spec_leaves::answers::Refusal;
 
 // 0 and 0 with eight verdicts, those past the number of transcripts unused (4294967295); or the refusal of the whole call with zeros.
 #[repr(C)]
-#[derive(Drop)]
+#[derive(Clone, Copy)]
 pub struct LabradorVerdicts {
     pub number: u32,
     pub place: u64,

@@ -16,7 +16,7 @@ use layout_sizes::slices;
 use relation_env_params::env_params::EnvironmentParameters;
 
 // A part of a slice, up to but not including `to`.
-#[derive(Drop)]
+#[derive(Clone, Copy)]
 pub struct Bounds {
     pub from: usize,
     pub to: usize,

@@ -16,7 +16,7 @@ use relation_env_params::env_params::EnvironmentParameters;
 use spec_leaves::answers::Refusal;
 
 // What the whole call is refused, or the parameters of a job that is refused nothing.
-#[derive(Drop)]
+#[derive(Clone, Copy)]
 pub enum ManyAdmitted {
     Count,
     Refused(Refusal),

@@ -1,4 +1,6 @@
 // The checks 24, 28 and 29 of one transcript, from the products of the rows that stand in its window of the scratch (document 02, Item 11).
+#![tactic(auto)]
+
 ghost use Rattle.std.specs.Prelude.{◌≡◌, ◌+◌, ◌*◌, ◌≤◌, ◌<◌, length};
 ghost use Rattle.math.specs.lists.Part.{part};
 ghost use Rattle.spec_leaves.specs.Answer.{of_checked};

@@ -18,7 +18,7 @@ use ring_rq::rq::Rq;
 use ring_words;
 
 // Row k of the matrix in a section of the job, how many elements it has, and where the digits that it is taken with start in a window.
-#[derive(Drop)]
+#[derive(Clone, Copy)]
 pub struct Row {
     pub section: usize,
     pub k: usize,

@@ -20,7 +20,7 @@ use ring_words;
 use ring_zq::wide::wide;
 
 // Where the digits of t, g and h of a transcript stand in the scratch, if they are stored.
-#[derive(Drop)]
+#[derive(Clone, Copy)]
 pub struct Held {
     pub stored: bool,
     pub t: usize,

@@ -1,4 +1,6 @@
 // Reads lines of two decimal words from standard input and writes an answer to each to standard output. Document 01, "Proved table": "A program reads lines …".
+#![tactic(auto)]
+
 ghost use Rattle.std.specs.Prelude.{◌*◌, ◌≤◌, length};
 ghost use Rattle.zq_lines_text.specs.Reading.{Bounded};
 ghost use Rattle.zq_lines.specs.Turn.{TurnFrom};
@@ -8,7 +10,7 @@ use zq_lines_text::feeding::{feed, finish};
 use zq_lines_text::reading::{State, start};
 
 // What is left after one read: more to read; the end of the input; or a read or a write that failed.
-#[derive(Drop)]
+#[derive(Clone, Copy)]
 enum Turn {
     More(State),
     End(State),

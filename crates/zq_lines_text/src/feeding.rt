@@ -7,7 +7,7 @@ use crate::reading::{State, is_fresh, start, step};
 use crate::writing::put_answer;
 
 // The state after some bytes, and the place after the answers so far.
-#[derive(Drop)]
+#[derive(Clone, Copy)]
 pub struct Fed {
     pub state: State,
     pub at: usize,

@@ -7,21 +7,21 @@ ghost use Rattle.zq_lines_text.specs.Reading.{start as Reading·start, pushed, e
 use ring_zq::zq::Zq;
 
 // A decimal word as far as it is read.
-#[derive(Drop)]
+#[derive(Clone, Copy)]
 pub struct Word {
     pub value: u64,
     pub digits: u32,
 }
 
 // A word with one more byte; No where the byte is no digit, or an eleventh.
-#[derive(Drop)]
+#[derive(Clone, Copy)]
 pub enum Extended {
     To(Word),
     No,
 }
 
 // What is kept of a line: its first word so far; its first word's value, and its second word so far; or that it is refused whatever follows.
-#[derive(Drop)]
+#[derive(Clone, Copy)]
 pub enum State {
     First(Word),
     Second(u64, Word),
@@ -29,7 +29,7 @@ pub enum State {
 }
 
 // What a whole line stands for.
-#[derive(Drop)]
+#[derive(Clone, Copy)]
 pub enum Parsed {
     Pair(u32, u32),
     Refused,

@@ -5,7 +5,7 @@ use Prim.Native.Nat.{ℕ}
 use borrow.Author.Rules.{rules}
 use Rattle.math.specs.lists.Table.{table}
 use Rattle.spec_leaves.specs.declared.answers.Operands.{Operands}
-use Rattle.spec_leaves.specs.Answer.{Answer, result, of_operands}
+use Rattle.spec_leaves.specs.Answer.{Answer, result_of, of_operands}
 use Rattle.spec_leaves.specs.Rq.{rzero, left_row}
 use Rattle.api_leaf_answers.specs.declared.answers.Status.{Status}
 use Rattle.api_leaf_answers.specs.declared.answers.ElementAnswer.{ElementAnswer}
@@ -17,7 +17,7 @@ use Rattle.labrador.proofs.digits.labrador_rq_left.Tie as tie
 
 -- a status and a result make the answer
 made : (o : Operands) (s : Status) (a : Answer) (coeffs value : List ℕ) → s ≡ status_of (of_operands o)
-    → coeffs ≡ result (of_operands o) value rzero → of_operands o ≡ a
+    → coeffs ≡ result_of (of_operands o) value rzero → of_operands o ≡ a
     → ◌≡◌ {A = ElementAnswer} (record { number = s.number; place = s.place; coeffs = coeffs }) (element_answer a value)
 made o s a coeffs value e d h = (λ i. record { number = (e i).number; place = (e i).place; coeffs = d i }) ∙ ap (λ b. element_answer b value) h
 

@@ -6,7 +6,7 @@ use lib.ListN.{replicate}
 use borrow.Author.Rules.{rules}
 use Rattle.spec_leaves.specs.declared.answers.Decomposed.{Decomposed}
 use Rattle.spec_leaves.specs.declared.answers.Operands.{Operands}
-use Rattle.spec_leaves.specs.Answer.{Answer, result, of_operands}
+use Rattle.spec_leaves.specs.Answer.{Answer, result_of, of_operands}
 use Rattle.spec_leaves.specs.Digits.{decomposed}
 use Rattle.api_leaf_answers.specs.declared.answers.Status.{Status}
 use Rattle.api_leaf_answers.specs.declared.answers.DigitsAnswer.{DigitsAnswer}
@@ -18,7 +18,7 @@ use Rattle.labrador.proofs.numbers.labrador_zq_digits.Tie as tie
 
 -- a status and a result make the answer
 made : (o : Operands) (s : Status) (a : Answer) (digits : List ℕ) (left : ℕ) (value : Decomposed) → s ≡ status_of (of_operands o)
-    → digits ≡ result (of_operands o) value.digits (replicate 32 0) → left ≡ result (of_operands o) value.left 0 → of_operands o ≡ a
+    → digits ≡ result_of (of_operands o) value.digits (replicate 32 0) → left ≡ result_of (of_operands o) value.left 0 → of_operands o ≡ a
     → ◌≡◌ {A = DigitsAnswer} (record { number = s.number; place = s.place; digits = digits; left = left }) (digits_answer a value)
 made o s a digits left value e d l h = (λ i. record { number = (e i).number; place = (e i).place; digits = d i; left = l i }) ∙ ap (λ b. digits_answer b value) h
 

@@ -3,7 +3,7 @@ use mathlib.Core.Path.{◌≡◌, ◌∙◌, ap}
 use Prim.Native.Nat.{ℕ}
 use borrow.Author.Rules.{rules}
 use Rattle.spec_leaves.specs.declared.answers.Operands.{Operands}
-use Rattle.spec_leaves.specs.Answer.{Answer, result, of_operands}
+use Rattle.spec_leaves.specs.Answer.{Answer, result_of, of_operands}
 use Rattle.spec_leaves.specs.Recompose.{recompose}
 use Rattle.api_leaf_answers.specs.declared.answers.Status.{Status}
 use Rattle.api_leaf_answers.specs.declared.answers.WordAnswer.{WordAnswer}
@@ -13,7 +13,7 @@ use Rattle.labrador.proofs.recomposed.labrador_recompose.Statement.{statement}
 use Rattle.labrador.proofs.recomposed.labrador_recompose.Tie as tie
 
 -- a status and a result make the answer
-made : (o : Operands) (s : Status) (a : Answer) (kept value : ℕ) → s ≡ status_of (of_operands o) → kept ≡ result (of_operands o) value 0 → of_operands o ≡ a
+made : (o : Operands) (s : Status) (a : Answer) (kept value : ℕ) → s ≡ status_of (of_operands o) → kept ≡ result_of (of_operands o) value 0 → of_operands o ≡ a
     → ◌≡◌ {A = WordAnswer} (record { number = s.number; place = s.place; value = kept }) (word_answer a value)
 made o s a kept value e d h = (λ i. record { number = (e i).number; place = (e i).place; value = d i }) ∙ ap (λ b. word_answer b value) h
 
