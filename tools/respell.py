@@ -88,6 +88,20 @@ def as_lemma(name, units):
     return text
 
 
+def of_libraries():
+    """The names that files bring from other libraries, or cite by a module of theirs: these stay."""
+    found = set()
+    for path in files((".antt", ".antt.prime", ".rt", ".rt.prime")):
+        text = open(path, encoding="utf-8").read()
+        for module, names, alias in re.findall(r"(?m)^\s*(?:pub )?(?:ghost )?use ([^\s;{}]+?)(?:\.\{([^}]*)\})?(?: as (\w+))?;?$", text):
+            if re.match(r"Rattle[.·](?!(?:std|core)\b)", module):
+                continue
+            found.update(re.findall(NAME, names))
+            for word in [alias or module.split(".")[-1]]:
+                found.update(re.findall(r"(?<![\w.])" + re.escape(word) + r"\.(" + NAME + ")", text))
+    return found
+
+
 def table():
     types, definitions, lemmas = set(), set(), set()
     for path in files((".antt", ".antt.prime")):
@@ -110,7 +124,8 @@ def table():
     for n in lemmas - types - definitions:
         new[n] = as_lemma(n, units)
     new.update(KEPT)
-    return {a: b for a, b in new.items() if a != b}
+    kept = of_libraries()
+    return {a: b for a, b in new.items() if a != b and a not in kept}
 
 
 def words_of(text):

@@ -3,7 +3,7 @@ use mathlib.Core.Path.{◌≡◌, refl, sym, subst, ◌∙◌, ap, ap₂}
 use mathlib.Core.Bool.{Bool, true, false, cond}
 use mathlib.Core.List.{List, [], ◌∷◌, ◌++◌}
 use Prim.Native.Nat.{ℕ, suc, ◌+◌, ◌≤◌, ◌<◌}
-use native.Mathlib.Nat.{add_zero, zero-add}
+use native.Mathlib.Nat.{add-zero, zero-add}
 use native.Mathlib.Numerals.{add-one}
 use native.Mathlib.Omega.{arith}
 use borrow.Author.Tests.{lt-ltb, le-ltb}
@@ -27,7 +27,7 @@ at limit number place words i h = rw (drop-cons words i 0 h)
 
 -- no word is passed at first
 pub none_passed : (limit : ℕ) (words : List ℕ) → Passed limit words 0
-none_passed limit words number place = rw (add_zero place)
+none_passed limit words number place = rw (add-zero place)
 
 -- a good word is passed
 pub one_passed : (limit : ℕ) (words : List ℕ) (i : ℕ) → Passed limit words i → i < length words → get_or words i 0 < limit → Passed limit words (i + 1)
@@ -56,7 +56,7 @@ all_passed_at limit words i p e = subst (FirstNotBelow limit words) e (all_passe
 -- the answer to two runs, one after the other
 pub below-append : (limit number place : ℕ) (a b : List ℕ) → below limit number place (a ++ b) ≡ below limit number place a then below limit number (place + length a) b
 unfolding below
-below-append limit number place [] b = rw (add_zero place)
+below-append limit number place [] b = rw (add-zero place)
 below-append limit number place (w ∷ a) b = by (ltb w limit) (below-append limit number (place + 1) a b)
   where
     next : place + 1 + length a ≡ place + suc (length a)

@@ -2,7 +2,7 @@
 use mathlib.Core.Path.{◌≡◌, refl, sym, ap, ap₂, ◌∙◌}
 use mathlib.Core.List.{List, ◌++◌, append-nil, append_assoc}
 use Prim.Native.Nat.{ℕ, zero, suc, ◌+◌, ◌-◌, ◌*◌, ◌≤◌, ◌<◌}
-use native.Mathlib.Nat.{add_zero, add-suc, mul-le-mul_right}
+use native.Mathlib.Nat.{add-zero, add-suc, mul-le-mul_right}
 use native.Mathlib.Omega.{arith}
 use lib.ListN.{length}
 use Rattle.math.specs.lists.Table.{cat}
@@ -28,7 +28,7 @@ row_next at k width place e = omega arith
 -- so many lists and so many more
 cat_split : (m n : ℕ) (f : ℕ → List Element) → cat (m + n) f ≡ cat m f ++ cat n (λ q. f (m + q))
 unfolding cat
-cat_split m zero f = ap (λ k. cat k f) (add_zero m) ∙ sym (append-nil (cat m f))
+cat_split m zero f = ap (λ k. cat k f) (add-zero m) ∙ sym (append-nil (cat m f))
 cat_split m (suc n) f = ap (λ k. cat k f) (add-suc m n) ∙ ap (λ x. x ++ f (m + n)) (cat_split m n f) ∙ append_assoc (cat m f) (cat n (λ q. f (m + q))) (f (m + n))
 
 -- so many more lists of w elements stored after the first m

@@ -2,7 +2,7 @@
 use mathlib.Core.Path.{◌≡◌, sym, ap, ap₂, subst, ◌∙◌}
 use mathlib.Core.List.{List}
 use Prim.Native.Nat.{ℕ, ◌+◌, ◌-◌, ◌*◌, ◌≤◌, ◌<◌}
-use native.Mathlib.Nat.{zero-add, add_zero, add_assoc}
+use native.Mathlib.Nat.{zero-add, add-zero, add_assoc}
 use native.Mathlib.Decide.{dec_lt}
 use native.Mathlib.Omega.{arith}
 use lib.ListN.{length, get_or, replicate, length-replicate, get_or-replicate}
@@ -39,7 +39,7 @@ module _ (e a buffer : List ℕ) (same : a ≡ e) (stored : buffer ≡ splice (r
   pub term-room : (sums weights : List ℕ) (p : ℕ) → Words e → AllValues weights p 1 → SumsSmall sums 1 → NttRoom sums 0 weights p buffer 0
   term-room sums weights p w v s =
       room_for sums 0 weights p buffer 0 (λ k l. subst (λ j. get_or sums j 0 ≤ (most_products - 1) * 18032502047663104) (sym (zero-add k)) (s.small k l))
-      (λ k l. subst (λ j. get_or weights (j + k) 0 ≤ 134285152) (add_zero p) (all_small weights p 1 v 0 k (omega arith) l))
+      (λ k l. subst (λ j. get_or weights (j + k) 0 ≤ 134285152) (add-zero p) (all_small weights p 1 v 0 k (omega arith) l))
       (λ k l. subst (λ x. x ≤ 134285152) (sym (value_in k l)) (values-small e w k l))
 
 -- a run of terms
@@ -63,7 +63,7 @@ module _ (sums weights : List ℕ) (weights-at : ℕ) (from : List ℕ) (at step
   -- no term yet
   pub terms-none : length sums ≡ 192 → sums ≡ terms_added sums weights weights-at from at step 0
   unfolding terms_added Σ
-  terms-none size = sym (table_ext 192 (λ k. get_or sums k 0 + 0) (λ k. get_or sums k 0) (λ k l. add_zero (get_or sums k 0)) ∙ table-get_or 192 sums 0 size)
+  terms-none size = sym (table_ext 192 (λ k. get_or sums k 0 + 0) (λ k. get_or sums k 0) (λ k l. add-zero (get_or sums k 0)) ∙ table-get_or 192 sums 0 size)
 
   -- one more
   pub terms-next : (now next : List ℕ) (m p i : ℕ) → now ≡ terms_added sums weights weights-at from at step m → p ≡ weights-at + 192 * m → i ≡ at + step * m

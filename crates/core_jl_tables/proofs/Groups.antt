@@ -1,5 +1,5 @@
 -- The omega part of φ'' for four k at once: the sums of four rows' terms, modulo Q, and what is added to the columns' sums.
-use Rattle.std.proofs.Common.{◌≡◌, ℕ, zero, suc, ◌+◌, ◌*◌, ◌/◌, ◌%◌, ◌<◌, ◌≤◌, cond, ltb, List, get_or, replicate, sym, refl, ap, ◌∙◌, ap₂, add_zero, add_assoc, mul-le-mul_right, arith, le-ltb, lt-ltb}
+use Rattle.std.proofs.Common.{◌≡◌, ℕ, zero, suc, ◌+◌, ◌*◌, ◌/◌, ◌%◌, ◌<◌, ◌≤◌, cond, ltb, List, get_or, replicate, sym, refl, ap, ◌∙◌, ap₂, add-zero, add_assoc, mul-le-mul_right, arith, le-ltb, lt-ltb}
 use lib.ListN.{get_or-replicate}
 use Rattle.math.specs.lists.Sum.{Σ}
 use Rattle.math.specs.lists.Table.{table}
@@ -43,7 +43,7 @@ four_terms n f = omega (arith, Σ-suc n f, Σ-suc (n + 1) f, Σ-suc (n + 1 + 1) 
 groups_mod : (a b : ℕ) (f F : ℕ → ℕ) (m : ℕ) → b % Q ≡ Σ (4 * a) f % Q
     → ((t : ℕ) → t < m → F t % Q ≡ (f (4 * (a + t)) + f (4 * (a + t) + 1) + (f (4 * (a + t) + 1 + 1) + f (4 * (a + t) + 1 + 1 + 1))) % Q) → (b + Σ m F) % Q ≡ Σ (4 * (a + m)) f % Q
 unfolding Σ
-groups_mod a b f F zero s h = ap (λ x. x % Q) (add_zero b) ∙ s ∙ ap (λ n. Σ (4 * n) f % Q) (sym (add_zero a))
+groups_mod a b f F zero s h = ap (λ x. x % Q) (add-zero b) ∙ s ∙ ap (λ n. Σ (4 * n) f % Q) (sym (add-zero a))
 groups_mod a b f F (suc m) s h =
     let next : 4 * (a + m) + 1 + 1 + 1 + 1 ≡ 4 * (a + suc m) = omega arith in
     ap (λ x. x % Q) (sym (add_assoc b (Σ m F) (F m)))

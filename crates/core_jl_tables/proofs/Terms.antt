@@ -1,5 +1,5 @@
 -- Terms added to a sum that is kept with 2^31 added.
-use Rattle.std.proofs.Common.{◌≡◌, ℕ, zero, suc, ◌+◌, ◌-◌, ◌%◌, ◌^◌, ◌<◌, ◌≤◌, Bool, true, false, cond, ltb, sym, refl, ap, ◌∙◌, ap₂, add_zero, add_assoc, add-one, arith, le-ltb, lt-ltb}
+use Rattle.std.proofs.Common.{◌≡◌, ℕ, zero, suc, ◌+◌, ◌-◌, ◌%◌, ◌^◌, ◌<◌, ◌≤◌, Bool, true, false, cond, ltb, sym, refl, ap, ◌∙◌, ap₂, add-zero, add_assoc, add-one, arith, le-ltb, lt-ltb}
 use Rattle.math.specs.lists.Sum.{Σ}
 use Rattle.spec_leaves.specs.Zq.{Q, lack_Q}
 use Rattle.spec_leaves.proofs.Modulo.{add-mod}
@@ -78,7 +78,7 @@ module _ (x term next : ℕ) (small : x < 4294967296) (few : term ≤ Q) (e : ne
 -- modulo Q the terms are added
 pub terms-mod : (f : ℕ → ℕ) (x n : ℕ) → ((t : ℕ) → f t < 2 ^ 32) → biased (terms_added f x n) % Q ≡ (biased x + Σ n f) % Q
 unfolding terms_added Σ
-terms-mod f x zero h = ap (λ y. y % Q) (sym (add_zero (biased x)))
+terms-mod f x zero h = ap (λ y. y % Q) (sym (add-zero (biased x)))
 terms-mod f x (suc n) h =
     let before : ℕ = biased (terms_added f x n) in
     ap (λ y. y % Q) (biased-twice (carried before (f n)) (carried-word before (f n) (omega arith) (h n)))

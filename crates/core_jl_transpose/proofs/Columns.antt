@@ -1,5 +1,5 @@
 -- The omega part of φ'': the sums of columns modulo Q, and their elements conjugated.
-use Rattle.std.proofs.Common.{◌≡◌, ℕ, zero, suc, ◌+◌, ◌-◌, ◌*◌, ◌%◌, ◌<◌, ◌≤◌, cond, List, length, get_or, replicate, sym, refl, ap, ◌∙◌, ap₂, add_zero, add-one, arith}
+use Rattle.std.proofs.Common.{◌≡◌, ℕ, zero, suc, ◌+◌, ◌-◌, ◌*◌, ◌%◌, ◌<◌, ◌≤◌, cond, List, length, get_or, replicate, sym, refl, ap, ◌∙◌, ap₂, add-zero, add-one, arith}
 use lib.ListN.{length-replicate, get_or-replicate}
 use Rattle.math.specs.lists.Sum.{Σ}
 use Rattle.math.specs.lists.Table.{table}
@@ -60,7 +60,7 @@ reduced : (l : List ℕ) → radd l rzero ≡ words (element l)
 unfolding radd rzero element
 reduced l =
     table_ext 64 (λ k. (coeff l k + coeff rzero k) % Q) (λ k. coeff l k % Q)
-    (λ k h. ap (λ x. (coeff l k + x) % Q) (get_or-table 64 (λ i. 0) k 0 h) ∙ ap (λ x. x % Q) (add_zero (coeff l k)))
+    (λ k h. ap (λ x. (coeff l k + x) % Q) (get_or-table 64 (λ i. 0) k 0 h) ∙ ap (λ x. x % Q) (add-zero (coeff l k)))
 
 -- and conjugated
 pub conjugated : (l : List ℕ) → rconj (radd l rzero) ≡ words (conj (element l))

@@ -3,7 +3,7 @@ use mathlib.Core.Path.{◌≡◌, sym, ap, subst, ◌∙◌}
 use mathlib.Core.Bool.{cond}
 use Prim.Native.Nat.{ℕ, ◌+◌, ◌-◌, ◌*◌, ◌/◌, ◌%◌, ◌≤◌, ◌<◌, ◌∣◌}
 use native.Mathlib.Nat.{div-add-mod', mul-add-mod_self_right, mod-eq_of_lt, mod-lt, mod-le, mul-lt-mul_of_pos_left, lt_of_mul-lt-mul_left, eq_of_mul-eq-mul_left}
-use native.Mathlib.Nat.{pos_of_dvd_of_pos, mul-div_cancel', div-add-mod, mul-mod_right, div-le_self, add_zero, mul-le-mul_right}
+use native.Mathlib.Nat.{pos_of_dvd_of_pos, mul-div_cancel', div-add-mod, mul-mod_right, div-le_self, add-zero, mul-le-mul_right}
 use native.Mathlib.Omega.{arith}
 use Rattle.spec_leaves.specs.Zq.{Q, half_Q, Canonical, size}
 use Rattle.spec_leaves.proofs.Cases.{ltb_cases}
@@ -65,7 +65,7 @@ module _ (c : Congruence) (r : Reduced c) where
     x₀ = H / G
 
     value_is : G * x₀ ≡ H
-    value_is = sym (add_zero (G * x₀)) ∙ ap (λ k. G * x₀ + k) (sym divides) ∙ div-add-mod H G
+    value_is = sym (add-zero (G * x₀)) ∙ ap (λ k. G * x₀ + k) (sym divides) ∙ div-add-mod H G
 
     pub below_step : x₀ < M
     below_step = lt_of_mul-lt-mul_left G (omega (arith, value_is, steps, r.canonical))

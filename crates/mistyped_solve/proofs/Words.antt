@@ -2,7 +2,7 @@
 use mathlib.Core.Path.{◌≡◌, refl, sym, ap, ap₂, ◌∙◌}
 use mathlib.Core.List.{List, [], ◌∷◌, ◌++◌, flat_map, append_assoc}
 use Prim.Native.Nat.{ℕ, ◌+◌, ◌*◌, ◌≤◌, ◌<◌}
-use native.Mathlib.Nat.{zero-add, add_zero}
+use native.Mathlib.Nat.{zero-add, add-zero}
 use native.Mathlib.Numerals.{add-one}
 use native.Mathlib.Omega.{arith}
 use lib.ListN.{length, get_or, set, take, drop, length-append, length-take, take-append-drop, drop_of_length-le}
@@ -134,7 +134,7 @@ module _ (ws : List ℕ) (es : List Entry) (fits : 2 * length es ≤ length ws) 
   pub read_back : entries (length es) (splice ws 0 (entry_words es)) ≡ es
   read_back =
       sym (is_table (length es) es (entry_at (splice ws 0 (entry_words es))) (entry 0 0) refl
-      (λ i h. sym (ap₂ entry (ap (λ j. get_or (splice ws 0 (entry_words es)) j 0) (sym (add_zero (2 * i))) ∙ word_of i 0 h (omega arith)) (word_of i 1 h (omega arith)))))
+      (λ i h. sym (ap₂ entry (ap (λ j. get_or (splice ws 0 (entry_words es)) j 0) (sym (add-zero (2 * i))) ∙ word_of i 0 h (omega arith)) (word_of i 1 h (omega arith)))))
 
   -- an entry put among entries that are stored
   pub insert-stored : (e : Entry) (count : ℕ) → length es ≡ count → 2 * count + 2 ≤ length ws

@@ -39,7 +39,7 @@ module _ (m : ℕ) (pos : 0 < m) where
     is_set = Σ_set Nat.ℕ_set (λ a. prop→set le_prop);
     add_assoc = λ a b c. res_path _ _ (Nat.mod-add-mod (a.0 + b.0) m c.0 ∙ ap (λ x. x % m) (Nat.add_assoc a.0 b.0 c.0) ∙ sym (Nat.add-mod-mod a.0 (b.0 + c.0) m));
     add_comm = λ a b. res_path _ _ (ap (λ x. x % m) (Nat.add_comm a.0 b.0));
-    add-nil = λ a. res_path _ _ (Nat.add-mod-mod a.0 0 m ∙ ap (λ x. x % m) (Nat.add_zero a.0) ∙ Nat.mod-eq_of_lt a.1);
+    add-nil = λ a. res_path _ _ (Nat.add-mod-mod a.0 0 m ∙ ap (λ x. x % m) (Nat.add-zero a.0) ∙ Nat.mod-eq_of_lt a.1);
     add-neg = λ a. res_path _ _ (Nat.add-mod-mod a.0 (m - a.0) m ∙ ap (λ x. x % m) (Nat.add-sub_of_le (Nat.le_of_lt a.1) ∙ sym (Nat.zero-add m)) ∙ Nat.add-mod_right 0 m);
     mul_assoc = λ a b c. res_path _ _ (mul_mod_first m (a.0 * b.0) c.0 ∙ ap (λ x. x % m) (Nat.mul_assoc a.0 b.0 c.0) ∙ sym (mul_mod_second m a.0 (b.0 * c.0)));
     mul_comm = λ a b. res_path _ _ (ap (λ x. x % m) (Nat.mul_comm a.0 b.0));

@@ -182,7 +182,7 @@ module _ (i : ℕ) (hi : i < 3) (n : ℕ) (hn : n ≤ most_products) (a b : ℕ 
       unit = sym (res_mul (prime_of i) (positive i) 64 (inverse64 i)) ∙ sym (res_less (prime_of i) (positive i) 1 (64 * inverse64 i) 63 (inverse_is i hi))
 
       same : x + H ≡ L + offset_Q + 0 * prime_of i
-      same = e ∙ sym (ap (λ z. L + offset_Q + z) (Nat.zero-mul (prime_of i)) ∙ Nat.add_zero (L + offset_Q))
+      same = e ∙ sym (ap (λ z. L + offset_Q + z) (Nat.zero-mul (prime_of i)) ∙ Nat.add-zero (L + offset_Q))
 
       whole : r (back * inverse64 i + offset i) ≡ r x
       whole =

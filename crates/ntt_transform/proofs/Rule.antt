@@ -107,7 +107,7 @@ follows k before (x ∷ xs) = both (eqb x (next k before)) (follows (suc k) x xs
 from : (xs : List ℕ) (k before : ℕ) → before ≡ entry k → T (follows k before xs) → (i : ℕ) → i < length xs → get_or xs i 0 ≡ entry (suc k + i)
 unfolding entry
 from [] k before e t i h = absurd (Nat.not-suc-le-zero h)
-from (x ∷ xs) k before e t zero h = eqb→eq x (next k before) (both_left (eqb x (next k before)) (follows (suc k) x xs) t) ∙ ap (next k) e ∙ ap entry (sym (Nat.add_zero (suc k)))
+from (x ∷ xs) k before e t zero h = eqb→eq x (next k before) (both_left (eqb x (next k before)) (follows (suc k) x xs) t) ∙ ap (next k) e ∙ ap entry (sym (Nat.add-zero (suc k)))
 from (x ∷ xs) k before e t (suc i) h =
     from xs (suc k) x (eqb→eq x (next k before) (both_left (eqb x (next k before)) (follows (suc k) x xs) t) ∙ ap (next k) e) (both_right (eqb x (next k before)) (follows (suc k) x xs) t)
     i (Nat.le_of_suc-le-suc h)
@@ -144,7 +144,7 @@ indexed m (x ∷ xs) = both (eqb x (index_of m)) (indexed (suc m) xs)
 
 indexed_at : (xs : List ℕ) (m : ℕ) → T (indexed m xs) → (i : ℕ) → i < length xs → get_or xs i 0 ≡ index_of (m + i)
 indexed_at [] m t i h = absurd (Nat.not-suc-le-zero h)
-indexed_at (x ∷ xs) m t zero h = eqb→eq x (index_of m) (both_left (eqb x (index_of m)) (indexed (suc m) xs) t) ∙ ap index_of (sym (Nat.add_zero m))
+indexed_at (x ∷ xs) m t zero h = eqb→eq x (index_of m) (both_left (eqb x (index_of m)) (indexed (suc m) xs) t) ∙ ap index_of (sym (Nat.add-zero m))
 indexed_at (x ∷ xs) m t (suc i) h =
     indexed_at xs (suc m) (both_right (eqb x (index_of m)) (indexed (suc m) xs) t) i (Nat.le_of_suc-le-suc h) ∙ ap index_of (Nat.suc-add m i ∙ sym (Nat.add-suc m i))
 

@@ -2,7 +2,7 @@
 use mathlib.Core.Path.{◌≡◌, refl, sym, ap, ap₂, ◌∙◌}
 use mathlib.Core.List.{List}
 use Prim.Native.Nat.{ℕ, zero, suc, ◌+◌, ◌*◌, ◌%◌, ◌≤◌, ◌<◌, ◌^◌}
-use native.Mathlib.Nat.{add_zero}
+use native.Mathlib.Nat.{add-zero}
 use native.Mathlib.Omega.{arith}
 use lib.ListN.{length, get_or}
 use Rattle.math.specs.lists.Sum.{Σ}
@@ -19,7 +19,7 @@ module _ (sums : List ℕ) where
   -- none of the places
   pub grown_none : (powers : List ℕ) (at : ℕ) (e : List ℕ) → length sums ≡ 64 → Grown sums sums (row_sum powers at e (7 * 0))
   unfolding Σ
-  grown_none powers at e n = record { count = n; each = λ k h. sym (add_zero (get_or sums k 0)) }
+  grown_none powers at e n = record { count = n; each = λ k h. sym (add-zero (get_or sums k 0)) }
 
   -- a sum with seven terms more
   Σ_seven : (n : ℕ) (f : ℕ → ℕ) → Σ (n + 7) f ≡ Σ n f + (f (n + 0) + f (n + 1) + f (n + 2) + f (n + 3) + f (n + 4) + f (n + 5) + f (n + 6))

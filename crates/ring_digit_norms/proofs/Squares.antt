@@ -2,7 +2,7 @@
 use mathlib.Core.Path.{◌≡◌, refl, sym, ◌∙◌, ap}
 use mathlib.Core.List.{List}
 use Prim.Native.Nat.{ℕ, zero, suc, ◌+◌, ◌-◌, ◌*◌, ◌%◌, ◌≤◌, ◌<◌}
-use native.Mathlib.Nat.{mul-zero, add_zero}
+use native.Mathlib.Nat.{mul-zero, add-zero}
 use native.Mathlib.Omega.{arith}
 use lib.ListN.{length, get_or}
 use Rattle.math.specs.lists.Table.{table}
@@ -38,7 +38,7 @@ pub Σ_used : (m n : ℕ) (f : ℕ → ℕ) → m ≤ n → ((i : ℕ) → m ≤
     sym (ap (λ k. Σ k f) (sym whole)
     ∙ Σ_split m (n - m) f
     ∙ ap (λ x. Σ m f + x) (Σ_ext (n - m) (λ i. f (m + i)) (λ i. 0) (λ i l. z (m + i) (omega arith)) ∙ Σ_zero (n - m))
-    ∙ add_zero (Σ m f))
+    ∙ add-zero (Σ m f))
 
 -- the norm of 0
 pub norm_zero : norm rzero ≡ 0

@@ -3,7 +3,7 @@ use mathlib.Core.Path.{◌≡◌, refl, sym, ap, ap₂, ◌∙◌}
 use mathlib.Core.Bool.{Bool, true, false, cond, xor}
 use mathlib.Core.Logic.{◌↔◌}
 use Prim.Native.Nat.{ℕ, zero, suc, ◌+◌, ◌-◌, ◌*◌, ◌/◌, ◌%◌, ◌^◌, ◌≤◌, ◌<◌, suc-le-suc}
-use native.Mathlib.Nat.{le_refl, mod-le, mod-lt, div-zero, div-le_self, div-add-mod', zero-mod, zero-div, add-mul-mod_self_right, pow-suc, pow-zero, mul-one, add_zero}
+use native.Mathlib.Nat.{le_refl, mod-le, mod-lt, div-zero, div-le_self, div-add-mod', zero-mod, zero-div, add-mul-mod_self_right, pow-suc, pow-zero, mul-one, add-zero}
 use native.Mathlib.Nat.{add-suc, mul-le-mul_right, mul-le-mul_left, lt_of_not-le, le_of_suc-le-suc, not-suc-le-zero}
 use native.Mathlib.Numerals.{add-one}
 use native.Mathlib.Omega.{arith}
@@ -138,7 +138,7 @@ rem_zero b = ap (λ t. cond t (b - 0 % b) (0 % b)) (rem_below_zero b) ∙ zero-m
 -- from a size of 0 on, the size stays 0
 pub stays_zero : (b k j s : ℕ) → size_after b k s ≡ 0 → size_after b (k + j) s ≡ 0
 unfolding size_after
-stays_zero b k zero s e = rw add_zero e
+stays_zero b k zero s e = rw add-zero e
 stays_zero b k (suc j) s e = rw add-suc (ap (next_size b) (stays_zero b k j s e) ∙ next_zero b)
 
 -- one more digit: the next size

@@ -1,7 +1,7 @@
 -- Laws of the remainder by a modulus m: a factor, a term or a sum may be reduced first, and differences modulo m. The two parts of a number of two u64.
 use mathlib.Core.Path.{◌≡◌, sym, ap, ◌∙◌}
 use Prim.Native.Nat.{ℕ, ◌+◌, ◌-◌, ◌*◌, ◌/◌, ◌%◌, ◌^◌, ◌<◌}
-use native.Mathlib.Nat.{mod-add-mod, add-mod-mod, mod-add-div', add-mul-mod_self_right, mul-mod_left, mod-lt, add_assoc, add_right_comm, add_zero, mul_comm}
+use native.Mathlib.Nat.{mod-add-mod, add-mod-mod, mod-add-div', add-mul-mod_self_right, mul-mod_left, mod-lt, add_assoc, add_right_comm, add-zero, mul_comm}
 use native.Mathlib.Nat.{mul-add-div_right, div-eq_of_lt, mul-add-mod_self_right, mod-eq_of_lt}
 use native.Mathlib.Omega.{arith}
 
@@ -39,7 +39,7 @@ module _ (m : ℕ) (pos : 0 < m) where
 
   -- a term that is zero modulo m may be left out
   pub add_zero-mod : (x n : ℕ) → n % m ≡ 0 → (x + n) % m ≡ x % m
-  add_zero-mod x n e = sym (add-mod-mod x n m) ∙ ap (λ k. (x + k) % m) e ∙ ap (λ k. k % m) (add_zero x)
+  add_zero-mod x n e = sym (add-mod-mod x n m) ∙ ap (λ k. (x + k) % m) e ∙ ap (λ k. k % m) (add-zero x)
 
   -- x + y − y is x modulo m
   pub add-sub-mod : (x y : ℕ) → (x + y + (m - y % m)) % m ≡ x % m
@@ -56,7 +56,7 @@ module _ (m : ℕ) (pos : 0 < m) where
 
 -- the upper part of hi · 2^64 + lo
 pub upper-part : (hi lo : ℕ) → lo < 2 ^ 64 → hi ≡ (hi * 2 ^ 64 + lo) / 2 ^ 64
-upper-part hi lo h = sym (mul-add-div_right {m = 2 ^ 64} (omega arith) hi lo ∙ ap (λ n. hi + n) (div-eq_of_lt h) ∙ add_zero hi)
+upper-part hi lo h = sym (mul-add-div_right {m = 2 ^ 64} (omega arith) hi lo ∙ ap (λ n. hi + n) (div-eq_of_lt h) ∙ add-zero hi)
 
 -- and its lower part
 pub lower_part : (hi lo : ℕ) → lo < 2 ^ 64 → lo ≡ (hi * 2 ^ 64 + lo) % 2 ^ 64

@@ -3,7 +3,7 @@ use mathlib.Core.Path.{◌≡◌, refl, sym, ap, ◌∙◌}
 use mathlib.Core.Bool.{cond}
 use mathlib.Core.List.{List, [], ◌∷◌}
 use Prim.Native.Nat.{ℕ, zero, suc, ◌+◌, ◌-◌, ◌*◌, ◌%◌, ◌≤◌, ◌<◌, ◌^◌}
-use native.Mathlib.Nat.{mod-lt, div-lt_iff_lt-mul, add_zero, add-suc}
+use native.Mathlib.Nat.{mod-lt, div-lt_iff_lt-mul, add-zero, add-suc}
 use native.Mathlib.Omega.{arith}
 use lib.ListN.{length, get_or, set, replicate, length-replicate}
 use Rattle.math.specs.lists.Table.{table}
@@ -29,7 +29,7 @@ state_fits x (suc k) h = mod-lt (state x k * 1664525 + 1013904223) (omega arith)
 -- a draw goes on from the state that was reached
 pub state-add : (x a b : ℕ) → state (state x a) b ≡ state x (a + b)
 unfolding state
-state-add x a zero = ap (state x) (sym (add_zero a))
+state-add x a zero = ap (state x) (sym (add-zero a))
 state-add x a (suc b) = ap (λ y. (y * 1664525 + 1013904223) % 2 ^ 32) (state-add x a b) ∙ ap (state x) (sym (add-suc a b))
 
 -- what each rule gives of a state

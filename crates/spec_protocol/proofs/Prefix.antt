@@ -3,7 +3,7 @@ use mathlib.Core.Path.{◌≡◌, refl, sym, ap, ap₂, ◌∙◌}
 use mathlib.Core.Bool.{Bool, true, false, cond}
 use mathlib.Core.List.{List, [], ◌∷◌, ◌++◌, append_assoc}
 use Prim.Native.Nat.{ℕ, ◌+◌, ◌≤◌}
-use native.Mathlib.Nat.{add_zero, zero-add}
+use native.Mathlib.Nat.{add-zero, zero-add}
 use native.Mathlib.Decide.{dec_le}
 use native.Mathlib.Omega.{arith}
 use borrow.Author.Tests.{lt-ltb}
@@ -40,7 +40,7 @@ module _ (number : ℕ) (words : List ℕ) where
   pub counted-append : (place : ℕ) (ss ss' : List Section)
       → counted number words place (ss ++ ss') ≡ counted number words place ss then counted number words (place + span ss) ss'
   unfolding counted span
-  counted-append place [] ss' = ap (λ k. counted number words k ss') (sym (add_zero place))
+  counted-append place [] ss' = ap (λ k. counted number words k ss') (sym (add-zero place))
   counted-append place (s ∷ ss) ss' =
       then_tests (ltb place (length words)) (eqb (get_or words place 0) s.count) number place (length words)
       (require (dec_le (place + 1 + s.count) (length words)) (refused number (length words)))
@@ -53,7 +53,7 @@ module _ (number : ℕ) (words : List ℕ) where
   pub ranged-append : (place : ℕ) (ss ss' : List Section)
       → ranged number words place (ss ++ ss') ≡ ranged number words place ss then ranged number words (place + span ss) ss'
   unfolding ranged span
-  ranged-append place [] ss' = ap (λ k. ranged number words k ss') (sym (add_zero place))
+  ranged-append place [] ss' = ap (λ k. ranged number words k ss') (sym (add-zero place))
   ranged-append place (s ∷ ss) ss' =
       let here = in_range s.range number (place + 1) (part words (place + 1) s.count) in
       let rest = ranged number words (place + 1 + s.count) ss in

@@ -3,7 +3,7 @@ use mathlib.Core.Path.{◌≡◌, sym, ap, ap₂, ◌∙◌}
 use mathlib.Core.List.{List, [], ◌∷◌, ◌++◌, append-nil, append_assoc, flat_map}
 use Prim.Native.Nat.{ℕ, zero, suc, ◌+◌, ◌-◌, ◌≤◌}
 use native.Mathlib.Decide.{dec_le}
-use native.Mathlib.Nat.{add_zero, add-suc}
+use native.Mathlib.Nat.{add-zero, add-suc}
 use native.Mathlib.Omega.{arith}
 use lib.ListN.{get_or}
 use Rattle.math.specs.lists.Table.{table, cat}
@@ -28,13 +28,13 @@ use Rattle.spec_sheds.proofs.EndToEnd.{Chain, split_chain}
 -- lists joined, parted after the first m
 cat_split {ℓ} : {A : Type ℓ} (m n : ℕ) (f : ℕ → List A) → cat (m + n) f ≡ cat m f ++ cat n (λ i. f (m + i))
 unfolding cat
-cat_split m zero f = ap (λ k. cat k f) (add_zero m) ∙ sym (append-nil (cat m f))
+cat_split m zero f = ap (λ k. cat k f) (add-zero m) ∙ sym (append-nil (cat m f))
 cat_split m (suc n) f = ap (λ k. cat k f) (add-suc m n) ∙ ap (λ l. l ++ f (m + n)) (cat_split m n f) ∙ append_assoc (cat m f) (cat n (λ i. f (m + i))) (f (m + n))
 
 -- the first answer that is not fine, parted after the first m
 first_split : (m n : ℕ) (f : ℕ → Answer) → first (m + n) f ≡ first m f then first n (λ i. f (m + i))
 unfolding first
-first_split m zero f = ap (λ k. first k f) (add_zero m) ∙ sym (then_fine (first m f))
+first_split m zero f = ap (λ k. first k f) (add-zero m) ∙ sym (then_fine (first m f))
 first_split m (suc n) f = ap (λ k. first k f) (add-suc m n) ∙ ap (λ a. a then f (m + n)) (first_split m n f) ∙ then_assoc (first m f) (first n (λ i. f (m + i))) (f (m + n))
 
 module _ (J R W : List ℕ) where

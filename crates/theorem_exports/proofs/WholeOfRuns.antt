@@ -13,7 +13,7 @@ use Rattle.api_answers.specs.Calls.{labrador_answer}
 use Rattle.spec_sheds.specs.Runs.{Run, size, p_section, project_answer, project_output, commit_rows, rows_output, add_refusal, add_output}
 use Rattle.spec_sheds.specs.Split.{Splits, Rising, Sum, one, both, runs_of, projection_of, vectors_of}
 use Rattle.spec_sheds.proofs.Calls.{Projected, Added, Summed, Committed, Joined, whole-p_of_calls, whole-t_of_calls}
-use Rattle.theorem_exports.proofs.Zero.{project_zero, rows_zero, add_zero}
+use Rattle.theorem_exports.proofs.Zero.{project_zero, rows_zero, add-zero}
 
 -- a call of `labrador_shed_projection` on a run of the whole slices that answers 0, with any buffers, and the p that is handed on
 pub record ProjectionCall (J R W : List ℕ) (x : Run) (p : List ℕ) : Type 0 where
@@ -71,7 +71,7 @@ module _ (J R W : List ℕ) where
   added p q sum c = record {
     output = c.output;
     exit = c.exit;
-    answer = add_zero p q (length c.output) (sym (ap (λ a. a.number) c.answered) ∙ c.zero);
+    answer = add-zero p q (length c.output) (sym (ap (λ a. a.number) c.answered) ∙ c.zero);
     left = c.left;
     handed_on = c.handed_on;
   }

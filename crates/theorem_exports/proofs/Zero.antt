@@ -49,7 +49,7 @@ rows_zero J x S scratch output =
     and each (size x) (λ i. require (dec_le (norm_of (table P.n (witness P S i))) P.bound_A) (refused 13 (x.first + i)))
     (λ i. test (dec_le (norm_of (table P.n (witness P S i))) P.bound_A) 13 (x.first + i) (omega arith)))
 
-pub add_zero : (p q : List ℕ) (output : ℕ) → number (add_refusal p q output) ≡ 0 → add_refusal p q output ≡ fine
+pub add-zero : (p q : List ℕ) (output : ℕ) → number (add_refusal p q output) ≡ 0 → add_refusal p q output ≡ fine
 unfolding add_refusal p_refusal
-add_zero p q output =
+add-zero p q output =
     zero_well (of_slice 9 10 (omega arith) (omega arith) p p_section and of_slice 9 10 (omega arith) (omega arith) q p_section and of_output (λ n h. h.0) p_section output)

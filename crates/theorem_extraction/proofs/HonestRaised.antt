@@ -2,7 +2,7 @@
 use mathlib.Core.Path.{◌≡◌, sym, ap, ap₂, subst, ◌∙◌}
 use mathlib.Core.List.{List}
 use Prim.Native.Nat.{ℕ, zero, suc, ◌+◌, ◌*◌, ◌%◌, ◌<◌}
-use native.Mathlib.Nat.{add_zero}
+use native.Mathlib.Nat.{add-zero}
 use native.Mathlib.Omega.{arith}
 use lib.ListN.{length, get_or}
 use lib.Seq.{get_or-set_same, get_or-set_other}
@@ -54,7 +54,7 @@ module _ (A : List ℕ) where
       ∙ ap₂ ZqOps.add (coefficient-element (part A p 64) q l ∙ ap residue (get_d_part 0 A p 64 q l)) (coefficient-scalar 1 q l)))
     where
       go : (q : ℕ) → residue (get_or (raised p A) (p + q) 0) ≡ ZqOps.add (residue (get_or A (p + q) 0)) (const_F ZqOps (residue 1) q)
-      go zero = ap (λ i. residue (get_or (raised p A) i 0)) (add_zero p) ∙ raised_there p h ∙ ap (λ i. ZqOps.add (residue (get_or A i 0)) (residue 1)) (sym (add_zero p))
+      go zero = ap (λ i. residue (get_or (raised p A) i 0)) (add-zero p) ∙ raised_there p h ∙ ap (λ i. ZqOps.add (residue (get_or A i 0)) (residue 1)) (sym (add-zero p))
       go (suc q) = ap residue (get_or-set_other A p (p + suc q) ((get_or A p 0 + 1) % Q) 0 (λ e. omega arith)) ∙ sym (zq_ring.add-nil (residue (get_or A (p + suc q) 0)))
 
   -- elements

@@ -48,7 +48,7 @@ carry_power s = carry_path (inverse_power s) (ones_from s) (coefficient_power s)
 -- X^0 = 1
 power_start : inverse_power 0 ≡ RqOps.one
 unfolding ones ones_from
-power_start = carry_inj (inverse_power 0) RqOps.one (carry_power 0 ∙ anti_path ZqOps zq_ring 64 (lit< tt) (ones_from 0) _ (λ k h. ap ones (Nat.add_zero k)) ∙ sym (carry_scalar 1))
+power_start = carry_inj (inverse_power 0) RqOps.one (carry_power 0 ∙ anti_path ZqOps zq_ring 64 (lit< tt) (ones_from 0) _ (λ k h. ap ones (Nat.add-zero k)) ∙ sym (carry_scalar 1))
 
 -- X^64 = −1
 power_half : inverse_power 64 ≡ RqOps.neg RqOps.one

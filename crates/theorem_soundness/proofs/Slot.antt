@@ -120,7 +120,7 @@ module _ (S : Slot) where
   -- ζ^i by i
   back : (i j : ℕ) → ZqOps.mul (power i) (f (j + i)) ≡ f j
   unfolding power
-  back zero j = ap₂ (λ x n. ZqOps.mul (residue x) (f n)) (Nat.pow-zero ζ) (Nat.add_zero j) ∙ one-mul ZqOps zq_ring (f j)
+  back zero j = ap₂ (λ x n. ZqOps.mul (residue x) (f n)) (Nat.pow-zero ζ) (Nat.add-zero j) ∙ one-mul ZqOps zq_ring (f j)
   back (suc i) j =
       ap₂ (λ x n. ZqOps.mul (residue x) (f n)) (Nat.pow-suc ζ i) (Nat.add-suc j i)
       ∙ ap (λ x. ZqOps.mul x (f (suc (j + i)))) (residue-mul (ζ ^ i) ζ)

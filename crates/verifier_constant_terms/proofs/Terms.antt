@@ -2,7 +2,7 @@
 use mathlib.Core.Path.{◌≡◌, refl, sym, ap, ap₂, subst, ◌∙◌}
 use mathlib.Core.List.{List, [], ◌∷◌}
 use Prim.Native.Nat.{ℕ, ◌+◌, ◌*◌, ◌%◌, ◌≤◌, ◌<◌}
-use native.Mathlib.Nat.{zero-add, add_zero, add_assoc, mod-eq_of_lt}
+use native.Mathlib.Nat.{zero-add, add-zero, add_assoc, mod-eq_of_lt}
 use native.Mathlib.Decide.{ℕ_discrete}
 use native.Mathlib.Omega.{arith}
 use lib.ListN.{length, get_or}
@@ -78,7 +78,7 @@ b-index k n h = omega arith
 
 -- the first word of an element of canonical words
 first_word : (T : List ℕ) (from : ℕ) → get_or T from 0 < Q → get_or (part T from 64) 0 0 % Q ≡ get_or T from 0
-first_word T from h = ap (λ x. x % Q) (get_d_part 0 T from 64 0 (omega arith) ∙ ap (λ i. get_or T i 0) (add_zero from)) ∙ mod-eq_of_lt h
+first_word T from h = ap (λ x. x % Q) (get_d_part 0 T from 64 0 (omega arith) ∙ ap (λ i. get_or T i 0) (add-zero from)) ∙ mod-eq_of_lt h
 
 module _ {J R T : List ℕ} {params : EnvironmentParameters} (w : Sent J R T params) where
   -- the job's parameters

@@ -3,7 +3,7 @@ use mathlib.Core.Path.{◌≡◌, refl, ◌∙◌, sym, ap}
 use mathlib.Core.Bool.{Bool, true, false, cond, ◌&&◌}
 use mathlib.Core.List.{List, [], ◌∷◌}
 use Prim.Native.Nat.{ℕ, suc, ◌+◌, ◌≤◌, ◌<◌}
-use native.Mathlib.Nat.{zero-add, add_zero}
+use native.Mathlib.Nat.{zero-add, add-zero}
 use native.Mathlib.Omega.{arith}
 use lib.Dec.{ltb, eqb}
 use lib.ListN.{length}
@@ -29,10 +29,10 @@ steps_bad (b ∷ bs) = steps_bad bs
 
 -- k digits, at most ten, are a word where there is one
 one_to_ten_lem : (k : ℕ) → k ≤ 10 → (z : Bool) → eqb k 0 ≡ z → one_to_ten (k + 0) ≡ cond z false true
-one_to_ten_lem k h true e = rw (add_zero, eqb-true k 0 e)
+one_to_ten_lem k h true e = rw (add-zero, eqb-true k 0 e)
 one_to_ten_lem k h false e =
     let p : 1 ≤ k = omega (arith, eqb-false k 0 e) in
-    rw (add_zero, le-leb 1 k p, le-leb k 10 h)
+    rw (add-zero, le-leb 1 k p, le-leb k 10 h)
 
 -- eleven digits and more are no word
 too_many : (n : ℕ) → 10 < n → one_to_ten n ≡ false

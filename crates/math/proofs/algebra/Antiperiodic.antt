@@ -105,7 +105,7 @@ module _ (O : Ops) (R : CRing O) (d : ℕ) (pos : 0 < d) where
 
   -- the same for a power of X
   pub mul_F_shift : (s : ℕ) (a b : ℕ → Carrier) → Antiperiodic O d a → Antiperiodic O d b → (k : ℕ) → mul_f O d (λ i. a (i + s)) b k ≡ mul_f O d a b (k + s)
-  mul_F_shift zero a b p q k = ap₂ (λ x m. mul_f O d x b m) (fun_ext (λ i. ap a (Nat.add_zero i))) (sym (Nat.add_zero k))
+  mul_F_shift zero a b p q k = ap₂ (λ x m. mul_f O d x b m) (fun_ext (λ i. ap a (Nat.add-zero i))) (sym (Nat.add-zero k))
   mul_F_shift (suc s) a b p q k =
       ap (λ x. mul_f O d x b k) (fun_ext (λ i. ap a (before i)))
       ∙ mul_F_shift_one (λ i. a (i + s)) b (λ i. ap a (Nat.add_right_comm i d s) ∙ p (i + s)) q k

@@ -73,7 +73,7 @@ module _ (O : Ops) (R : CRing O) where
   -- a sum split after its first m terms
   pub sum_split : (m n : ℕ) (f : ℕ → Carrier) → sum O (m + n) f ≡ sum O m f ⊕ sum O n (λ i. f (m + i))
   unfolding sum
-  sum_split m zero f = ap (λ k. sum O k f) (Nat.add_zero m) ∙ sym (R.add-nil (sum O m f))
+  sum_split m zero f = ap (λ k. sum O k f) (Nat.add-zero m) ∙ sym (R.add-nil (sum O m f))
   sum_split m (suc n) f = ap (λ k. sum O k f) (Nat.add-suc m n) ∙ ap (λ s. s ⊕ f (m + n)) (sum_split m n f) ∙ R.add_assoc (sum O m f) (sum O n (λ i. f (m + i))) (f (m + n))
 
   -- the first term taken off
@@ -103,7 +103,7 @@ module _ (O : Ops) (R : CRing O) where
       ∙ sum_split k (n - 1 - k + 1) f
       ∙ ap₂ ◌⊕◌ (sum_is-nil k f (λ i l. z i (omega arith) (omega arith))) (sum_first (n - 1 - k) (λ i. f (k + i)))
       ∙ nil-add O R (f (k + 0) ⊕ sum O (n - 1 - k) (λ i. f (k + (i + 1))))
-      ∙ ap₂ ◌⊕◌ (ap f (Nat.add_zero k)) (sum_is-nil (n - 1 - k) (λ i. f (k + (i + 1))) (λ i l. z (k + (i + 1)) (omega arith) (omega arith)))
+      ∙ ap₂ ◌⊕◌ (ap f (Nat.add-zero k)) (sum_is-nil (n - 1 - k) (λ i. f (k + (i + 1))) (λ i l. z (k + (i + 1)) (omega arith) (omega arith)))
       ∙ R.add-nil (f k)
     where
       place : k < n → n ≡ k + (n - 1 - k + 1)

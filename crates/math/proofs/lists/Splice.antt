@@ -3,7 +3,7 @@ use mathlib.Core.Path.{◌≡◌, refl, sym, ap, ◌∙◌}
 use mathlib.Core.List.{List, [], ◌∷◌, ◌++◌, append_assoc}
 use mathlib.Core.Logic.{◌≢◌}
 use Prim.Native.Nat.{ℕ, zero, suc, ◌+◌, ◌-◌, ◌≤◌, ◌<◌}
-use native.Mathlib.Nat.{add_zero, add-suc, add_assoc}
+use native.Mathlib.Nat.{add-zero, add-suc, add_assoc}
 use native.Mathlib.Decide.{dec_lt, dec_le}
 use native.Mathlib.Numerals.{add-one}
 use native.Mathlib.Omega.{arith}
@@ -32,7 +32,7 @@ module _ {ℓ} {A : Type ℓ} where
   -- a second run right after the first
   pub splice-append : (l : List A) (at : ℕ) (new more : List A) → splice (splice l at new) (at + length new) more ≡ splice l at (new ++ more)
   unfolding splice
-  splice-append l at [] more = ap (λ k. sets l k more) (add_zero at)
+  splice-append l at [] more = ap (λ k. sets l k more) (add-zero at)
   splice-append l at (x ∷ new) more =
       let e : at + suc (length new) ≡ suc at + length new = omega arith in
       ap (λ k. sets (sets (set l at x) (suc at) new) k more) e ∙ splice-append (set l at x) (suc at) new more

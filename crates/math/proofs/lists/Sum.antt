@@ -3,7 +3,7 @@ use mathlib.Core.Path.{◌≡◌, refl, sym, ap, ap₂, ◌∙◌}
 use mathlib.Core.Bool.{cond}
 use mathlib.Core.Logic.{◌⊎◌, inl, inr}
 use Prim.Native.Nat.{ℕ, zero, suc, ◌+◌, ◌-◌, ◌*◌, ◌/◌, ◌%◌, ◌≤◌, ◌<◌}
-use native.Mathlib.Nat.{not-suc-le-zero, eq-or-lt_of_le, add_zero, add-suc, add_comm, add_assoc, add-sub_of_le, zero-mul, mul-zero, le_refl, add-mod-mod, mod-add-mod}
+use native.Mathlib.Nat.{not-suc-le-zero, eq-or-lt_of_le, add-zero, add-suc, add_comm, add_assoc, add-sub_of_le, zero-mul, mul-zero, le_refl, add-mod-mod, mod-add-mod}
 use native.Mathlib.Numerals.{add-one}
 use native.Mathlib.Omega.{arith}
 use borrow.Author.Tests.{eq-eqb, ne_eqb}
@@ -25,7 +25,7 @@ unfolding Σ
 pub Σ_zero : (n : ℕ) → Σ n (λ i. 0) ≡ 0
 unfolding Σ
 Σ_zero zero = refl
-Σ_zero (suc n) = add_zero (Σ n (λ i. 0)) ∙ Σ_zero n
+Σ_zero (suc n) = add-zero (Σ n (λ i. 0)) ∙ Σ_zero n
 
 -- a sum of n equal terms
 pub Σ_const : (n c : ℕ) → Σ n (λ i. c) ≡ n * c
@@ -70,7 +70,7 @@ unfolding Σ
 -- a sum split after its first m terms
 pub Σ_split : (m n : ℕ) (f : ℕ → ℕ) → Σ (m + n) f ≡ Σ m f + Σ n (λ i. f (m + i))
 unfolding Σ
-Σ_split m zero f = ap (λ k. Σ k f) (add_zero m) ∙ sym (add_zero (Σ m f))
+Σ_split m zero f = ap (λ k. Σ k f) (add-zero m) ∙ sym (add-zero (Σ m f))
 Σ_split m (suc n) f = ap (λ k. Σ k f) (add-suc m n) ∙ ap (λ s. s + f (m + n)) (Σ_split m n f) ∙ add_assoc (Σ m f) (Σ n (λ i. f (m + i))) (f (m + n))
 
 -- the first term taken off

@@ -3,7 +3,7 @@ use mathlib.Core.Path.{◌≡◌, refl, sym, ap, ◌∙◌}
 use mathlib.Core.List.{List, [], ◌∷◌, ◌++◌, map, map-append, append-nil, append_assoc}
 use mathlib.Core.Logic.{◌⊎◌, inl, inr}
 use Prim.Native.Nat.{ℕ, zero, suc, ◌+◌, ◌≤◌, ◌<◌}
-use native.Mathlib.Nat.{not-suc-le-zero, eq-or-lt_of_le, add_zero, add-suc}
+use native.Mathlib.Nat.{not-suc-le-zero, eq-or-lt_of_le, add-zero, add-suc}
 use native.Mathlib.Numerals.{add-one}
 use native.Mathlib.Omega.{arith}
 use lib.ListN.{length, get_or, take, drop, length-append, length-take, length-drop, get_or-append}
@@ -65,7 +65,7 @@ module _ {ℓ} {A : Type ℓ} where
   -- a table split after its first m entries
   pub table_split : (m n : ℕ) (f : ℕ → A) → table (m + n) f ≡ table m f ++ table n (λ i. f (m + i))
   unfolding table
-  table_split m zero f = ap (λ k. table k f) (add_zero m) ∙ sym (append-nil (table m f))
+  table_split m zero f = ap (λ k. table k f) (add-zero m) ∙ sym (append-nil (table m f))
   table_split m (suc n) f =
       ap (λ k. table k f) (add-suc m n) ∙ ap (λ l. l ++ (f (m + n) ∷ [])) (table_split m n f) ∙ append_assoc (table m f) (table n (λ i. f (m + i))) (f (m + n) ∷ [])
 

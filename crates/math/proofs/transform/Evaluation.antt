@@ -19,7 +19,7 @@ module _ (O : Ops) (R : CRing O) (d : ℕ) where
   infixl 70 ◌⊗◌
   -- a run of d terms of a function with period d has the same sum wherever it starts
   window : (f : ℕ → Carrier) → ((k : ℕ) → f (k + d) ≡ f k) → (s : ℕ) → sum O d (λ k. f (k + s)) ≡ sum O d f
-  window f h zero = sum_ext O d (λ k. f (k + 0)) f (λ k l. ap f (Nat.add_zero k))
+  window f h zero = sum_ext O d (λ k. f (k + 0)) f (λ k l. ap f (Nat.add-zero k))
   window f h (suc s) =
       sum_ext O d (λ k. f (k + suc s)) (λ k. f (k + 1 + s)) (λ k l. ap f (omega arith))
       ∙ add_cancel-left O R (f (0 + s)) (sum O d (λ k. f (k + 1 + s))) (sum O d (λ k. f (k + s)))

@@ -60,7 +60,7 @@ module _ (O : Ops) (R : CRing O) (g : O.Carrier) (root : pow O g 64 ≡ O.neg O.
   -- g^(a + b) = g^a · g^b
   pub pow-add : (a b : ℕ) → pow O g (a + b) ≡ pow O g a ⊗ pow O g b
   unfolding pow
-  pow-add a zero = ap (pow O g) (Nat.add_zero a) ∙ sym (R.mul-one (pow O g a))
+  pow-add a zero = ap (pow O g) (Nat.add-zero a) ∙ sym (R.mul-one (pow O g a))
   pow-add a (suc b) = ap (pow O g) (Nat.add-suc a b) ∙ ap (λ x. x ⊗ g) (pow-add a b) ∙ R.mul_assoc (pow O g a) (pow O g b) g
 
   -- half a turn is −1
@@ -161,7 +161,7 @@ module _ (O : Ops) (R : CRing O) (g : O.Carrier) (root : pow O g 64 ≡ O.neg O.
   -- what layer j gives at 2t and 2t + 1
   pub layer_even : (j : ℕ) (f : ℕ → Carrier) (t : ℕ) → layer O g j f (2 * t) ≡ f t ⊕ pow O g (exponent j t / 2) ⊗ f (t + 32)
   unfolding layer exponent
-  layer_even j f t = ap₂ (λ x y. f x ⊕ pow O g (exponent j x / 2 + 64 * y) ⊗ f (x + 32)) (half t) (bit t) ∙ ap (λ x. f t ⊕ pow O g x ⊗ f (t + 32)) (Nat.add_zero (exponent j t / 2))
+  layer_even j f t = ap₂ (λ x y. f x ⊕ pow O g (exponent j x / 2 + 64 * y) ⊗ f (x + 32)) (half t) (bit t) ∙ ap (λ x. f t ⊕ pow O g x ⊗ f (t + 32)) (Nat.add-zero (exponent j t / 2))
     where
       half : (t : ℕ) → 2 * t / 2 ≡ t
       half t = omega arith

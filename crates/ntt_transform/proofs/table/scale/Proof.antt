@@ -1,7 +1,7 @@
 -- `scale` meets its contract. The invariant: the powers of the primes before, and the first e of this one, are there.
 use mathlib.Core.Path.{◌≡◌, refl, sym, ◌∙◌, ap, ap₂}
 use Prim.Native.Nat.{ℕ, ◌+◌, ◌-◌, ◌*◌, ◌/◌, ◌%◌, ◌≤◌, ◌<◌}
-use native.Mathlib.Nat.{add_zero, mul-le-mul, mod-lt, add-mul-mod_self_right}
+use native.Mathlib.Nat.{add-zero, mul-le-mul, mod-lt, add-mul-mod_self_right}
 use native.Mathlib.Omega.{arith}
 use borrow.Author.Rules.{rules}
 use lib.ListN.{length, length-set}
@@ -72,7 +72,7 @@ scale-spec =
     (tie.spec
     invariant-loop
     decreases-loop
-    (λ c. (omega arith, c.before.requires.2 ∙ ap (λ m. padded 384 m 0 scaled) (sym (add_zero (128 * c.before.args.i))), refl))
+    (λ c. (omega arith, c.before.requires.2 ∙ ap (λ m. padded 384 m 0 scaled) (sym (add-zero (128 * c.before.args.i))), refl))
     (λ c. omega (arith, c.before.before.before.requires.0))
     (λ c. omega (arith, c.before.before.before.requires.0))
     (λ c. omega (arith, c.before.before.before.requires.0))

@@ -3,7 +3,7 @@ use mathlib.Core.Path.{◌≡◌, refl, sym, ◌∙◌, ap, ap₂}
 use mathlib.Core.Bool.{Bool, cond}
 use mathlib.Core.List.{List}
 use Prim.Native.Nat.{ℕ, ◌+◌, ◌-◌, ◌*◌, ◌≤◌}
-use native.Mathlib.Nat.{add_zero, add_assoc}
+use native.Mathlib.Nat.{add-zero, add_assoc}
 use native.Mathlib.Omega.{arith}
 use borrow.Author.Rules.{rules}
 use lib.ListN.{length}
@@ -34,7 +34,7 @@ decreases-loop sum a base parts total₀ sizes₀ k₀ total sizes k = parts - k
 
 loop-holds : tie.Need-loop-init invariant-loop decreases-loop
 unfolding Σ
-loop-holds c = (omega arith, sizes_first _ _ _ c.sizes-of.ensures, sym (add_zero _), omega arith)
+loop-holds c = (omega arith, sizes_first _ _ _ c.sizes-of.ensures, sym (add-zero _), omega arith)
 
 slice-aggregate-add-norm : tie.Need-slice-aggregate-add-norm invariant-loop decreases-loop
 slice-aggregate-add-norm c = search rules
@@ -69,7 +69,7 @@ returns c =
     let row : (q : ℕ) → l.k ≤ q → norm (digit_row s.base s.a q) ≡ 0 = λ q h. ap norm (rows_zero s.base s.a l.sizes l.k l.invariant.1 zero q h) ∙ norm_zero in
     let left = left_zero s.base s.a l.sizes l.k l.invariant.1 zero s.parts l.invariant.0 in (
       (l.invariant.2 ∙ ap (λ x. value128 s.sum.norm + x) (Σ_used l.k s.parts (λ q. norm (digit_row s.base s.a q)) l.invariant.0 row), omega arith),
-      sym (ap (λ t. s.sum.cells_left + cond t 0 1) left ∙ add_zero s.sum.cells_left),
+      sym (ap (λ t. s.sum.cells_left + cond t 0 1) left ∙ add-zero s.sum.cells_left),
     )
 
 returns-2 : tie.Need-returns-2 invariant-loop decreases-loop
@@ -79,7 +79,7 @@ returns-2 c =
     let n : l.k ≡ s.parts = omega arith in
     let left = nothing_left s.base s.parts l.k s.a l.sizes n l.invariant.1 c.before.is-zero2.ensures in (
       (l.invariant.2 ∙ ap (λ k. value128 s.sum.norm + Σ k (λ q. norm (digit_row s.base s.a q))) n, omega arith),
-      sym (ap (λ t. s.sum.cells_left + cond t 0 1) (left ∙ c.if2.true) ∙ add_zero s.sum.cells_left),
+      sym (ap (λ t. s.sum.cells_left + cond t 0 1) (left ∙ c.if2.true) ∙ add-zero s.sum.cells_left),
     )
 
 returns-3 : tie.Need-returns-3 invariant-loop decreases-loop

@@ -2,7 +2,7 @@
 use mathlib.Core.Path.{◌≡◌, refl, sym, ◌∙◌, ap}
 use mathlib.Core.List.{List}
 use Prim.Native.Nat.{ℕ, ◌+◌, ◌-◌, ◌*◌, ◌≤◌, ◌<◌, ◌^◌}
-use native.Mathlib.Nat.{add_zero}
+use native.Mathlib.Nat.{add-zero}
 use native.Mathlib.Omega.{arith}
 use lib.ListN.{length, get_or}
 use Rattle.math.specs.lists.Sum.{Σ}
@@ -30,7 +30,7 @@ loop-holds : tie.Need-loop-init invariant-loop decreases-loop
 unfolding Σ
 loop-holds c =
     let s = c.before.before.args.start in
-    let none = sym (add_zero s) in
+    let none = sym (add-zero s) in
     (omega arith, (none, omega arith), (none, omega arith), (none, omega arith), (none, omega arith))
 
 -- one more product

@@ -1,5 +1,5 @@
 -- `add_norm` meets its contract. The invariant: the total is the sum and the first k squares, and the carries are at most k.
-use Rattle.std.proofs.Common.{◌≡◌, ℕ, ◌+◌, ◌-◌, ◌*◌, ◌≤◌, get_or, sym, ap, ◌∙◌, ap₂, add_zero, add_assoc, arith}
+use Rattle.std.proofs.Common.{◌≡◌, ℕ, ◌+◌, ◌-◌, ◌*◌, ◌≤◌, get_or, sym, ap, ◌∙◌, ap₂, add-zero, add_assoc, arith}
 use Rattle.math.specs.lists.Sum.{Σ}
 use Rattle.math.proofs.lists.Sum.{Σ-suc}
 use Rattle.spec_leaves.specs.Zq.{size}
@@ -18,7 +18,7 @@ decreases-loop words at count total₀ k₀ total k = count - k
 
 loop-holds : tie.Need-loop-init invariant-loop decreases-loop
 unfolding Σ
-loop-holds c = (omega arith, sym (add_zero _), omega arith)
+loop-holds c = (omega arith, sym (add-zero _), omega arith)
 
 loop-again : tie.Need-loop-preserved invariant-loop decreases-loop
 loop-again c =

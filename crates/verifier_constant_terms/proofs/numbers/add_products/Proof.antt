@@ -1,7 +1,7 @@
 -- `add_products` meets its contract. The invariant: modulo Q the total is the sum and the first k products, and each product adds less than 2^39.
 use mathlib.Core.Path.{◌≡◌, refl, sym, ◌∙◌, ap, ap₂}
 use Prim.Native.Nat.{ℕ, ◌+◌, ◌-◌, ◌*◌, ◌/◌, ◌%◌, ◌≤◌, ◌^◌}
-use native.Mathlib.Nat.{add_zero, add_assoc}
+use native.Mathlib.Nat.{add-zero, add_assoc}
 use native.Mathlib.Omega.{arith}
 use lib.ListN.{get_or}
 use Rattle.math.specs.lists.Sum.{Σ}
@@ -37,7 +37,7 @@ decreases-loop sum x x-at y y-at count total₀ k₀ total k = count - k
 
 loop-holds : tie.Need-loop-init invariant-loop decreases-loop
 unfolding Σ
-loop-holds c = (omega arith, ap (λ x. x % Q) (sym (add_zero _)), omega arith)
+loop-holds c = (omega arith, ap (λ x. x % Q) (sym (add-zero _)), omega arith)
 
 -- the product is below 2^64
 product_at : (c : tie.After-wide2 invariant-loop decreases-loop) → c.before.before.wide.result * c.wide2.result ≤ 18446744065119617025
