@@ -1,6 +1,5 @@
 -- A word as an i64, and a word less Q.
-use Rattle.std.proofs.Common.{◌≡◌, ℕ, suc, ◌-◌, ◌^◌, ◌<◌, Bool, true, false, cond, ltb, ℤ, pos, negsuc, ◌-ℤ◌, refl, arith, w64, SFits, to_z}
-use lib.IntN.{sub_ℕ}
+use Rattle.std.proofs.Common.{◌≡◌, ℕ, suc, ◌-◌, ◌^◌, ◌<◌, Bool, true, false, cond, ltb, pos, negsuc, ◌-ℤ◌, arith, w64, SFits, to_z}
 use Rattle.spec_leaves.specs.Zq.{Q}
 use mir.ValLaws.{to_z_pos}
 

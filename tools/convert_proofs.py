@@ -1,0 +1,418 @@
+#!/usr/bin/env python3
+"""Turns a crate's Proof.antt files, as port.py leaves them, to Invariants.antt and Answers.antt.
+
+usage: convert_proofs.py CRATE_FOLDER NAMES_JSON [FUNCTION_PATH...]
+
+NAMES_JSON is what `rt check --generated DIR --old-names` writes. A Proof.antt that it can't read is left, and a line says why.
+"""
+import json
+import os
+import re
+import sys
+
+SEG = r"[^\s(){}.;,@\"«»\[\]|]+"
+TRIVIAL = {"omega arith", "search rules", "search needs", "tt", "refl", "search common", "(omega arith)", "omega (arith)"}
+ROOT = {"args", "requires", "ranges", "lifetimes", "well_formed", "utf8", "type_inv", "blocks"}
+
+
+def norm(s):
+    return s.replace("-", "_")
+
+
+def split_decls(text):
+    """Header (comments and uses) and a list of (comment, [lines])."""
+    lines = text.rstrip("\n").split("\n")
+    head, i = [], 0
+    while i < len(lines) and (lines[i].startswith("--") or lines[i].startswith("use ") or lines[i].startswith("pub use") or not lines[i].strip()):
+        head.append(lines[i])
+        i += 1
+    # comments that stand right before the first declaration belong to it
+    tail = []
+    while head and (head[-1].startswith("--") or not head[-1].strip()) and any(h.startswith("use ") for h in head):
+        if head[-1].startswith("--"):
+            tail.insert(0, head.pop())
+        else:
+            head.pop()
+    decls, comment, cur = [], tail, []
+
+    def flush():
+        nonlocal cur, comment
+        if cur:
+            while cur and not cur[-1].strip():
+                cur.pop()
+            decls.append((comment, cur))
+            cur, comment = [], []
+
+    k = i
+    while k < len(lines):
+        l = lines[k]
+        if not l.strip():
+            if cur and (k + 1 < len(lines) and not lines[k + 1].startswith((" ", "\t"))):
+                flush()
+            elif cur:
+                cur.append(l)
+        elif l.startswith("--"):
+            if cur:
+                flush()
+            comment.append(l)
+        else:
+            cur.append(l)
+        k += 1
+    flush()
+    return head, decls
+
+
+def top_args(text):
+    """Splits an application's arguments at top level."""
+    out, depth, cur = [], 0, ""
+    i = 0
+    while i < len(text):
+        ch = text[i]
+        if ch in "([{":
+            depth += 1
+        if ch in ")]}":
+            depth -= 1
+        if ch.isspace() and depth == 0:
+            if cur:
+                out.append(cur)
+                cur = ""
+        else:
+            cur += ch
+        i += 1
+    if cur:
+        out.append(cur)
+    return out
+
+
+class Function:
+    def __init__(self, entry):
+        self.e = entry
+        self.parent, self.step, self.new_place, self.callee = {}, {}, {}, {}
+        for (old, par, field, callee, extra), new in zip(entry["places"], entry["places_by_name"]):
+            self.parent[old] = par
+            self.step[old] = field
+            self.callee[old] = callee or ""
+            self.new_place[old] = new
+        self.by_norm = {norm(o): o for o in self.parent}
+        self.args = {}
+        self.named = set()
+        for a in entry.get("args") or []:
+            if isinstance(a, list) and len(a) == 2:
+                self.args[a[0]] = a[1]
+
+    def place(self, name):
+        return self.by_norm.get(norm(name))
+
+    def resolve(self, place, segs):
+        """('place', p) or ('path', [segs]) behind c; None where it can't be read."""
+        segs = list(segs)
+        while segs and segs[0] == "before":
+            place = self.parent.get(place)
+            if place is None:
+                return None
+            segs.pop(0)
+        if not segs:
+            return ("place", place)
+        s = segs[0]
+        if s in ROOT:
+            if s == "args" and len(segs) > 1 and segs[1] in self.args:
+                segs[1] = self.args[segs[1]]
+            return ("path", segs)
+        p = place
+        while p is not None:
+            old, new = self.step[p]
+            if old and (norm(old) == norm(s) or norm(new) == norm(s)):
+                rest = segs[1:]
+                if rest == ["ensures"] and re.match(r"(core|std\w*)::", self.callee[p]):
+                    rest = ["ensures", "value"]
+                if rest and rest[0] == "taken":
+                    rest[0] = "false" if p.startswith("Else") or p.startswith("After-loop") else "true"
+                return ("path", [new] + rest)
+            p = self.parent[p]
+        return None
+
+
+def convert_body(fn, text, env, goal, problems, record_vars=()):
+    """Rewrites paths from context variables. env: variable -> place."""
+    env = dict(env)
+    aliases, wanted = {}, []
+    # lets that name a context
+    changed = True
+    while changed:
+        changed = False
+        for m in re.finditer(r"\blet (" + SEG + r") = (" + SEG + r"(?:\." + SEG + r")*) in[ \n]\s*", text):
+            var, path = m[1], m[2].split(".")
+            if path[0] in env:
+                r = fn.resolve(env[path[0]], path[1:])
+                if r and r[0] == "place":
+                    env[var] = aliases[var] = r[1]
+                    text = text[: m.start()] + text[m.end():]
+                    changed = True
+                    break
+
+    def sub(m):
+        var, rest = m[1], m[2]
+        if var not in env:
+            return m[0]
+        segs = [s for s in rest.split(".") if s]
+        r = fn.resolve(env[var], segs)
+        if r is None:
+            problems.append(f"path {var}{rest}")
+            return m[0]
+        base = var if var in record_vars else "c"
+        if r[0] == "path":
+            if base not in record_vars and record_vars:
+                base = record_vars[0]
+            return base + "." + ".".join(r[1])
+        if record_vars:
+            return m[0]
+        if not segs and var in aliases:
+            fn.named.add(fn.new_place[r[1]])
+            if var not in wanted:
+                wanted.append(var)
+            return var
+        fn.named.add(fn.new_place[r[1]])
+        return f"(goal.at.{goal} c).{fn.new_place[r[1]]}"
+
+    text = re.sub(r"(?<![^\s(){};,\[\]|@])(" + SEG + r")((?:\." + SEG + r")*)", sub, text)
+    for var in reversed(wanted):
+        text = f"\n    let {var} = (goal.at.{goal} c).{fn.new_place[aliases[var]]} in" + (text if text.startswith("\n") else " " + text.lstrip())
+    return text
+
+
+def fix_tie_types(fn, text, problems):
+    """tie.PLACE inv μ -> goal.NEWPLACE; answers the text and the places that were met."""
+    met = []
+
+    def sub(m):
+        p = fn.place(m[1])
+        if p is None:
+            problems.append(f"type tie.{m[1]}")
+            return m[0]
+        met.append(p)
+        fn.named.add(fn.new_place[p])
+        return fn.new_place[p]
+
+    text = re.sub(r"tie\.((?:After|At|In|Then|Else|Start)[^\s(){}.;,]*)((?: (?:invariant|decreases)[^\s(){}.;,]*)*)", sub, text)
+    return text, met
+
+
+def convert(path, base, fn, inv_names):
+    problems = []
+    text = open(path, encoding="utf-8").read()
+    head, decls = split_decls(text)
+    e = fn.e
+    m = re.search(r"tie\.close\s*\(\s*tie\.spec\b", text)
+    if not m:
+        m2 = re.search(r"tie\.close\s+tie\.spec\b", text)
+        if not m2:
+            return None, ["no tie.spec"]
+        args = []
+    else:
+        tail = text[m.end():]
+        depth, k = 1, 0
+        while k < len(tail) and depth:
+            depth += (tail[k] in "([{") - (tail[k] in ")]}")
+            k += 1
+        args = top_args(tail[: k - 1])
+    loops = e["loops"]
+    nl = len(loops)
+    needs = e["needs"]
+    extra = len(args) - len(needs)
+    if extra != 2 * nl and not (extra == 1 and nl == 0) and extra != nl:
+        return None, [f"tie.spec has {len(args)} arguments, {len(needs)} needs, {nl} loops"]
+    need_args = args[extra:]
+    loop_args = args[:extra]
+    by_decl = {}
+    inline = {}
+    for i, a in enumerate(need_args):
+        if re.fullmatch(SEG, a):
+            by_decl.setdefault(a, []).append(i)
+        else:
+            inline[i] = a
+    inv_out, ans_out, helpers = [], [], []
+    local_inv_helpers = set()
+    old_of_new = {}
+    done = set()
+    for comment, lines in decls:
+        body = "\n".join(lines)
+        m = re.match(r"(?:(?:abbrev|unfoldable|pub)\s+)*(" + SEG + r")((?: \{[^}]*\})*) :\s", body)
+        name = m[1] if m else None
+        if "tie.close" in body:
+            continue
+        if m and re.search(r":\s+tie\.(invariant|decreases)\b", body.split("\n")[0]):
+            kind = re.search(r":\s+tie\.(invariant|decreases)[^\s]*", body)[0]
+            if name not in loop_args:
+                problems.append(f"{name} is not in tie.spec")
+                return None, problems
+            at = loop_args.index(name)
+            # tie.spec takes the invariants first, then the measures, or pairs: told by the kind
+            same = [a for a in loop_args if ("decreases" in a or a.startswith("μ")) == ("decreases" in kind)]
+            li = [a for a in loop_args if re.search(r"^abbrev " + re.escape(a) + r" : tie\." + ("decreases" if "decreases" in kind else "invariant"), text, re.M)].index(name)
+            (oldl, newl), vars_ = loops[li]
+            changed = e["changed"][li]
+            rest = body.split("\n", 1)[1]
+            mm = re.match(re.escape(name) + r"((?:\s+" + SEG + r")*?)\s+=(?=\s)", rest)
+            if not mm:
+                problems.append(f"{name}: no parameters")
+                return None, problems
+            params = mm[1].split()
+            expr = rest[mm.end():]
+            want = len(vars_) + sum(changed)
+            if len(params) != want:
+                problems.append(f"{name}: {len(params)} parameters, {want} wanted: {vars_} {changed}")
+                return None, problems
+            repl = {}
+            for i, v in enumerate(vars_):
+                repl[params[i]] = f"l.initial.{v}" if changed[i] else f"l.{v}"
+            ch = [v for i, v in enumerate(vars_) if changed[i]]
+            for j, v in enumerate(ch):
+                repl[params[len(vars_) + j]] = f"l.{v}"
+            repl.pop("_", None)
+            binders = set(w for b in re.findall(r"λ ([^.]*)\.", expr) for w in re.findall(SEG, b)) | set(re.findall(r"\((" + SEG + r") :", expr)) | set(re.findall(r"\blet (" + SEG + r") [=:]", expr))
+            lets = [p for p in repl if p in binders]
+            for p in lets:
+                expr = re.sub(r"^(\s*)", lambda q: f"{q[1]}let {p} = {repl[p]} in ", expr, count=1)
+            def psub(q):
+                return repl[q[1]] + q[2] if q[1] in repl and q[1] not in lets else q[0]
+            expr = re.sub(r"(?<![^\s(){};,\[\]|@])(" + SEG + r")((?:\." + SEG + r")*)", psub, expr)
+            word = "decreases" if "decreases" in kind else "invariant"
+            inv_out.append(("\n".join(comment) + "\n" if comment else "") + f"abbrev pub {word}-{newl} : goal.{word}-{newl}\n{word}-{newl} l ={expr}")
+            continue
+        if m and re.search(r":\s+tie\.Need-", body.split("\n")[0]):
+            idx = by_decl.get(name)
+            if not idx:
+                problems.append(f"{name}: not used in tie.spec")
+                continue
+            for i in idx:
+                new = needs[i][1]
+                place = e["asked_at"][i][0]
+                rest = body.split("\n", 1)[1]
+                unf = ""
+                while rest.startswith("unfolding"):
+                    u, rest = rest.split("\n", 1)
+                    unf += u + "\n"
+                mm = re.match(re.escape(name) + r"((?:\s+" + SEG + r")*?)\s+=(?=\s)", rest)
+                if not mm:
+                    problems.append(f"{name}: clause")
+                    return None, problems
+                params = mm[1].split()
+                expr = rest[mm.end():]
+                if not params:
+                    params = ["c"]
+                cvar = params[0]
+                expr = convert_body(fn, expr, {cvar: place}, new, problems)
+                if expr.strip() in TRIVIAL and not unf:
+                    continue
+                ans_out.append(("\n".join(comment) + "\n" if comment else "") + f"pub {new} : goal.{new}\n{unf}{new} c ={expr}")
+            continue
+        # a helper
+        if "tie." in body:
+            body2, met = fix_tie_types(fn, body, problems)
+            env = {}
+            k = 0
+            for b in re.finditer(r"\((" + SEG + r"(?: " + SEG + r")*) : tie\.((?:After|At|In|Then|Else|Start)[^\s(){}.;,]*)", body):
+                p = fn.place(b[2])
+                if p:
+                    for v in b[1].split():
+                        env[v] = p
+            # the clause's own names for these
+            if env:
+                first = list(env)[0]
+                sig, _, clause = body2.partition("\n")
+                body2 = convert_body(fn, body2, env, "?", problems, record_vars=tuple(env))
+            body = body2
+        helpers.append((comment, name, body))
+    # inline answers
+    for i, a in inline.items():
+        new = needs[i][1]
+        place = e["asked_at"][i][0]
+        mm = re.match(r"\(λ\s+(" + SEG + r"(?: " + SEG + r")*)\.\s*", a)
+        if not mm:
+            problems.append(f"inline {new}: {a[:60]}")
+            continue
+        expr = a[mm.end():-1]
+        cvar = mm[1].split()[0]
+        expr = convert_body(fn, expr, {cvar: place}, new, problems)
+        if expr.strip() in TRIVIAL:
+            continue
+        ans_out.append(f"pub {new} : goal.{new}\n{new} c = {expr}")
+    # helpers that an invariant names
+    inv_text = "\n".join(inv_out)
+    need_in_inv, grew = set(), True
+    while grew:
+        grew = False
+        for comment, name, body in helpers:
+            if name and name not in need_in_inv and not any(w in body for w in fn.named):
+                src = inv_text + "\n".join(b for c, n, b in helpers if n in need_in_inv)
+                if re.search(r"(?<![^\s(){};,\[\]|@.])" + re.escape(name) + r"(?![^\s(){};,\[\]|.])", src):
+                    need_in_inv.add(name)
+                    grew = True
+    uses = [h for h in head if h.startswith("use ") and ".Statement." not in h and not h.endswith(".Tie as tie")]
+    comments = [h for h in head if h.startswith("--")]
+    inv_parts, ans_parts = [], []
+    for comment, name, body in helpers:
+        t = ("\n".join(comment) + "\n" if comment else "")
+        if name in need_in_inv:
+            if not body.startswith(("pub ", "abbrev pub", "unfoldable pub")):
+                if body.startswith("abbrev "):
+                    body = "abbrev pub " + body[len("abbrev "):]
+                elif body.startswith("unfoldable "):
+                    body = "unfoldable pub " + body[len("unfoldable "):]
+                else:
+                    body = "unfoldable pub " + body
+            inv_parts.append(t + body)
+        else:
+            ans_parts.append(t + body)
+    inv_parts += inv_out
+    ans_parts += ans_out
+    out = {}
+    if inv_parts:
+        out["Invariants.antt"] = "\n".join(comments + uses + [f"use {base}.Given as goal"]) + "\n\n" + "\n\n".join(inv_parts) + "\n"
+    if ans_out or (ans_parts and not inv_parts and ans_out):
+        if fn.named:
+            uses = uses + [f"use {base}.Goals.{{{', '.join(sorted(fn.named))}}}"]
+        extra_use = [f"use {base}.Invariants.{{{', '.join(sorted(need_in_inv))}}}"] if need_in_inv else []
+        body = "\n\n".join(ans_parts)
+        out["Answers.antt"] = "\n".join(([] if inv_parts else comments) + uses + extra_use + [f"use {base}.Goals as goal"]) + "\n\n" + body + "\n"
+    return out, problems
+
+
+def main(argv):
+    crate, names = argv[0].rstrip("/"), json.load(open(argv[1]))
+    only = argv[2:]
+    for folder, dirs, files in os.walk(os.path.join(crate, "proofs")):
+        if "Proof.antt" not in files:
+            continue
+        rel = os.path.relpath(folder, os.path.join(crate, "proofs")).replace(os.sep, ".")
+        if only and rel not in only:
+            continue
+        name = os.path.basename(crate)
+        key = f"Rattle-{name}-proofs.{rel}.Lts"
+        path = os.path.join(folder, "Proof.antt")
+        text = open(path, encoding="utf-8").read()
+        if key not in names:
+            print("left:", rel, "has no names")
+            continue
+        if "tie.spec" not in text:
+            print("left:", rel, "is a walk")
+            continue
+        try:
+            out, problems = convert(path, f"Rattle.{name}.proofs.{rel}", Function(names[key]), None)
+        except Exception as ex:
+            print("left:", rel, "failed:", repr(ex))
+            continue
+        if out is None:
+            print("left:", rel, "; ".join(problems))
+            continue
+        for p in problems:
+            print("look:", rel, p)
+        os.remove(path)
+        for f, t in out.items():
+            with open(os.path.join(folder, f), "w", encoding="utf-8") as g:
+                g.write(t)
+        if not os.listdir(folder):
+            os.rmdir(folder)
+
+
+main(sys.argv[1:])
