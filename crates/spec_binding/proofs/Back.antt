@@ -1,7 +1,7 @@
 -- Digits from which nothing is left bind the cells themselves (document 02, Items 2 and 5): cells that come back from the same digits are the same.
 use mathlib.Core.Path.{◌≡◌, refl, sym, ap, ◌∙◌}
-use mathlib.Core.List.{List, ◌++◌, flat_map}
-use Prim.Native.Nat.{ℕ, ◌+◌, ◌*◌, ◌≤◌, ◌<◌}
+use mathlib.Core.List.{List, ◌++◌}
+use Prim.Native.Nat.{ℕ, ◌+◌, ◌*◌, ◌<◌}
 use native.Mathlib.Omega.{arith}
 use lib.ListN.{length, get_or, take, drop}
 use lib.Seq.{ext_get_or, take_at, drop_at}
@@ -13,9 +13,9 @@ use Rattle.math.proofs.lists.Cat.{cat-table-within, get_or-cat-table}
 use Rattle.spec_leaves.specs.Digits.{digit, digits, leftover, size_after}
 use Rattle.spec_leaves.specs.Recompose.{recompose}
 use Rattle.spec_leaves.specs.Rq.{Element, coeff, digit_row}
-use Rattle.spec_leaves.specs.Ring.{RqOps, words}
+use Rattle.spec_leaves.specs.Ring.{words}
 use Rattle.spec_leaves.proofs.RqRing.{words_path}
-use Rattle.spec_protocol.specs.Formulas.{digit_element, digits_of, rows, triangle}
+use Rattle.spec_protocol.specs.Formulas.{digit_element, digits_of}
 use Rattle.spec_protocol.specs.CellsBack.{Back}
 use Rattle.spec_protocol.proofs.Flat.{length-words}
 use Rattle.spec_protocol.proofs.Norms.{words-digit}

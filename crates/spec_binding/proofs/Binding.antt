@@ -1,6 +1,6 @@
 -- What two openings of one commitment give away (document 02, Item 13), over the accepted verdict as the definitions have it.
-use mathlib.Core.Path.{◌≡◌, sym, ap, ap₂, ◌∙◌}
-use mathlib.Core.List.{List, [], ◌∷◌, ◌++◌, flat_map}
+use mathlib.Core.Path.{◌≡◌, sym, ap, ◌∙◌}
+use mathlib.Core.List.{List, [], ◌∷◌, flat_map}
 use Prim.Native.Nat.{ℕ, ◌+◌, ◌*◌, ◌≤◌, ◌<◌}
 use native.Mathlib.Decide.{dec_le}
 use native.Mathlib.Omega.{arith}
@@ -8,14 +8,14 @@ use lib.ListN.{length, length-append}
 use Rattle.math.specs.lists.Table.{table}
 use Rattle.math.proofs.lists.Table.{length-table}
 use Rattle.math.proofs.lists.Part.{length_flat_map}
-use Rattle.spec_leaves.specs.Answer.{failed, accepted}
+use Rattle.spec_leaves.specs.Answer.{failed}
 use Rattle.spec_leaves.specs.Rq.{Element}
 use Rattle.spec_leaves.specs.Ring.{words}
 use Rattle.spec_leaves.proofs.RqRing.{words_path}
 use Rattle.spec_protocol.specs.Checks.{require}
-use Rattle.spec_protocol.specs.Parameters.{parameters, T}
+use Rattle.spec_protocol.specs.Parameters.{parameters}
 use Rattle.spec_protocol.specs.Views.{Public, public, Message}
-use Rattle.spec_protocol.specs.Formulas.{◌⊕◌, norm_of, digit_element, digits_of, rows, triangle, times, t_digits, g_digits, h_digits, u₁_of, u₂_of}
+use Rattle.spec_protocol.specs.Formulas.{norm_of, digit_element, digits_of, rows, triangle, times, t_digits, g_digits, h_digits, u₁_of, u₂_of}
 use Rattle.spec_protocol.specs.Verifier.{same, z_parts, check_23, check_28, check_29}
 use Rattle.spec_protocol.proofs.Fine.{required, failed_not-fine}
 use Rattle.spec_protocol.proofs.First.{first-each}

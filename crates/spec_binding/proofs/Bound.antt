@@ -1,12 +1,11 @@
 -- Where no cell has something left in both verdicts, t, g and h themselves are bound (document 02, Items 5 and 13): one verdict is not enough (`one_is_not-enough`).
-use mathlib.Core.Path.{◌≡◌, sym, ap, ◌∙◌}
+use mathlib.Core.Path.{◌≡◌}
 use mathlib.Core.List.{List, []}
-use Prim.Native.Nat.{ℕ, ◌+◌, ◌≤◌, ◌<◌}
+use Prim.Native.Nat.{ℕ, ◌+◌}
 use native.Mathlib.Omega.{arith}
-use Rattle.spec_leaves.specs.Rq.{Element}
 use Rattle.spec_protocol.specs.Parameters.{parameters}
 use Rattle.spec_protocol.specs.Views.{public}
-use Rattle.spec_protocol.specs.Formulas.{rows, triangle, t_digits, g_digits, h_digits, cells_left_of}
+use Rattle.spec_protocol.specs.Formulas.{rows, triangle, t_digits, g_digits}
 use Rattle.spec_protocol.specs.CellsBack.{AllBack}
 use Rattle.spec_protocol.proofs.CellsLeft.{none_exactly_when}
 use Rattle.spec_binding.specs.Openings.{columns_B, sent, opening_1, opening_2, EqualU1, EqualU2, GivenAway1, GivenAway2, Accepted, SameTG, SameH}

@@ -1,11 +1,10 @@
 -- Two vectors with the same image under a matrix: their difference is a short vector that it sends to zero.
-use mathlib.Core.Path.{◌≡◌, sym, ap, ap₂, ◌∙◌}
+use mathlib.Core.Path.{◌≡◌, sym, ap, ◌∙◌}
 use mathlib.Core.List.{List}
-use Prim.Native.Nat.{ℕ, ◌+◌, ◌*◌, ◌≤◌, ◌<◌}
+use Prim.Native.Nat.{ℕ, ◌*◌, ◌≤◌, ◌<◌}
 use native.Mathlib.Omega.{arith}
-use lib.ListN.{length, get_or}
+use lib.ListN.{length}
 use lib.Seq.{ext_get_or}
-use Rattle.math.specs.lists.Table.{table}
 use Rattle.math.proofs.lists.Table.{length-table, get_or-table}
 use Rattle.math.proofs.algebra.Ring.{add-neg, eq_of_sub_nil}
 use Rattle.spec_leaves.specs.Rq.{Element}

@@ -1,10 +1,10 @@
 -- A row of a matrix times a vector: linear over vectors, and over two matrices side by side.
-use mathlib.Core.Path.{◌≡◌, sym, ap, ap₂, ◌∙◌}
+use mathlib.Core.Path.{◌≡◌, ap, ap₂, ◌∙◌}
 use mathlib.Core.Bool.{cond}
 use mathlib.Core.List.{List, ◌++◌}
-use Prim.Native.Nat.{ℕ, ◌+◌, ◌-◌, ◌≤◌, ◌<◌}
+use Prim.Native.Nat.{ℕ, ◌+◌, ◌-◌}
 use native.Mathlib.Omega.{arith}
-use lib.ListN.{length, get_or, length-append, get_or-append}
+use lib.ListN.{length, length-append, get_or-append}
 use lib.Seq.{get_or-append-add}
 use borrow.Author.Tests.{lt-ltb, le-ltb}
 use Rattle.math.specs.lists.Table.{table}
@@ -15,7 +15,7 @@ use Rattle.math.proofs.algebra.Dot.{dot-sub_right}
 use Rattle.spec_leaves.specs.Rq.{Element}
 use Rattle.spec_leaves.specs.Ring.{RqOps}
 use Rattle.spec_leaves.proofs.RqRing.{rq_ring}
-use Rattle.spec_protocol.specs.Formulas.{◌⊕◌, ◌⊗◌, sum, dot, times}
+use Rattle.spec_protocol.specs.Formulas.{◌⊕◌, ◌⊗◌, sum, times}
 use Rattle.spec_binding.specs.Openings.{nil, neg, entry, difference, beside}
 
 -- a row times a difference is the difference of the row's products

@@ -1,5 +1,5 @@
 -- When all 64 words of a list are 0.
-use mathlib.Core.Path.{◌≡◌, sym, ap, ◌∙◌}
+use mathlib.Core.Path.{◌≡◌, ap, ◌∙◌}
 use mathlib.Core.Bool.{true, false}
 use mathlib.Core.List.{List, List-discrete}
 use Prim.Native.Nat.{ℕ, ◌<◌}

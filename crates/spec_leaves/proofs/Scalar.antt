@@ -2,7 +2,6 @@
 use mathlib.Core.Path.{◌≡◌, refl, sym, ap, ap₂, ◌∙◌}
 use Prim.Native.Nat.{ℕ, zero, suc, ◌+◌, ◌*◌, ◌%◌, ◌<◌}
 use lib.Dec.{lit<}
-use Rattle.math.specs.algebra.Ops.{sum}
 use Rattle.math.proofs.algebra.Ring.{double_cancel, mul-nil}
 use Rattle.math.proofs.algebra.Antiperiodic.{Anti, const_F, const_mul_F}
 use Rattle.spec_leaves.specs.Zq.{Q, half_Q}

@@ -1,5 +1,5 @@
 -- The digit rule (document 01, "Leaves"). A size s in base b gives a remainder and the size that goes on; both are kept as sizes, the remainder's sign beside it.
-use Rattle.std.specs.Prelude.{Bool, true, false, cond, List, ℕ, zero, suc, ◌+◌, ◌-◌, ◌/◌, ◌%◌, ltb}
+use Rattle.std.specs.Prelude.{Bool, cond, List, ℕ, zero, suc, ◌+◌, ◌-◌, ◌/◌, ◌%◌, ltb}
 use Rattle.std.specs.Bool.{xor}
 use Rattle.math.specs.lists.Table.{table, padded}
 use Rattle.spec_leaves.specs.declared.answers.Decomposed.{Decomposed}

@@ -1,5 +1,5 @@
 -- "Jobs accepted before answer as before." (document 02, Item 4): the prover's calls and the verifier with K and l from 1 on, as they were before, and that they answer the same.
-use mathlib.Core.Path.{◌≡◌, refl, ap, ◌∙◌}
+use mathlib.Core.Path.{◌≡◌, refl, ap}
 use mathlib.Core.Bool.{Bool, true, false, cond}
 use mathlib.Core.List.{List, ◌++◌}
 use Prim.Native.Nat.{ℕ, ◌≤◌}
@@ -9,7 +9,7 @@ use lib.ListN.{length, drop}
 use Rattle.spec_leaves.specs.Zq.{top_Q}
 use Rattle.spec_leaves.specs.Answer.{Answer, fine, refused, result_of, ◌then◌}
 use Rattle.spec_leaves.specs.Leaf.{limited}
-use Rattle.spec_protocol.specs.Parameters.{Parameters, parameters, limits, enough_aggregations}
+use Rattle.spec_protocol.specs.Parameters.{Parameters, parameters, enough_aggregations}
 use Rattle.spec_protocol.specs.Layout.{span, counted, layout, ranged, first_section, job_sections, job_refusal}
 use Rattle.spec_protocol.specs.Layout.{randomness_refusal, witness_refusal, transcript_refusal, scratch_refusal, output_refusal, scratch_need}
 use Rattle.spec_protocol.specs.Views.{public, message, witness}

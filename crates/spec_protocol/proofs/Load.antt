@@ -8,9 +8,9 @@ use Rattle.spec_leaves.specs.Zq.{top_Q}
 use Rattle.spec_leaves.specs.Answer.{fine, accepted, refused, ◌then◌}
 use Rattle.spec_leaves.specs.Leaf.{limited}
 use Rattle.spec_leaves.proofs.Leaf.{limited-fine}
-use Rattle.spec_protocol.specs.Parameters.{parameters, some_constraint, limits, enough_aggregations}
+use Rattle.spec_protocol.specs.Parameters.{some_constraint, limits, enough_aggregations}
 use Rattle.spec_protocol.specs.Layout.{span, sections, transcript_sections, scratch_need, randomness_refusal}
-use Rattle.spec_protocol.specs.Views.{public, witness}
+use Rattle.spec_protocol.specs.Views.{public}
 use Rattle.spec_protocol.specs.Prover.{whole, prove_refusal, prove, prove_output}
 use Rattle.spec_protocol.specs.Verifier.{verify}
 use Rattle.spec_protocol.specs.Conditions.{cells_left, conditions}

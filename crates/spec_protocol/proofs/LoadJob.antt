@@ -14,17 +14,17 @@ use Rattle.math.proofs.lists.Table.{length-table, get_or-table}
 use Rattle.math.proofs.lists.Part.{part_of-part}
 use Rattle.math.proofs.algebra.Form.{form_ext}
 use Rattle.spec_leaves.specs.Zq.{Q}
-use Rattle.spec_leaves.specs.Answer.{fine, refused, ◌then◌}
+use Rattle.spec_leaves.specs.Answer.{fine, refused}
 use Rattle.spec_leaves.specs.Rq.{Element, coeff, AllCanonical, rzero, rsub}
 use Rattle.spec_leaves.specs.Ring.{RqOps, words, element}
 use Rattle.spec_leaves.proofs.Bridge.{coeff-canonical, element-rsub, words-nil}
 use Rattle.spec_leaves.proofs.RqRing.{rq_ring}
 use Rattle.spec_leaves.proofs.ZqRing.{zsub_zero}
-use Rattle.spec_protocol.specs.Parameters.{Parameters, parameters, T, limits, enough_aggregations}
-use Rattle.spec_protocol.specs.Layout.{Section, canonical, part, span, start, sections, counted, layout, ranged, first_section, job_sections, randomness_sections}
+use Rattle.spec_protocol.specs.Parameters.{parameters, T, limits, enough_aggregations}
+use Rattle.spec_protocol.specs.Layout.{Section, canonical, part, span, start, sections, counted, layout, first_section, job_sections, randomness_sections}
 use Rattle.spec_protocol.specs.Layout.{witness_sections, job_refusal, randomness_refusal, witness_refusal}
-use Rattle.spec_protocol.specs.Views.{Public, public, witness, element_at, cell}
-use Rattle.spec_protocol.specs.Formulas.{left, flat}
+use Rattle.spec_protocol.specs.Views.{public, element_at, cell}
+use Rattle.spec_protocol.specs.Formulas.{left}
 use Rattle.spec_protocol.specs.Conditions.{constant_error, ring_error}
 use Rattle.spec_protocol.specs.Load.{Given, section_one, load_parameters, load_job_sections, job_rules, witness_rules, randomness_rules, drawn, job_drawn, after_job}
 use Rattle.spec_protocol.specs.Load.{after_witness, load_witness, load_randomness, blank_job, blank, load_vectors, b₀_words, b_words, load_job}

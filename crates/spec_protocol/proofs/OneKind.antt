@@ -1,19 +1,18 @@
 -- Statements of one kind only (document 02, Item 4).
-use mathlib.Core.Path.{◌≡◌, sym, ap, ◌∙◌}
+use mathlib.Core.Path.{◌≡◌, ap, ◌∙◌}
 use Prim.Native.Nat.{ℕ, ◌+◌, ◌*◌, ◌%◌, ◌≤◌}
 use native.Mathlib.Decide.{dec_le}
 use native.Mathlib.Omega.{arith}
-use lib.Dec.{ltb}
 use borrow.Author.Tests.{le-ltb}
 use Rattle.math.specs.lists.Sum.{Σ}
 use Rattle.math.specs.algebra.Ops as Ops
 use Rattle.spec_leaves.specs.Zq.{Q, top_Q}
-use Rattle.spec_leaves.specs.Answer.{Answer, fine, refused, ◌then◌}
+use Rattle.spec_leaves.specs.Answer.{Answer, refused, ◌then◌}
 use Rattle.spec_leaves.specs.Leaf.{limited}
 use Rattle.spec_leaves.specs.Rq.{Element, rzero}
-use Rattle.spec_leaves.specs.Ring.{RqOps, words}
+use Rattle.spec_leaves.specs.Ring.{words}
 use Rattle.spec_leaves.proofs.Bridge.{words-nil}
-use Rattle.spec_protocol.specs.Parameters.{Parameters, limits, some_constraint}
+use Rattle.spec_protocol.specs.Parameters.{Parameters, limits}
 use Rattle.spec_protocol.specs.Views.{Public}
 use Rattle.spec_protocol.specs.Formulas.{◌⊗◌, sum}
 use Rattle.spec_protocol.specs.Conditions.{constant_error, psi_error, ring_error, alpha_error}

@@ -10,7 +10,7 @@ use lib.ListN.{length, get_or, take}
 use Rattle.math.specs.lists.Part.{part}
 use Rattle.math.specs.lists.Table.{table}
 use Rattle.spec_leaves.specs.Zq.{top_Q}
-use Rattle.spec_leaves.specs.Answer.{Answer, fine, accepted, refused, failed, number, below, ◌then◌}
+use Rattle.spec_leaves.specs.Answer.{Answer, fine, refused, number, below, ◌then◌}
 use Rattle.spec_leaves.specs.Leaf.{limited}
 use Rattle.spec_leaves.specs.Rq.{Element}
 use Rattle.spec_protocol.specs.Checks.{require, first}

@@ -2,7 +2,6 @@
 use mathlib.Core.Path.{◌≡◌, refl, sym, ap, ap₂, ◌∙◌}
 use mathlib.Core.Logic.{◌↔◌}
 use Prim.Native.Nat.{ℕ, ◌<◌}
-use native.Mathlib.Omega.{arith}
 use Rattle.math.specs.algebra.Ops as Ops
 use Rattle.math.proofs.algebra.Ring.{add_cancel_right, eq_of_sub_nil}
 use Rattle.math.proofs.algebra.Sum.{sum_ext}

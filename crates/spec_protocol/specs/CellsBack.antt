@@ -4,7 +4,6 @@ use Rattle.spec_leaves.specs.Digits.{digits}
 use Rattle.spec_leaves.specs.Recompose.{recompose}
 use Rattle.spec_leaves.specs.Rq.{Element, coeff}
 use Rattle.spec_leaves.specs.Ring.{words}
-use Rattle.spec_protocol.specs.Parameters.{Parameters}
 use Rattle.spec_protocol.specs.Views.{Public}
 
 -- each coefficient of a cell is put together again from its digits in a number of parts

@@ -1,5 +1,5 @@
 -- Sections, their layout and their words' ranges (document 01, "What a call is handed" and "Who can cause which refusal").
-use Rattle.std.specs.Prelude.{cond, List, [], ◌∷◌, ◌++◌, ℕ, zero, suc, ◌+◌, ◌*◌, ◌≤◌, ltb, eqb, length, get_or, take}
+use Rattle.std.specs.Prelude.{cond, List, [], ◌∷◌, ◌++◌, ℕ, zero, suc, ◌+◌, ◌*◌, ltb, eqb, length, get_or, take}
 use Rattle.std.proofs.Math.Decide.{dec_le}
 pub use Rattle.math.specs.lists.Part.{part}
 use Rattle.spec_leaves.specs.Zq.{Q}

@@ -1,5 +1,5 @@
 -- What the slices' words stand for (document 01, "What a call is handed"). All indexes count from 0.
-use Rattle.std.specs.Prelude.{List, ◌∷◌, ℕ, ◌+◌, ◌*◌, min, max, get_or}
+use Rattle.std.specs.Prelude.{List, ℕ, ◌+◌, ◌*◌, min, max, get_or}
 use Rattle.spec_leaves.specs.Rq.{Element}
 use Rattle.spec_leaves.specs.Ring.{element}
 use Rattle.spec_leaves.specs.Projection.{entry}

@@ -1,5 +1,5 @@
 -- What alpha and beta let through (the paper's second aggregation): errors ε_0 … ε_{n−1} in Rq, weighed by elements w_0 … w_{n−1}.
-use Rattle.std.specs.Prelude.{◌≡◌, cond, ℕ, zero, suc, ◌+◌, ◌-◌, ◌*◌, ◌<◌, eqb, ltb}
+use Rattle.std.specs.Prelude.{◌≡◌, cond, ℕ, zero, suc, ◌+◌, ◌-◌, ◌*◌, eqb, ltb}
 use Rattle.math.specs.lists.Table.{table}
 use Rattle.math.specs.algebra.Ops.{Ops}
 use Rattle.spec_leaves.specs.Rq.{Element, rzero}

@@ -7,7 +7,7 @@ use native.Mathlib.Nat as Nat
 use native.Mathlib.Numerals.{add-one}
 use native.Mathlib.Omega.{arith}
 use Rattle.math.specs.algebra.Ops.{Ops, sum}
-use Rattle.math.proofs.algebra.Ring.{CRing, ring, add_assoc, add_comm, add-nil, nil-add, add_add_add_comm, mul-add, add-mul, mul-nil, nil-mul, neg_dist, neg-nil}
+use Rattle.math.proofs.algebra.Ring.{CRing, ring, nil-add, add_add_add_comm, add-mul, mul-nil, nil-mul, neg_dist, neg-nil}
 
 module _ (O : Ops) where
   open O use {Carrier, add as ◌⊕◌}

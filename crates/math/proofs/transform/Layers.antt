@@ -3,11 +3,11 @@ use mathlib.Core.Path.{◌≡◌, refl, sym, ap, ap₂, ◌∙◌}
 use Prim.Native.Nat.{ℕ, zero, suc, ◌+◌, ◌-◌, ◌*◌, ◌/◌, ◌%◌, ◌<◌, ◌^◌}
 use native.Mathlib.Nat as Nat
 use native.Mathlib.Omega.{arith}
-use lib.Dec.{T, eqb}
+use lib.Dec.{eqb}
 use Rattle.math.specs.algebra.Ops.{Ops, sum}
 use Rattle.math.specs.transform.Layers.{pow, exponent, layer, layers}
 use Rattle.math.proofs.transform.Computed.{below, below_at, agree}
-use Rattle.math.proofs.algebra.Ring.{CRing, ring, neg-mul, mul-one, nil-add}
+use Rattle.math.proofs.algebra.Ring.{CRing, ring, neg-mul, nil-add}
 use Rattle.math.proofs.algebra.Sum.{sum_ext, sum-add, sum_split}
 use Rattle.math.proofs.algebra.Antiperiodic.{Antiperiodic}
 use Rattle.math.proofs.transform.Evaluation.{eval}

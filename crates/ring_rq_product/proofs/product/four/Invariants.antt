@@ -1,0 +1,12 @@
+-- `four` meets its contract. The invariant: each pair of sums is that of the first i products from its place on.
+use Rattle.std.proofs.Common.{◌≡◌, ℕ, ◌+◌, ◌-◌, ◌^◌, ◌<◌, ◌≤◌, List, length, get_or, ◌∙◌, arith, rules}
+use Rattle.ring_rq_product.specs.Product.{AllWords, folded, growth, halves_sum}
+use Rattle.ring_rq_product.proofs.Halves.{Begun, begun_none, begun_small, begun_next, begun_folded, folded-small}
+use Rattle.ring_rq_product.proofs.product.four.Given as goal
+
+abbrev pub invariant-loop-i : goal.invariant-loop-i
+invariant-loop-i l =
+    (l.i ≤ 64) × Begun l.x l.y l.at l.i l.a.sum l.a.upper × Begun l.x l.y (l.at + 1) l.i l.b.sum l.b.upper × Begun l.x l.y (l.at + 2) l.i l.c.sum l.c.upper × Begun l.x l.y (l.at + 3) l.i l.d.sum l.d.upper
+
+abbrev pub decreases-loop-i : goal.decreases-loop-i
+decreases-loop-i l = 64 - l.i

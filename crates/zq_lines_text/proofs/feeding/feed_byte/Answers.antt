@@ -1,0 +1,11 @@
+-- `feed_byte` meets its contract.
+use borrow.Author.Rules.{rules}
+use borrow.Author.Tests.{eq-eqb, ne_eqb}
+use Rattle.zq_lines_text.proofs.Runs.{written_none}
+use Rattle.zq_lines_text.proofs.feeding.feed_byte.Goals as goal
+
+pub returns-then-b-eq10 : goal.returns-then-b-eq10
+returns-then-b-eq10 c = rw (eq-eqb _ _ c.if-b-eq10.true) (c.start.ensures, c.put_answer-end.ensures)
+
+pub returns-else-b-eq10 : goal.returns-else-b-eq10
+returns-else-b-eq10 c = rw (ne_eqb _ _ c.if-b-eq10.false) (c.step.ensures, written_none _ _)
