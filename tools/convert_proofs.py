@@ -85,14 +85,17 @@ def top_args(text):
 
 
 class Function:
-    def __init__(self, entry):
+    def __init__(self, entry, own=()):
         self.e = entry
+        self.own = list(own)
         self.parent, self.step, self.new_place, self.callee = {}, {}, {}, {}
         for (old, par, field, callee, extra), new in zip(entry["places"], entry["places_by_name"]):
             self.parent[old] = par
             self.step[old] = field
             self.callee[old] = callee or ""
             self.new_place[old] = new
+        self.arms = dict(zip(self.parent, entry.get("arms") or []))
+        self.clauses = dict(zip(self.parent, entry.get("clauses") or []))
         self.by_norm = {norm(o): o for o in self.parent}
         self.args = {}
         self.named = set()
@@ -115,16 +118,37 @@ class Function:
             return ("place", place)
         s = segs[0]
         if s in ROOT:
-            if s == "args" and len(segs) > 1 and segs[1] in self.args:
-                segs[1] = self.args[segs[1]]
+            pre = (self.e.get("pre") or {}).get("fields") if isinstance(self.e.get("pre"), dict) else self.e.get("pre")
+            if s == "requires" and pre and len(segs) > 1 and segs[1].isdigit() and len(pre) > 1:
+                segs[1] = pre[int(segs[1])]
+            if s == "args" and len(segs) > 1 and re.fullmatch(r"t\d+", segs[1]) and segs[1] not in self.own:
+                k = int(segs[1][1:]) - 1
+                if k < len(self.own):
+                    segs[1] = self.own[k]
             return ("path", segs)
+        # an arm's names
+        p = place
+        while p is not None:
+            arm = self.arms.get(p)
+            if arm:
+                best = None
+                for newf, oldf, path in arm[2]:
+                    if path and norm(oldf) == norm(s) and segs[1 : 1 + len(path)] == path and (best is None or len(path) > len(best[1])):
+                        best = (newf, path)
+                if best:
+                    return ("path", [arm[0], best[0]] + segs[1 + len(best[1]) :])
+            p = self.parent[p]
         p = place
         while p is not None:
             old, new = self.step[p]
             if old and (norm(old) == norm(s) or norm(new) == norm(s)):
                 rest = segs[1:]
-                if rest == ["ensures"] and re.match(r"(core|std\w*)::", self.callee[p]):
-                    rest = ["ensures", "value"]
+                fields = (self.clauses.get(p) or {}).get("fields") or []
+                if rest[:1] == ["ensures"] and fields:
+                    if len(rest) > 1 and rest[1].isdigit() and int(rest[1]) < len(fields) and len(fields) > 1:
+                        rest[1] = fields[int(rest[1])]
+                    elif len(fields) == 1 and (len(rest) < 2 or rest[1] != fields[0]):
+                        rest[1:1] = fields
                 if rest and rest[0] == "taken":
                     rest[0] = "false" if p.startswith("Else") or p.startswith("After-loop") else "true"
                 return ("path", [new] + rest)
@@ -378,6 +402,39 @@ def convert(path, base, fn, inv_names):
     return out, problems
 
 
+def parameters_of(crate, rel):
+    """The names of a function's parameters, from its source."""
+    parts = rel.split(".")
+    name, owner, mods = parts[-1], None, parts[:-1]
+    if mods and mods[-1][:1].isupper():
+        owner, mods = mods[-1], mods[:-1]
+    places = [os.path.join(crate, "src", *mods) + ".rt", os.path.join(crate, "src", *mods, "mod.rt")] if mods else [os.path.join(crate, "src", "lib.rt"), os.path.join(crate, "src", "main.rt")]
+    for place in places:
+        if not os.path.isfile(place):
+            continue
+        text = open(place, encoding="utf-8").read()
+        if owner:
+            m = re.search(r"impl(?:<[^>]*>)? " + owner + r"\b", text)
+            text = text[m.start():] if m else text
+        m = re.search(r"fn " + re.escape(name) + r"(?:<[^>]*>)?\(", text)
+        if not m:
+            continue
+        depth, k, cur, out = 1, m.end(), "", []
+        while depth and k < len(text):
+            ch = text[k]
+            depth += (ch in "([{<") - (ch in ")]}>")
+            if depth == 0 or (ch == "," and depth == 1):
+                if cur.strip():
+                    w = re.match(r"\s*(?:&(?:'\w+ )?)?(?:mut )?(?:&mut )?(\w+)", cur)
+                    out.append(w[1])
+                cur = ""
+            else:
+                cur += ch
+            k += 1
+        return out
+    return []
+
+
 def main(argv):
     crate, names = argv[0].rstrip("/"), json.load(open(argv[1]))
     only = argv[2:]
@@ -398,7 +455,7 @@ def main(argv):
             print("left:", rel, "is a walk")
             continue
         try:
-            out, problems = convert(path, f"Rattle.{name}.proofs.{rel}", Function(names[key]), None)
+            out, problems = convert(path, f"Rattle.{name}.proofs.{rel}", Function(names[key], parameters_of(crate, rel)), None)
         except Exception as ex:
             print("left:", rel, "failed:", repr(ex))
             continue

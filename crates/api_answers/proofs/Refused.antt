@@ -3,7 +3,6 @@ use mathlib.Core.Path.{◌≡◌, refl}
 use Rattle.spec_leaves.specs.declared.answers.Refusal.{Refusal}
 use Rattle.spec_leaves.specs.declared.answers.Refusal.TheVariants as R
 use Rattle.spec_leaves.specs.Answer.{of_refusal, number, place}
-use Rattle.api_answers.specs.declared.verdicts.LabradorVerdict.{LabradorVerdict}
 use Rattle.api_answers.specs.Calls.{labrador_verdict}
 
 -- a refusal as a verdict

@@ -1,7 +1,6 @@
 -- `behind_at` meets its contract: each arm is a case of `behind_of`.
 use mathlib.Core.Path.{sym, ap, subst, ◌∙◌}
 use native.Mathlib.Omega.{arith}
-use borrow.Author.Rules.{rules}
 use Rattle.layout_section_reader.specs.Read.{behind_of, Inside}
 use Rattle.layout_section_reader.proofs.Reading.{read_inside}
 use Rattle.layout_section_reader.proofs.behind_at.Goals as goal
@@ -9,15 +8,15 @@ use Rattle.layout_section_reader.proofs.behind_at.Goals as goal
 pub overflow_add-result : goal.overflow_add-result
 overflow_add-result c =
     let k = c.section_at in
-    let e = sym k.ensures ∙ c.place-1.given.1 in
+    let e = sym k.ensures ∙ c.in-Section.is in
     let h = subst (Inside _ _) e (read_inside _ _) in
     omega (arith, h.0, h.1)
 
 pub returns-in-Section : goal.returns-in-Section
-returns-in-Section c = ap (behind_of _) (sym c.place-1.given.1 ∙ c.section_at.ensures)
+returns-in-Section c = ap (behind_of _) (sym c.in-Section.is ∙ c.section_at.ensures)
 
 pub returns-in-Short : goal.returns-in-Short
-returns-in-Short c = ap (behind_of _) (sym c.enum_told-1.given.1 ∙ c.section_at.ensures)
+returns-in-Short c = ap (behind_of _) (sym c.in-Short.is ∙ c.section_at.ensures)
 
 pub returns-in-End : goal.returns-in-End
-returns-in-End c = ap (behind_of _) (sym c.enum_told-in-End-1.given.1 ∙ c.section_at.ensures)
+returns-in-End c = ap (behind_of _) (sym c.in-End.is ∙ c.section_at.ensures)

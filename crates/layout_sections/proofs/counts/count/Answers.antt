@@ -13,14 +13,14 @@ loop-m-init c = (omega arith, reached_none _ _ _ (omega arith))
 pub returns-then-wide_usize-expected : goal.returns-then-wide_usize-expected
 returns-then-wide_usize-expected c =
     let l = c.loop-m in
-    (reached_wrong _ _ _ _ _ l.invariant.1 (omega arith) (omega arith) (λ e. c.if-wide_usize-expected.true (c.wide_usize.ensures ∙ e)), tt)
+    record { by_index = reached_wrong _ _ _ _ _ l.invariant.1 (omega arith) (omega arith) (λ e. c.if-wide_usize-expected.true (c.wide_usize.ensures ∙ e)); ends_at = tt }
 
 pub returns-then-len-at : goal.returns-then-len-at
 returns-then-len-at c =
     let l = c.loop-m in
     ⊎_elim
-    (λ w. (reached_short _ _ _ _ _ l.invariant.1 (omega arith) (omega arith) (omega arith) (omega arith), tt))
-    (λ w. (reached_past _ _ _ _ _ l.invariant.1 (omega arith) (omega arith), tt))
+    (λ w. record { by_index = reached_short _ _ _ _ _ l.invariant.1 (omega arith) (omega arith) (omega arith) (omega arith); ends_at = tt })
+    (λ w. record { by_index = reached_past _ _ _ _ _ l.invariant.1 (omega arith) (omega arith); ends_at = tt })
     c.if-at-len.branch
 
 pub loop-m-preserved : goal.loop-m-preserved
@@ -34,4 +34,4 @@ loop-m-preserved c =
 pub returns : goal.returns
 returns c =
     let l = c.loop-m in
-    (reached_all _ _ _ _ _ l.invariant.1 (omega arith), reached_end _ _ _ _ _ l.invariant.1 (omega arith))
+    record { by_index = reached_all _ _ _ _ _ l.invariant.1 (omega arith); ends_at = reached_end _ _ _ _ _ l.invariant.1 (omega arith) }

@@ -7,16 +7,16 @@ use borrow.Author.Rules.{rules}
 use Rattle.layout_sections.proofs.counts.first_wrong.Goals as goal
 
 pub returns-in-Wrong : goal.returns-in-Wrong
-returns-in-Wrong c = λ number. layout_wrong number _ _ _ (sym (ap (of_counted number) c.at-1.given.1) ∙ c.count.ensures.0 number)
+returns-in-Wrong c = λ number. layout_wrong number _ _ _ (sym (ap (of_counted number) c.in-Wrong.is) ∙ c.count.ensures.by_index number)
 
 pub returns-then-end-words : goal.returns-then-end-words
 returns-then-end-words c =
     let k = c.count in
-    let e = c.end-1.given.1 in
+    let e = c.in-End.is in
     λ number. layout_surplus number _ _ _ _ (sym (ap (of_counted number) e) ∙ k.ensures.0 number) (subst (EndsAt _) e k.ensures.1) (omega arith)
 
 pub returns-else-end-words : goal.returns-else-end-words
 returns-else-end-words c =
     let k = c.count in
-    let e = c.end-1.given.1 in
+    let e = c.in-End.is in
     λ number. layout-ends number _ _ _ _ (sym (ap (of_counted number) e) ∙ k.ensures.0 number) (subst (EndsAt _) e k.ensures.1) (omega arith)

@@ -20,7 +20,7 @@ pub sections-init : goal.sections-init
 sections-init c = (refl, omega arith, searched_none _ _ _)
 
 pub overflow_add-end : goal.overflow_add-end
-overflow_add-end c = omega (arith, end_fits (goal.at.overflow_add-end c).In-sections-unread-2)
+overflow_add-end c = omega (arith, end_fits (goal.at.overflow_add-end c).In-sections)
 
 pub overflow_add-end-in-sections : goal.overflow_add-end-in-sections
 overflow_add-end-in-sections c = omega (arith, end_fits (goal.at.overflow_add-end-in-sections c).In-sections)

@@ -10,22 +10,22 @@ use Rattle.layout_sections.proofs.slices.examine.Goals as goal
 
 pub first_wrong-requires-in-Nowhere : goal.first_wrong-requires-in-Nowhere
 first_wrong-requires-in-Nowhere c =
-    let e = sym (c.first_wrong.ensures 0) ∙ ap (of_found 0) c.enum_told-1.given.1 in
+    let e = sym (c.first_wrong.ensures 0) ∙ ap (of_found 0) c.in-Nowhere.is in
     (omega arith, omega (arith, layout-whole 0 c.args.words.now c.args.place (listed c.args.s) c.requires.1 e))
 
 pub returns-in-At : goal.returns-in-At
-returns-in-At c = λ a b. stops (ranged b _ _ _) (sym (ap (of_found a) c.at-1.given.1) ∙ c.first_wrong.ensures a)
+returns-in-At c = λ a b. stops (ranged b _ _ _) (sym (ap (of_found a) c.in-At.is) ∙ c.first_wrong.ensures a)
 
 pub returns-in-At-first_wrong : goal.returns-in-At-first_wrong
 returns-in-At-first_wrong c =
     let f = c.first_wrong-in-Nowhere in
     let g = c.enum_told-1 in
     let m = c.first_wrong in
-    λ a b. goes_on (sym (ap (of_found a) g.given.1) ∙ m.ensures a) (sym (ap (of_found b) c.at-in-At-first_wrong-2-1.given.1) ∙ f.ensures b)
+    λ a b. goes_on (sym (ap (of_found a) g.given.1) ∙ m.ensures a) (sym (ap (of_found b) c.in-At-first_wrong.is) ∙ f.ensures b)
 
 pub returns-in-Nowhere-first_wrong : goal.returns-in-Nowhere-first_wrong
 returns-in-Nowhere-first_wrong c =
     let f = c.first_wrong-in-Nowhere in
     let g = c.enum_told-1 in
     let m = c.first_wrong in
-    λ a b. goes_on (sym (ap (of_found a) g.given.1) ∙ m.ensures a) (sym (ap (of_found b) c.enum_told-in-Nowhere-first_wrong-1.given.1) ∙ f.ensures b)
+    λ a b. goes_on (sym (ap (of_found a) g.given.1) ∙ m.ensures a) (sym (ap (of_found b) c.in-Nowhere-first_wrong.is) ∙ f.ensures b)

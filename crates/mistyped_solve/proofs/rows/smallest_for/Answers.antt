@@ -10,19 +10,19 @@ use Rattle.mistyped_solve.proofs.rows.smallest_for.Goals as goal
 within : (c : In-loop-k)
     → let s = c.args in
     s.at + c.loop-k.k * s.width < length s.randomness.now
-within c = c.requires.0.1 c.loop-k.k (omega arith)
+within c = c.requires.rows_bound.1 c.loop-k.k (omega arith)
 
 pub combine-requires : goal.combine-requires
 combine-requires c =
     let l = c.loop-k in
-    (l.invariant.1.reduced, c.requires.1 l.k (omega arith))
+    (l.invariant.1.reduced, c.requires.by_index l.k (omega arith))
 
 pub returns-in-None : goal.returns-in-None
 returns-in-None c =
     let j = c.combine in
     let l = c.loop-k in
     let s = c.args in
-    taken_stop _ _ _ _ l.invariant.1 j.result c.enum_told-1.given.1 j.ensures s.rows (omega arith)
+    taken_stop _ _ _ _ l.invariant.1 j.result c.in-None.is j.ensures s.rows (omega arith)
 
 pub loop-k-preserved : goal.loop-k-preserved
 loop-k-preserved c =

@@ -9,10 +9,10 @@ use Rattle.ntt_layers.proofs.Layer.{spread_at_even, spread_at_odd}
 use Rattle.ntt_layers.proofs.layers.spread.Goals.{In-loop-t, In-loop-t-unread-3}
 use Rattle.ntt_layers.proofs.layers.spread.Goals as goal
 
-lower : (c : In-loop-t) → get_or c.args.t1 c.loop-t.t 0 < 3892314112
+lower : (c : In-loop-t) → get_or c.args.x c.loop-t.t 0 < 3892314112
 lower c = c.requires.room c.loop-t.t (omega arith)
 
-upper : (c : In-loop-t) → get_or c.args.t1 (c.loop-t.t + 32) 0 ≤ 285600000
+upper : (c : In-loop-t) → get_or c.args.x (c.loop-t.t + 32) 0 ≤ 285600000
 upper c = c.requires.upper c.loop-t.t (omega arith)
 
 pub loop-t-init : goal.loop-t-init

@@ -1,5 +1,5 @@
 use mathlib.Core.Path.{◌≡◌, refl, sym, ◌∙◌, ap, ap₂}
-use Prim.Native.Nat.{ℕ, ◌+◌, ◌-◌, ◌≤◌}
+use Prim.Native.Nat.{ℕ, ◌+◌}
 use native.Mathlib.Omega.{arith}
 use mathlib.Core.List.{List}
 use lib.IntN.{ℤ}
@@ -55,10 +55,10 @@ loop-j-preserved c =
     let s = c.args in
     let l = c.loop-j in (
       omega arith,
-      one_more nearest s.lows.now s.highs.now s.at l.j (value128 l.total.least) (value128 c.add_range-total.result.least) c.add_range-total.ensures.0.0
+      one_more nearest s.lows.now s.highs.now s.at l.j (value128 l.total.least) (value128 c.add_range-total.result.least) c.add_range-total.ensures.least_value.0
           (low_is (goal.at.loop-j-preserved c).After-number-in-loop-j) (high_is (goal.at.loop-j-preserved c).After-number-in-loop-j) l.invariant.1,
       omega arith,
-      one_more farthest s.lows.now s.highs.now s.at l.j (value128 l.total.greatest) (value128 c.add_range-total.result.greatest) c.add_range-total.ensures.1.0
+      one_more farthest s.lows.now s.highs.now s.at l.j (value128 l.total.greatest) (value128 c.add_range-total.result.greatest) c.add_range-total.ensures.greatest_value.0
           (low_is (goal.at.loop-j-preserved c).After-number-in-loop-j) (high_is (goal.at.loop-j-preserved c).After-number-in-loop-j) l.invariant.3,
       omega arith,
     )
@@ -67,7 +67,4 @@ pub returns : goal.returns
 returns c =
     let s = c.args in
     let l = c.loop-j in
-    let n : l.j ≡ s.count = omega arith in (
-      all nearest s.lows.now s.highs.now s.at l.j s.count (value128 l.total.least) n l.invariant.1,
-      all farthest s.lows.now s.highs.now s.at l.j s.count (value128 l.total.greatest) n l.invariant.3,
-    )
+    let n : l.j ≡ s.count = omega arith in record { least_value = all nearest s.lows.now s.highs.now s.at l.j s.count (value128 l.total.least) n l.invariant.1; greatest_value = all farthest s.lows.now s.highs.now s.at l.j s.count (value128 l.total.greatest) n l.invariant.3 }

@@ -1,4 +1,4 @@
-use Rattle.std.proofs.Common.{◌≡◌, ◌+◌, ◌-◌, ◌≤◌, get_or, sym, ap, ◌∙◌, arith, rules, le-ltb}
+use Rattle.std.proofs.Common.{◌≡◌, ◌+◌, ◌-◌, ◌≤◌, get_or, sym, ap, ◌∙◌, arith, le-ltb}
 use Rattle.math.specs.lists.Table.{padded}
 use Rattle.math.proofs.lists.Padded.{padded-next, padded_done}
 use Rattle.ring_rq_product.specs.Product.{extended, extended_coeff}
@@ -7,7 +7,7 @@ use Rattle.ring_rq_product.proofs.product.extend.Goals as goal
 pub loop-m-preserved : goal.loop-m-preserved
 loop-m-preserved c =
     let l = c.loop-m in
-    let a = c.args.t1 in
+    let a = c.args.a in
     let h : 64 ≤ 64 + l.m = omega arith in
     let place : 64 + l.m - 64 ≡ l.m = omega arith in
     let next : 64 + l.m + 1 ≡ 64 + (l.m + 1) = omega arith in (

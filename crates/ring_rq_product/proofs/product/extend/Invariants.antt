@@ -1,8 +1,7 @@
 -- `extend` meets its contract. The invariant: the first 64 + m entries are the definition's, and the later ones zero.
-use Rattle.std.proofs.Common.{◌≡◌, ◌+◌, ◌-◌, ◌≤◌, get_or, sym, ap, ◌∙◌, arith, rules, le-ltb}
+use Rattle.std.proofs.Common.{◌≡◌, ◌+◌, ◌-◌, ◌≤◌}
 use Rattle.math.specs.lists.Table.{padded}
-use Rattle.math.proofs.lists.Padded.{padded-next, padded_done}
-use Rattle.ring_rq_product.specs.Product.{extended, extended_coeff}
+use Rattle.ring_rq_product.specs.Product.{extended_coeff}
 use Rattle.ring_rq_product.proofs.product.extend.Given as goal
 
 abbrev pub invariant-loop-m : goal.invariant-loop-m

@@ -1,11 +1,6 @@
 -- `multiply` meets its contract.
-use Rattle.std.proofs.Common.{ℕ, ◌-◌, ◌%◌, ◌^◌, ◌<◌, ◌≤◌, List, get_or, ap, ◌∙◌, arith, w32, Fits, rules}
-use Rattle.math.proofs.lists.Table.{length-table, table-get_or}
-use Rattle.math.proofs.lists.Padded.{padded-none, padded-next, padded_done}
-use Rattle.spec_leaves.specs.Zq.{Q}
-use Rattle.spec_leaves.specs.Rq.{rmul, coeff}
+use Rattle.std.proofs.Common.{ℕ, ◌-◌, ◌≤◌, List}
 use Rattle.ring_rq_product.specs.Product.{Finished, Forms}
-use Rattle.ring_rq_product.proofs.Coefficient.{product_at, kernel_fits}
 use Rattle.ring_rq_product.proofs.product.multiply.Given as goal
 
 -- for k in 0..64 { out[k] = (dot(&x, &y, k + 1) % MODULUS) as u32; }

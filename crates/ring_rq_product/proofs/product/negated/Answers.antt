@@ -1,4 +1,4 @@
-use Rattle.std.proofs.Common.{◌≡◌, ◌-◌, ◌<◌, ◌≤◌, ap, ◌∙◌, arith, lt-ltb}
+use Rattle.std.proofs.Common.{◌≡◌, ◌<◌, ap, ◌∙◌, arith, lt-ltb}
 use Rattle.math.specs.lists.Table.{padded}
 use Rattle.math.proofs.lists.Padded.{padded-none, padded-next}
 use Rattle.ring_rq_product.specs.Product.{extended_coeff}
@@ -14,7 +14,7 @@ pub returns : goal.returns
 returns c =
     let l = c.loop-m in
     let n : l.m ≡ 64 = omega arith in
-    l.invariant.1 ∙ ap (λ m. padded 128 m 0 (extended_coeff c.args.t1)) n
+    l.invariant.1 ∙ ap (λ m. padded 128 m 0 (extended_coeff c.args.a)) n
 
 pub loop-m-init : goal.loop-m-init
 loop-m-init c = (omega arith, padded-none 128 0 _)

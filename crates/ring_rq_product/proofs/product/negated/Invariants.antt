@@ -1,7 +1,6 @@
 -- `negated` meets its contract. The invariant: the first m entries are the definition's, and the later ones zero.
-use Rattle.std.proofs.Common.{◌≡◌, ◌-◌, ◌<◌, ◌≤◌, ap, ◌∙◌, arith, lt-ltb}
+use Rattle.std.proofs.Common.{◌≡◌, ◌-◌, ◌≤◌}
 use Rattle.math.specs.lists.Table.{padded}
-use Rattle.math.proofs.lists.Padded.{padded-none, padded-next}
 use Rattle.ring_rq_product.specs.Product.{extended_coeff}
 use Rattle.ring_rq_product.proofs.product.negated.Given as goal
 

@@ -47,25 +47,25 @@ pub overflow_add-out : goal.overflow_add-out
 overflow_add-out c =
     let l = c.loop-b in
     let room = c.requires (4 * l.b) (omega arith) in
-    omega (arith, growth-small, c.four-f.ensures.1.1.0, room)
+    omega (arith, growth-small, c.four-f.ensures.c_value.1.0, room)
 
 pub overflow_add-out-in-loop-b-2 : goal.overflow_add-out-in-loop-b-2
 overflow_add-out-in-loop-b-2 c =
     let l = c.loop-b in
     let room = c.requires (4 * l.b + 1) (omega arith) in
-    omega (arith, growth-small, c.four-f.ensures.1.1.1, room)
+    omega (arith, growth-small, c.four-f.ensures.c_value.1.1, room)
 
 pub overflow_add-out-in-loop-b-5 : goal.overflow_add-out-in-loop-b-5
 overflow_add-out-in-loop-b-5 c =
     let l = c.loop-b in
     let room = c.requires (4 * l.b + 2) (omega arith) in
-    omega (arith, growth-small, c.four-f.ensures.1.1.2, room)
+    omega (arith, growth-small, c.four-f.ensures.c_value.1.2, room)
 
 pub overflow_add-out-in-loop-b-8 : goal.overflow_add-out-in-loop-b-8
 overflow_add-out-in-loop-b-8 c =
     let l = c.loop-b in
     let room = c.requires (4 * l.b + 3) (omega arith) in
-    omega (arith, growth-small, c.four-f.ensures.1.1.3, room)
+    omega (arith, growth-small, c.four-f.ensures.c_value.1.3, room)
 
 pub loop-b-preserved : goal.loop-b-preserved
 unfolding with_kernel

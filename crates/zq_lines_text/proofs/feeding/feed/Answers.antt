@@ -29,11 +29,11 @@ loop-i-init c = (omega arith, (refl, written_none _ _))
 
 pub feed_byte-f-requires : goal.feed_byte-f-requires
 feed_byte-f-requires c =
-    let l = c.loop-i in (
-      subst Bounded (sym l.invariant.1.0) (bounded-after c.args.s (take l.i c.args.chunk.now) c.requires.0),
-      omega
-          (arith, written-length l.invariant.1.1, l.invariant.1.1.count, length-answers c.args.s (take l.i c.args.chunk.now), length-take-le l.i c.args.chunk.now l.invariant.0),
-    )
+    let l = c.loop-i in record {
+      bounded = subst Bounded (sym l.invariant.1.0) (bounded-after c.args.s (take l.i c.args.chunk.now) c.requires.bounded);
+      at_in_bounds = omega
+          (arith, written-length l.invariant.1.1, l.invariant.1.1.count, length-answers c.args.s (take l.i c.args.chunk.now), length-take-le l.i c.args.chunk.now l.invariant.0);
+    }
 
 pub loop-i-preserved : goal.loop-i-preserved
 loop-i-preserved c =
@@ -53,4 +53,4 @@ returns c =
     let a = c.args in
     let l = c.loop-i in
     let e : take l.i a.chunk.now ≡ a.chunk.now = take_all l.i a.chunk.now (omega arith) in
-    (l.invariant.1.0 ∙ ap (after a.s) e, rw (← ap (answers a.s) e) l.invariant.1.1)
+    record { state_value = l.invariant.1.0 ∙ ap (after a.s) e; written = rw (← ap (answers a.s) e) l.invariant.1.1 }

@@ -11,11 +11,11 @@ returns-in-First c = search rules
 
 pub returns-then-w-eq0 : goal.returns-then-w-eq0
 unfolding parsed
-returns-then-w-eq0 c = rw (c.s-1.given.1, eq-eqb _ _ c.if-w-eq0.true)
+returns-then-w-eq0 c = rw (c.in-Second.is, eq-eqb _ _ c.if-w-eq0.true)
 
 pub returns-else-w-eq0 : goal.returns-else-w-eq0
 unfolding parsed
-returns-else-w-eq0 c = c.pair.ensures ∙ rw (c.s-1.given.1, ne_eqb _ _ c.if-w-eq0.false)
+returns-else-w-eq0 c = c.pair.ensures ∙ rw (c.in-Second.is, ne_eqb _ _ c.if-w-eq0.false)
 
 pub returns-in-Bad : goal.returns-in-Bad
 unfolding parsed

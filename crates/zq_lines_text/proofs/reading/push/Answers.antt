@@ -6,13 +6,13 @@ use Rattle.zq_lines_text.proofs.reading.push.Goals as goal
 
 pub overflow_mul-result : goal.overflow_mul-result
 overflow_mul-result c =
-    let h = value-max c.requires.0 c.requires.1.0 in
+    let h = value-max c.requires.small c.requires.digits_bound.0 in
     omega arith
 
 pub overflow_sub-result : goal.overflow_sub-result
-overflow_sub-result c = (digit-range c.args.b c.requires.1.1).0
+overflow_sub-result c = (digit-range c.args.b c.requires.digits_bound.1).0
 
 pub overflow_add-result : goal.overflow_add-result
 overflow_add-result c =
-    let h = value-max c.requires.0 c.requires.1.0 in
-    omega (arith, (digit-range c.args.b c.requires.1.1).1)
+    let h = value-max c.requires.small c.requires.digits_bound.0 in
+    omega (arith, (digit-range c.args.b c.requires.digits_bound.1).1)

@@ -16,8 +16,8 @@ returns-then-b-eq32 c = simp (eq-eqb _ _ c.if-b-eq32.true, ne_eqb _ _ c.if-w-eq0
 
 pub returns-in-To : goal.returns-in-To
 unfolding stepped
-returns-in-To c = simp (ne_eqb _ _ c.if-b-eq32.false) (ap (with First) (sym c.longer-1.given.1 ∙ c.extend.ensures))
+returns-in-To c = simp (ne_eqb _ _ c.if-b-eq32.false) (ap (with First) (sym c.in-To.is ∙ c.extend.ensures))
 
 pub returns-in-No : goal.returns-in-No
 unfolding stepped
-returns-in-No c = simp (ne_eqb _ _ c.if-b-eq32.false) (ap (with First) (sym c.enum_told-1.given.1 ∙ c.extend.ensures))
+returns-in-No c = simp (ne_eqb _ _ c.if-b-eq32.false) (ap (with First) (sym c.in-No.is ∙ c.extend.ensures))

@@ -7,8 +7,8 @@ use Rattle.zq_lines_text.proofs.reading.step_second.Goals as goal
 
 pub returns-in-To : goal.returns-in-To
 unfolding stepped
-returns-in-To c = ap (with (Second c.args.a)) (sym c.longer-1.given.1 ∙ c.extend.ensures)
+returns-in-To c = ap (with (Second c.args.a)) (sym c.in-To.is ∙ c.extend.ensures)
 
 pub returns-in-No : goal.returns-in-No
 unfolding stepped
-returns-in-No c = ap (with (Second c.args.a)) (sym c.enum_told-1.given.1 ∙ c.extend.ensures)
+returns-in-No c = ap (with (Second c.args.a)) (sym c.in-No.is ∙ c.extend.ensures)

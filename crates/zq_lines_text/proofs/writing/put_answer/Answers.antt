@@ -9,7 +9,7 @@ use Rattle.zq_lines_text.proofs.Small.{first-canonical}
 use Rattle.zq_lines_text.proofs.writing.put_answer.Goals as goal
 
 pub put_parsed-end-requires : goal.put_parsed-end-requires
-put_parsed-end-requires c = (subst FirstCanonical (sym c.parse-p.ensures) (first-canonical c.args.s), omega arith)
+put_parsed-end-requires c = record { first_canonical = subst FirstCanonical (sym c.parse-p.ensures) (first-canonical c.args.s); at_in_bounds = omega arith }
 
 pub put-requires : goal.put-requires
 put-requires c =

@@ -19,7 +19,7 @@ returns-then-a-gt-HALF c =
     let a = c.args.a.0 in
     let w = written-append c.put-next.ensures
     (rw c.size-size.ensures at c.put_decimal.ensures) in
-    rw (signed_large a (omega arith) c.requires.0) w
+    rw (signed_large a (omega arith) c.requires.canonical) w
 
 pub returns-else-a-gt-HALF : goal.returns-else-a-gt-HALF
 returns-else-a-gt-HALF c =

@@ -51,7 +51,7 @@ put_word-fifth-requires c = omega (arith, third (goal.at.put_word-fifth-requires
 
 pub put_centre-requires : goal.put_centre-requires
 put_centre-requires c =
-    (c.requires.0, fourth (goal.at.put_centre-requires c).After-put_word-fifth)
+    record { canonical = c.requires.canonical; at_in_bounds = fourth (goal.at.put_centre-requires c).After-put_word-fifth }
 
 pub returns : goal.returns
 returns c =

@@ -10,8 +10,8 @@ pub enum_known-p : goal.enum_known-p
 enum_known-p c = (subst FirstCanonical c.before.before.p.given.1 c.before.before.before.before.before.requires.0, omega arith)
 
 pub returns-in-Pair : goal.returns-in-Pair
-returns-in-Pair c = rw c.p-1.given.1 c.put_pair.ensures
+returns-in-Pair c = rw c.in-Pair.is c.put_pair.ensures
 
 pub returns-in-Refused : goal.returns-in-Refused
 unfolding text
-returns-in-Refused c = rw c.enum_told-1.given.1 c.put_bytes.ensures
+returns-in-Refused c = rw c.in-Refused.is c.put_bytes.ensures
