@@ -19,6 +19,21 @@ def norm(s):
     return s.replace("-", "_")
 
 
+def nested(fields, segs):
+    """Several clauses were pairs nested to the right: (a, (b, c))."""
+    if segs and segs[0] in fields:
+        return segs
+    k, i = 0, 0
+    while k < len(fields) - 1 and i < len(segs):
+        if segs[i] == "0":
+            return [fields[k]] + segs[i + 1 :]
+        if segs[i] != "1":
+            break
+        k += 1
+        i += 1
+    return ([fields[k]] if k == len(fields) - 1 else ["?"]) + segs[i:]
+
+
 def split_decls(text):
     """Header (comments and uses) and a list of (comment, [lines])."""
     lines = text.rstrip("\n").split("\n")
@@ -103,6 +118,10 @@ class Function:
             if isinstance(a, list) and len(a) == 2:
                 self.args[a[0]] = a[1]
 
+    def pre_fields(self):
+        pre = self.e.get("pre")
+        return pre.get("fields") if isinstance(pre, dict) else pre
+
     def place(self, name):
         return self.by_norm.get(norm(name))
 
@@ -118,9 +137,9 @@ class Function:
             return ("place", place)
         s = segs[0]
         if s in ROOT:
-            pre = (self.e.get("pre") or {}).get("fields") if isinstance(self.e.get("pre"), dict) else self.e.get("pre")
-            if s == "requires" and pre and len(segs) > 1 and segs[1].isdigit() and len(pre) > 1:
-                segs[1] = pre[int(segs[1])]
+            pre = self.pre_fields()
+            if s == "requires" and pre and len(segs) > 1 and len(pre) > 1:
+                segs = ["requires"] + nested(pre, segs[1:])
             if s == "args" and len(segs) > 1 and re.fullmatch(r"t\d+", segs[1]) and segs[1] not in self.own:
                 k = int(segs[1][1:]) - 1
                 if k < len(self.own):
@@ -144,9 +163,10 @@ class Function:
             if old and (norm(old) == norm(s) or norm(new) == norm(s)):
                 rest = segs[1:]
                 fields = (self.clauses.get(p) or {}).get("fields") or []
+                self.last_fields = fields
                 if rest[:1] == ["ensures"] and fields:
-                    if len(rest) > 1 and rest[1].isdigit() and int(rest[1]) < len(fields) and len(fields) > 1:
-                        rest[1] = fields[int(rest[1])]
+                    if len(rest) > 1 and len(fields) > 1:
+                        rest = ["ensures"] + nested(fields, rest[1:])
                     elif len(fields) == 1 and (len(rest) < 2 or rest[1] != fields[0]):
                         rest[1:1] = fields
                 if rest and rest[0] == "taken":
@@ -174,8 +194,30 @@ def convert_body(fn, text, env, goal, problems, record_vars=()):
                     changed = True
                     break
 
+    args_names, clause_names = set(), {}
+    for m in re.finditer(r"\blet (" + SEG + r") = (" + SEG + r"(?:\." + SEG + r")*) in[ \n]\s*", text):
+        path = m[2].split(".")
+        if path[0] in env:
+            r = fn.resolve(env[path[0]], path[1:])
+            if r and r[0] == "path" and r[1] == ["args"]:
+                args_names.add(m[1])
+            names = None
+            if r and r[0] == "path" and r[1] == ["requires"]:
+                names = fn.pre_fields()
+            elif r and r[0] == "path" and r[1][-1] == "ensures":
+                names = fn.last_fields
+            if names and len(names) > 1:
+                clause_names[m[1]] = names
+
     def sub(m):
         var, rest = m[1], m[2]
+        if var in args_names:
+            segs = [s for s in rest.split(".") if s]
+            if segs and re.fullmatch(r"t\d+", segs[0]) and segs[0] not in fn.own and int(segs[0][1:]) <= len(fn.own):
+                segs[0] = fn.own[int(segs[0][1:]) - 1]
+                return ".".join([var] + segs)
+        if var in clause_names and rest:
+            return ".".join([var] + nested(clause_names[var], [s for s in rest.split(".") if s]))
         if var not in env:
             return m[0]
         segs = [s for s in rest.split(".") if s]

@@ -2,7 +2,7 @@
 use Rattle.std.specs.Prelude.{◌≡◌, ℕ, ◌+◌, ◌-◌, ◌*◌, ◌/◌, ◌%◌, ◌^◌, ◌<◌, ◌≤◌, cond, List, length, nat_lt, slice_index}
 use Rattle.math.specs.lists.Table.{table, padded}
 use Rattle.math.specs.lists.Sum.{Σ}
-use Rattle.spec_leaves.specs.Zq.{Q, lack_Q}
+use Rattle.spec_leaves.specs.Zq.{lack_Q}
 use Rattle.ring_zq.specs.Words.{lack}
 use Rattle.spec_leaves.specs.Rq.{coeff, rmul}
 

@@ -1,12 +1,10 @@
-use mathlib.Core.Path.{◌≡◌, sym, ◌∙◌, ap, ap₂}
-use Prim.Native.Nat.{◌+◌, ◌-◌, ◌*◌, ◌%◌, ◌≤◌, ◌<◌}
+use mathlib.Core.Path.{◌≡◌, sym, ◌∙◌, ap₂}
+use Prim.Native.Nat.{◌+◌, ◌-◌, ◌*◌, ◌%◌, ◌<◌}
 use native.Mathlib.Nat.{mod-eq_of_lt}
 use native.Mathlib.Omega.{arith}
-use borrow.Author.Rules.{rules}
-use lib.ListN.{get_or}
 use Rattle.ntt_layers.specs.Fold.{montgomery}
 use Rattle.ntt_layers.specs.Layer.{lower_at, upper_at, inverse_layer_at, inverse_layer_of}
-use Rattle.ntt_layers.proofs.Halves.{halves, halves_none, halves_next, halves_done}
+use Rattle.ntt_layers.proofs.Halves.{halves_none, halves_next, halves_done}
 use Rattle.ntt_layers.proofs.Layer.{times-bound, difference-bound, inverse_layer_at_lower, inverse_layer_at-upper}
 use Rattle.ntt_layers.proofs.layers.inverse_layer.Goals as goal
 
@@ -61,13 +59,13 @@ loop-t-preserved c =
     let w = s.w.now in
     let m : l.t < 32 = omega arith in (
       omega arith,
-      halves_next (inverse_layer_at s.d s.neginv w s.at s.t1) _ l.t _ _ l.invariant.1 m
-          (c.fold_word.ensures ∙ sym (inverse_layer_at_lower s.d s.neginv w s.at s.t1 l.t m))
+      halves_next (inverse_layer_at s.d s.neginv w s.at s.y) _ l.t _ _ l.invariant.1 m
+          (c.fold_word.ensures ∙ sym (inverse_layer_at_lower s.d s.neginv w s.at s.y l.t m))
           (c.montgomery.ensures.0
           ∙ ap₂ (λ x y. montgomery s.d s.neginv (x * y)) c.wide.ensures.0
           (ap₂ (λ x y. (x + (3 * (134217728 - s.d) - y)) % 4294967296) c.wide-in-loop-t.ensures.0 c.wide-in-loop-t-2.ensures.0
-          ∙ mod-eq_of_lt (difference-bound s.d s.neginv w s.at s.t1 c.requires l.t m))
-          ∙ sym (inverse_layer_at-upper s.d s.neginv w s.at s.t1 l.t)),
+          ∙ mod-eq_of_lt (difference-bound s.d s.neginv w s.at s.y c.requires l.t m))
+          ∙ sym (inverse_layer_at-upper s.d s.neginv w s.at s.y l.t)),
     )
 
 pub returns : goal.returns

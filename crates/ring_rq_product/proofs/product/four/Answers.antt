@@ -1,4 +1,4 @@
-use Rattle.std.proofs.Common.{◌≡◌, ℕ, ◌+◌, ◌-◌, ◌^◌, ◌<◌, ◌≤◌, List, length, get_or, ◌∙◌, arith, rules}
+use Rattle.std.proofs.Common.{◌≡◌, ℕ, ◌+◌, ◌^◌, ◌<◌, ◌≤◌, List, length, get_or, ◌∙◌, arith}
 use Rattle.ring_rq_product.specs.Product.{AllWords, folded, growth, halves_sum}
 use Rattle.ring_rq_product.proofs.Halves.{Begun, begun_none, begun_small, begun_next, begun_folded, folded-small}
 use Rattle.ring_rq_product.proofs.product.four.Goals as goal
@@ -61,7 +61,7 @@ returns c =
     let b = all (s.at + 1) _ _ _ l.invariant.2 c.join-2.ensures in
     let t = all (s.at + 2) _ _ _ l.invariant.3 c.join-3.ensures in
     let d = all (s.at + 3) _ _ _ l.invariant.4 c.join-4.ensures in
-    ((a, b), ((t, d), (most _ _ a (omega arith), most _ _ b (omega arith), most _ _ t (omega arith), most _ _ d (omega arith))))
+    record { a_value = (a, b); c_value = (t, d); a_le_growth = (most _ _ a (omega arith), most _ _ b (omega arith), most _ _ t (omega arith), most _ _ d (omega arith)); }
 
 pub loop-i-init : goal.loop-i-init
 loop-i-init c = (omega arith, begun_none _ _ _, begun_none _ _ _, begun_none _ _ _, begun_none _ _ _)

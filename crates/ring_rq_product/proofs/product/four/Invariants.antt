@@ -1,7 +1,6 @@
 -- `four` meets its contract. The invariant: each pair of sums is that of the first i products from its place on.
-use Rattle.std.proofs.Common.{◌≡◌, ℕ, ◌+◌, ◌-◌, ◌^◌, ◌<◌, ◌≤◌, List, length, get_or, ◌∙◌, arith, rules}
-use Rattle.ring_rq_product.specs.Product.{AllWords, folded, growth, halves_sum}
-use Rattle.ring_rq_product.proofs.Halves.{Begun, begun_none, begun_small, begun_next, begun_folded, folded-small}
+use Rattle.std.proofs.Common.{◌+◌, ◌-◌, ◌≤◌}
+use Rattle.ring_rq_product.proofs.Halves.{Begun}
 use Rattle.ring_rq_product.proofs.product.four.Given as goal
 
 abbrev pub invariant-loop-i : goal.invariant-loop-i

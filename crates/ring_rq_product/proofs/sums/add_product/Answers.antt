@@ -1,5 +1,5 @@
-use Rattle.std.proofs.Common.{◌≡◌, ℕ, ◌+◌, ◌-◌, ◌*◌, ◌%◌, ◌^◌, ◌<◌, ◌≤◌, List, get_or, ap, ◌∙◌, arith, w32, Fits, rules}
-use Rattle.math.specs.lists.Table.{table, padded}
+use Rattle.std.proofs.Common.{◌≡◌, ℕ, ◌+◌, ◌*◌, ◌%◌, ◌^◌, ◌<◌, List, get_or, ap, ◌∙◌, arith, w32, Fits, rules}
+use Rattle.math.specs.lists.Table.{table}
 use Rattle.math.proofs.lists.Table.{get_or-table}
 use Rattle.math.proofs.lists.Padded.{padded-none, padded_done}
 use Rattle.spec_leaves.specs.Zq.{Q}
@@ -47,25 +47,25 @@ pub overflow_add-out : goal.overflow_add-out
 overflow_add-out c =
     let l = c.loop-b in
     let room = c.requires (4 * l.b) (omega arith) in
-    omega (arith, growth-small, c.four-f.ensures.c_value.1.0, room)
+    omega (arith, growth-small, c.four-f.ensures.a_le_growth.0, room)
 
 pub overflow_add-out-in-loop-b-2 : goal.overflow_add-out-in-loop-b-2
 overflow_add-out-in-loop-b-2 c =
     let l = c.loop-b in
     let room = c.requires (4 * l.b + 1) (omega arith) in
-    omega (arith, growth-small, c.four-f.ensures.c_value.1.1, room)
+    omega (arith, growth-small, c.four-f.ensures.a_le_growth.1, room)
 
 pub overflow_add-out-in-loop-b-5 : goal.overflow_add-out-in-loop-b-5
 overflow_add-out-in-loop-b-5 c =
     let l = c.loop-b in
     let room = c.requires (4 * l.b + 2) (omega arith) in
-    omega (arith, growth-small, c.four-f.ensures.c_value.1.2, room)
+    omega (arith, growth-small, c.four-f.ensures.a_le_growth.2, room)
 
 pub overflow_add-out-in-loop-b-8 : goal.overflow_add-out-in-loop-b-8
 overflow_add-out-in-loop-b-8 c =
     let l = c.loop-b in
     let room = c.requires (4 * l.b + 3) (omega arith) in
-    omega (arith, growth-small, c.four-f.ensures.c_value.1.3, room)
+    omega (arith, growth-small, c.four-f.ensures.a_le_growth.3, room)
 
 pub loop-b-preserved : goal.loop-b-preserved
 unfolding with_kernel
@@ -74,15 +74,15 @@ loop-b-preserved c =
     let l = c.loop-b in
     let f = c.four-f.ensures in (
       omega arith,
-      padded_four _ l.out l.b _ _ _ _ l.invariant.1 (omega arith) (ap (λ t. get_or s.t1 (4 * l.b) 0 + t) f.0.0) (sum_at s.t1 _ _ (4 * l.b) 1 _ f.0.1)
-          (sum_at s.t1 _ _ (4 * l.b) 2 _ f.1.0.0) (sum_at s.t1 _ _ (4 * l.b) 3 _ f.1.0.1),
+      padded_four _ l.out l.b _ _ _ _ l.invariant.1 (omega arith) (ap (λ t. get_or s.sums (4 * l.b) 0 + t) f.a_value.0) (sum_at s.sums _ _ (4 * l.b) 1 _ f.a_value.1)
+          (sum_at s.sums _ _ (4 * l.b) 2 _ f.c_value.0) (sum_at s.sums _ _ (4 * l.b) 3 _ f.c_value.1),
     )
 
 pub returns : goal.returns
 returns c =
     let s = c.args in
     let n : 4 * c.loop-b.b ≡ 64 = omega arith in
-    added s.t1 s.a s.b _ _ _ c.reverse-x.ensures c.extend-y.ensures
+    added s.sums s.a s.b _ _ _ c.reverse-x.ensures c.extend-y.ensures
     (λ i l. let f : Fits w32 (get_or s.a i 0) = search rules in omega arith)
     (λ i l. let f : Fits w32 (get_or s.b i 0) = search rules in omega arith)
     (padded_done 64 0 _ _ _ c.loop-b.invariant.1 n)

@@ -1,16 +1,7 @@
 -- `add_product` meets its contract. The invariant: the first 4·b sums have the kernel's added.
-use Rattle.std.proofs.Common.{◌≡◌, ℕ, ◌+◌, ◌-◌, ◌*◌, ◌%◌, ◌^◌, ◌<◌, ◌≤◌, List, get_or, ap, ◌∙◌, arith, w32, Fits, rules}
-use Rattle.math.specs.lists.Table.{table, padded}
-use Rattle.math.proofs.lists.Table.{get_or-table}
-use Rattle.math.proofs.lists.Padded.{padded-none, padded_done}
-use Rattle.spec_leaves.specs.Zq.{Q}
-use Rattle.spec_leaves.specs.Rq.{coeff, rmul}
-use Rattle.spec_leaves.proofs.Modulo.{add_remainder}
-use Rattle.ring_rq_product.specs.Product.{extended, reversed, folded, growth}
-use Rattle.ring_rq_product.specs.Sums.{Added}
-use Rattle.ring_rq_product.proofs.Fours.{padded_four}
-use Rattle.ring_rq_product.proofs.Halves.{growth-small, folded-small}
-use Rattle.ring_rq_product.proofs.Coefficient.{product_at, kernel_fits}
+use Rattle.std.proofs.Common.{◌≡◌, ℕ, ◌+◌, ◌-◌, ◌*◌, ◌≤◌, List, get_or}
+use Rattle.math.specs.lists.Table.{padded}
+use Rattle.ring_rq_product.specs.Product.{folded}
 use Rattle.ring_rq_product.proofs.sums.add_product.Given as goal
 
 -- sum k with the kernel's coefficient k added
