@@ -1,6 +1,6 @@
 -- A fold keeps the remainder, and brings a number down.
 use mathlib.Core.Path.{◌≡◌, sym, ap, ◌∙◌}
-use Prim.Native.Nat.{ℕ, ◌+◌, ◌-◌, ◌*◌, ◌/◌, ◌%◌, ◌≤◌, ◌<◌, ◌^◌}
+use Prim.Native.Nat.{ℕ, ◌+◌, ◌*◌, ◌/◌, ◌%◌, ◌≤◌, ◌<◌, ◌^◌}
 use native.Mathlib.Nat.{mul-le-mul, mul_assoc, mul_comm, mul-zero, add-mul, add-mod-mod, div-add-mod', mod-eq_of_lt, add-mul-mod_self_right}
 use native.Mathlib.Omega.{arith}
 use Rattle.spec_leaves.proofs.Modulo.{mul_mod_first, mul_mod_second}

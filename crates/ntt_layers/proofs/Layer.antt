@@ -16,7 +16,7 @@ use Rattle.math.proofs.lists.Splice.{get_or-splice-before}
 use Rattle.math.proofs.lists.Fill.{get_or-splice-table}
 use Rattle.math.specs.transform.Layers.{pow, exponent, layer}
 use Rattle.math.proofs.transform.Layers.{layer_even, layer_odd, inverse-low, inverse-high}
-use Rattle.ntt_layers.specs.Fold.{prime, fold, montgomery, Opposite, inverse32}
+use Rattle.ntt_layers.specs.Fold.{prime, montgomery, Opposite, inverse32}
 use Rattle.ntt_layers.specs.Layer.{LayerFits, SpreadFits, InverseLayerFits, turned, turned_of, layer_at, layer_of, spread_at, spread_of, lower_at, upper_at, inverse_layer_at, inverse_layer_of}
 use Rattle.ntt_layers.proofs.Residues.{Below, res, ModOps, mod_ring, res_add, res_mul, res_sub}
 use Rattle.ntt_layers.proofs.Folds.{fold-bound, montgomery-bound, res_fold, res_montgomery}

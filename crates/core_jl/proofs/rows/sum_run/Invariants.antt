@@ -1,0 +1,22 @@
+-- `sum_run` meets its contract. The invariant: the sums are those of the vectors before i.
+use mathlib.Core.Path.{◌≡◌, sym, ◌∙◌, ap}
+use mathlib.Core.List.{List}
+use Prim.Native.Nat.{ℕ, ◌+◌, ◌-◌, ◌*◌, ◌≤◌}
+use native.Mathlib.Nat.{sub_self}
+use native.Mathlib.Omega.{arith}
+use borrow.Author.Rules.{rules}
+use lib.ListN.{length, length-replicate}
+use Rattle.math.specs.lists.Table.{table}
+use Rattle.math.proofs.lists.Table.{length-table}
+use Rattle.math.proofs.lists.Rows.{rows-within}
+use Rattle.core_jl.specs.Run.{made_sum}
+use Rattle.core_jl.proofs.Places.{matrices-within}
+use Rattle.core_jl.proofs.Made.{Words, none_made, made-next, made-room}
+use Rattle.core_jl.proofs.rows.sum_run.Given as goal
+
+abbrev pub invariant-loop-i : goal.invariant-loop-i
+invariant-loop-i l =
+    (l.first ≤ l.i) × (l.i - l.first ≤ l.end - l.first) × (l.sums ≡ table 256 (made_sum l.randomness l.pi_at l.witness l.s_at l.n l.first (l.i - l.first)))
+
+abbrev pub decreases-loop-i : goal.decreases-loop-i
+decreases-loop-i l = l.end - l.i
