@@ -136,10 +136,14 @@ class Function:
         if not segs:
             return ("place", place)
         s = segs[0]
+        if s.endswith("_lem") and not any(norm(s) in (norm(o), norm(n)) for o, n in self.step.values() if o):
+            s = s[:-4]
         if s in ROOT:
             pre = self.pre_fields()
             if s == "requires" and pre and len(segs) > 1 and len(pre) > 1:
                 segs = ["requires"] + nested(pre, segs[1:])
+            if s == "args" and len(segs) > 1 and norm(segs[1]) in self.own:
+                segs[1] = norm(segs[1])
             if s == "args" and len(segs) > 1 and re.fullmatch(r"t\d+", segs[1]) and segs[1] not in self.own:
                 k = int(segs[1][1:]) - 1
                 if k < len(self.own):
@@ -213,6 +217,8 @@ def convert_body(fn, text, env, goal, problems, record_vars=()):
         var, rest = m[1], m[2]
         if var in args_names:
             segs = [s for s in rest.split(".") if s]
+            if segs and norm(segs[0]) in fn.own and segs[0] not in fn.own:
+                return ".".join([var, norm(segs[0])] + segs[1:])
             if segs and re.fullmatch(r"t\d+", segs[0]) and segs[0] not in fn.own and int(segs[0][1:]) <= len(fn.own):
                 segs[0] = fn.own[int(segs[0][1:]) - 1]
                 return ".".join([var] + segs)
@@ -296,7 +302,7 @@ def convert(path, base, fn, inv_names):
             by_decl.setdefault(a, []).append(i)
         else:
             inline[i] = a
-    inv_out, ans_out, helpers = [], [], []
+    inv_out, ans_out, helpers, late = [], [], [], []
     local_inv_helpers = set()
     old_of_new = {}
     done = set()
@@ -372,7 +378,15 @@ def convert(path, base, fn, inv_names):
                     continue
                 ans_out.append(("\n".join(comment) + "\n" if comment else "") + f"pub {new} : goal.{new}\n{unf}{new} c ={expr}")
             continue
-        # a helper
+        # a helper, which may answer a goal too
+        for i in by_decl.get(name, []):
+            b = re.search(r"\((" + SEG + r") : tie\.((?:After|At|In|Then|Else|Start)[^\s(){}.;,]*)", body)
+            if b and fn.place(b[2]):
+                g, p = needs[i][1], fn.new_place[fn.place(b[2])]
+                fn.named.add(p)
+                late.append(f"pub {g} : goal.{g}\n{g} c = {name} (goal.at.{g} c).{p}")
+            else:
+                problems.append(f"{name} answers {needs[i][1]}")
         if "tie." in body:
             body2, met = fix_tie_types(fn, body, problems)
             env = {}
@@ -403,6 +417,7 @@ def convert(path, base, fn, inv_names):
         if expr.strip() in TRIVIAL:
             continue
         ans_out.append(f"pub {new} : goal.{new}\n{new} c = {expr}")
+    ans_out += late
     # helpers that an invariant names
     inv_text = "\n".join(inv_out)
     need_in_inv, grew = set(), True

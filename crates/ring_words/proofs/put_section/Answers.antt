@@ -2,7 +2,6 @@
 use mathlib.Core.Path.{◌≡◌, ◌∙◌, ap}
 use mathlib.Core.List.{◌∷◌}
 use native.Mathlib.Numerals.{add-one}
-use borrow.Author.Rules.{rules}
 use lib.ListN.{length, set}
 use lib.Seq.{sets}
 use Rattle.math.specs.lists.Part.{part, splice}
@@ -13,7 +12,7 @@ use Rattle.ring_words.proofs.put_section.Goals as goal
 -- the count and the words stored are one run
 stored : (c : After-slice_known-2-1)
     → let s = c.args in
-    c.copy.new.0 ≡ splice s.to.now s.at (s.count ∷ part s.from.now s.start s.count)
+    c.copy.new.to ≡ splice s.to.now s.at (s.count ∷ part s.from.now s.start s.count)
 unfolding splice
 stored c =
     let s = c.args in
@@ -21,3 +20,6 @@ stored c =
 
 pub shape_of-to : goal.shape_of-to
 shape_of-to c = ap length (stored (goal.at.shape_of-to c).After-slice_known-2-1) ∙ length-splice _ _ _
+
+pub returns : goal.returns
+returns c = stored (goal.at.returns c).After-slice_known-2-1

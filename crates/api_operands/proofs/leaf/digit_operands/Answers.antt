@@ -1,6 +1,5 @@
 -- `digit_operands` meets its contract.
 use mathlib.Core.Path.{◌∙◌, ap₂}
-use borrow.Author.Rules.{rules}
 use Rattle.spec_leaves.specs.Answer.{◌then◌}
 use Rattle.api_operands.proofs.leaf.digit_operands.Goals as goal
 

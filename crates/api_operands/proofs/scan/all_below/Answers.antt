@@ -1,10 +1,8 @@
-use mathlib.Core.Path.{◌≡◌, refl, sym, ◌∙◌}
-use mathlib.Core.Bool.{true, true≢false}
-use mathlib.Core.Logic.{⊎_elim}
-use Prim.Native.Nat.{◌-◌, ◌≤◌}
+use mathlib.Core.Path.{sym, ◌∙◌}
+use mathlib.Core.Bool.{true≢false}
 use native.Mathlib.Omega.{arith}
-use lib.ListN.{length}
-use Rattle.api_operands.proofs.Scans.{Passed, none_passed, one_passed, all_passed_at}
+use Rattle.api_operands.proofs.Scans.{none_passed, one_passed, all_passed_at}
+use Rattle.api_operands.proofs.scan.all_below.Goals.{then-words-k, else-words-k}
 use Rattle.api_operands.proofs.scan.all_below.Goals as goal
 
 pub loop-k-preserved : goal.loop-k-preserved
@@ -13,10 +11,10 @@ loop-k-preserved c =
     let s = c.args in (
       omega arith,
       λ e.
-          ⊎_elim
-          (λ w. absurd (true≢false (sym e ∙ w.1)))
-          (λ w. one_passed s.limit s.words.now l.k (l.invariant.1 (sym w.1 ∙ e)) (omega arith) (omega (arith, w.0.left)))
-          c.if-words-k.branch,
+          elim c.if-words-k.branch [
+            then-words-k w ↦ absurd (true≢false (sym e ∙ w.fit-is))
+          | else-words-k w ↦ one_passed s.limit s.words.now l.k (l.invariant.1 (sym w.fit-is ∙ e)) (omega arith) (omega arith)
+          ],
     )
 
 pub returns : goal.returns

@@ -1,11 +1,9 @@
 -- `all_below` meets its contract. The invariant: as long as no word was bad, those looked at are passed.
-use mathlib.Core.Path.{◌≡◌, refl, sym, ◌∙◌}
-use mathlib.Core.Bool.{true, true≢false}
-use mathlib.Core.Logic.{⊎_elim}
+use mathlib.Core.Path.{◌≡◌}
+use mathlib.Core.Bool.{true}
 use Prim.Native.Nat.{◌-◌, ◌≤◌}
-use native.Mathlib.Omega.{arith}
 use lib.ListN.{length}
-use Rattle.api_operands.proofs.Scans.{Passed, none_passed, one_passed, all_passed_at}
+use Rattle.api_operands.proofs.Scans.{Passed}
 use Rattle.api_operands.proofs.scan.all_below.Given as goal
 
 abbrev pub invariant-loop-k : goal.invariant-loop-k

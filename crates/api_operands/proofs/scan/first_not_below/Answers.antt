@@ -1,7 +1,5 @@
-use Prim.Native.Nat.{◌-◌, ◌≤◌}
 use native.Mathlib.Omega.{arith}
-use lib.ListN.{length}
-use Rattle.api_operands.proofs.Scans.{Passed, none_passed, one_passed, bad_found, all_passed}
+use Rattle.api_operands.proofs.Scans.{none_passed, one_passed, bad_found, all_passed}
 use Rattle.api_operands.proofs.scan.first_not_below.Goals as goal
 
 pub returns-then-limit-words : goal.returns-then-limit-words

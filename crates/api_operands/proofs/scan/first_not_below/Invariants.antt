@@ -1,8 +1,7 @@
 -- `first_not_below` meets its contract. The invariant: the whole answer is that of the words from i on.
 use Prim.Native.Nat.{◌-◌, ◌≤◌}
-use native.Mathlib.Omega.{arith}
 use lib.ListN.{length}
-use Rattle.api_operands.proofs.Scans.{Passed, none_passed, one_passed, bad_found, all_passed}
+use Rattle.api_operands.proofs.Scans.{Passed}
 use Rattle.api_operands.proofs.scan.first_not_below.Given as goal
 
 abbrev pub invariant-loop-i : goal.invariant-loop-i

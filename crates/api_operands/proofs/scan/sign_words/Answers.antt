@@ -1,7 +1,6 @@
 -- `sign_words` meets its contract.
 use mathlib.Core.Path.{sym, ◌∙◌, ap}
 use native.Mathlib.Nat.{zero-add}
-use borrow.Author.Rules.{rules}
 use Rattle.spec_leaves.specs.Answer.{refused}
 use Rattle.api_operands.proofs.Scans.{found_bad, found_none}
 use Rattle.api_operands.proofs.scan.sign_words.Goals as goal

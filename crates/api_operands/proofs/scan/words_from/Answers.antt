@@ -1,5 +1,4 @@
 -- `words_from` meets its contract.
-use borrow.Author.Rules.{rules}
 use Rattle.api_operands.proofs.Scans.{found_bad, found_none}
 use Rattle.api_operands.proofs.scan.words_from.Goals as goal
 
