@@ -110,6 +110,7 @@ class Function:
             self.callee[old] = callee or ""
             self.new_place[old] = new
         self.arms = dict(zip(self.parent, entry.get("arms") or []))
+        self.typed = dict(zip(self.parent, entry.get("typed") or []))
         self.clauses = dict(zip(self.parent, entry.get("clauses") or []))
         self.by_norm = {norm(o): o for o in self.parent}
         self.args = {}
@@ -149,6 +150,10 @@ class Function:
                 if k < len(self.own):
                     segs[1] = self.own[k]
             return ("path", segs)
+        # what the type of a slice says of its items
+        for var, old in (self.typed.get(place) or []):
+            if norm(old) == norm(s) and segs[1:2] == ["given"]:
+                return ("path", ["type_inv", var] + segs[2:])
         # an arm's names
         p = place
         while p is not None:
