@@ -6,7 +6,7 @@ use native.Mathlib.Nat as Nat
 use native.Mathlib.Decide.{dec_lt, ℕ_discrete}
 use native.Mathlib.Omega.{arith}
 use borrow.Author.Tests.{eq-eqb, ne_eqb, lt-ltb, le-ltb}
-use lib.ListN.{length, get_or}
+use lib.ListN.{get_or}
 use Rattle.math.proofs.lists.Table.{length-table, get_or-table}
 use Rattle.math.specs.transform.Layers.{pow, exponent}
 use Rattle.math.proofs.transform.Computed.{agree}
