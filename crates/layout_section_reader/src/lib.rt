@@ -1,5 +1,4 @@
-// "A record with the lent slice and a position reads the sections." The borrow checker covers no function over such a record,
-// so each is thin and proved by hand; the work is in `section_at` and `behind_at`, which take the slice and the position.
+// "A record with the lent slice and a position reads the sections." The work is in `section_at` and `behind_at`, which take the slice and the position.
 // Callers use `section_from`, whose parameters are plain, and go on behind the section that it gives.
 #![tactic(auto)]
 

@@ -1,20 +1,19 @@
 -- A search through the words of a table's sections: what is left from a word on.
 use mathlib.Core.Path.{◌≡◌, refl, sym, ap, subst, ◌∙◌}
-use mathlib.Core.List.{List, [], ◌∷◌}
-use mathlib.Core.Logic.{⊎_elim}
+use mathlib.Core.List.{List, ◌∷◌}
 use Prim.Native.Nat.{ℕ, zero, suc, ◌+◌, ◌-◌, ◌≤◌, ◌<◌, ◌^◌}
-use native.Mathlib.Nat.{le_refl, le_trans, sub-eq-zero_of_le}
+use native.Mathlib.Nat.{le_refl, sub-eq-zero_of_le}
 use native.Mathlib.Decide.{dec_lt, ℕ_discrete}
 use native.Mathlib.Numerals.{add-one}
 use native.Mathlib.Omega.{arith}
 use borrow.Author.Tests.{lt-ltb, le-ltb, eq-eqb, ne_eqb}
 use lib.ListN.{length, get_or, take, drop, length-take, length-drop}
 use lib.Seq.{drop-cons, get_or-take, get_or-drop}
-use Rattle.spec_leaves.specs.Answer.{Answer, fine, refused, below, ◌then◌}
+use Rattle.spec_leaves.specs.Answer.{fine, refused, below, ◌then◌}
 use Rattle.spec_protocol.specs.Layout.{Section, part, span, in_range, ranged}
 use Rattle.spec_leaves.proofs.Leaf.{below-fine}
 use Rattle.layout_sections.specs.declared.sections.Sections.{Sections}
-use Rattle.layout_sections.specs.Sections.{at_most, section_at, listed, Passed}
+use Rattle.layout_sections.specs.Sections.{at_most, listed, Passed}
 use Rattle.layout_sections.proofs.Walk.{listed-from, listed_past}
 
 -- each element is a u32

@@ -1,7 +1,7 @@
 -- A walk over the sections of a table: what is left from section m on.
 use mathlib.Core.Path.{◌≡◌, refl, sym, ap, ◌∙◌}
 use mathlib.Core.List.{List, [], ◌∷◌}
-use Prim.Native.Nat.{ℕ, suc, ◌+◌, ◌≤◌, ◌<◌}
+use Prim.Native.Nat.{ℕ, ◌+◌, ◌≤◌, ◌<◌}
 use native.Mathlib.Decide.{dec_le}
 use native.Mathlib.Numerals.{add-one}
 use native.Mathlib.Omega.{arith}
@@ -10,7 +10,7 @@ use lib.ListN.{length, get_or, drop, drop_of_length-le}
 use lib.Seq.{drop-cons}
 use Rattle.math.specs.lists.Table.{table}
 use Rattle.math.proofs.lists.Table.{length-table, get_or-table}
-use Rattle.spec_leaves.specs.Answer.{Answer, fine, refused, ◌then◌}
+use Rattle.spec_leaves.specs.Answer.{fine, refused, ◌then◌}
 use Rattle.spec_protocol.specs.Checks.{require}
 use Rattle.spec_protocol.specs.Layout.{Section, span, counted, layout}
 use Rattle.spec_protocol.proofs.Fine.{require-holds, require_fails}

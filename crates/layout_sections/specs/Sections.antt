@@ -1,5 +1,5 @@
 -- What the tables of sections and the findings of this crate stand for.
-use Rattle.std.specs.Prelude.{◌≡◌, cond, List, ℕ, ◌+◌, ◌≤◌, ◌<◌, eqb, length, get_or}
+use Rattle.std.specs.Prelude.{◌≡◌, cond, List, ℕ, ◌+◌, ◌≤◌, ◌<◌, eqb, get_or}
 use Rattle.math.specs.lists.Table.{table}
 use Rattle.spec_leaves.specs.Answer.{Answer, fine, refused}
 use Rattle.spec_protocol.specs.Layout.{Range, free, under, Section}

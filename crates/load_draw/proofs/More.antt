@@ -5,7 +5,7 @@ use Prim.Native.Nat.{ℕ, zero, suc, ◌+◌, ◌≤◌, ◌<◌}
 use native.Mathlib.Nat.{zero-add}
 use native.Mathlib.Numerals.{add-one}
 use native.Mathlib.Omega.{arith}
-use lib.ListN.{length, get_or, set, replicate, length-append, length-replicate}
+use lib.ListN.{length, get_or, set, length-append, length-replicate}
 use Rattle.math.specs.lists.Sum.{Σ}
 use Rattle.math.proofs.lists.Table.{length-table, table-suc}
 use Rattle.math.specs.lists.Table.{table}

@@ -1,11 +1,7 @@
 -- `count` meets its contract. The invariant: the sections before m are there.
-use mathlib.Core.Path.{◌∙◌}
-use mathlib.Core.Logic.{⊎_elim}
 use Prim.Native.Nat.{◌-◌, ◌≤◌}
-use native.Mathlib.Omega.{arith}
-use borrow.Author.Rules.{rules}
 use Rattle.layout_sections.specs.Sections.{listed}
-use Rattle.layout_sections.proofs.Walk.{Reached, reached_none, reached_past, reached_wrong, reached_short, reached_next, reached_all, reached_end}
+use Rattle.layout_sections.proofs.Walk.{Reached}
 use Rattle.layout_sections.proofs.counts.count.Given as goal
 
 abbrev pub invariant-loop-m : goal.invariant-loop-m

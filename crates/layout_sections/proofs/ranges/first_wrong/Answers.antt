@@ -1,11 +1,10 @@
-use mathlib.Core.Path.{◌≡◌, refl, ap, ◌∙◌}
-use Prim.Native.Nat.{◌+◌, ◌-◌, ◌≤◌}
+use mathlib.Core.Path.{refl, ap, ◌∙◌}
+use Prim.Native.Nat.{◌+◌, ◌≤◌}
 use native.Mathlib.Omega.{arith}
 use lib.ListN.{length, get_or}
-use Rattle.layout_sections.specs.Sections.{listed, of_found}
-use Rattle.layout_sections.specs.declared.counts.Found.TheVariants as F
-use Rattle.layout_sections.proofs.Search.{Searched, InSection, searched_none, searched_all, section_ends, section_passed, word_next, word-found, section_next}
-use Rattle.layout_sections.proofs.ranges.first_wrong.Goals.{In-sections, In-sections-unread-2}
+use Rattle.layout_sections.specs.Sections.{of_found}
+use Rattle.layout_sections.proofs.Search.{searched_none, searched_all, section_ends, section_passed, word_next, word-found, section_next}
+use Rattle.layout_sections.proofs.ranges.first_wrong.Goals.{In-sections}
 use Rattle.layout_sections.proofs.ranges.first_wrong.Goals as goal
 
 -- the end of section m lies within the words
@@ -19,14 +18,8 @@ end_fits c =
 pub sections-init : goal.sections-init
 sections-init c = (refl, omega arith, searched_none _ _ _)
 
-pub overflow_add-end : goal.overflow_add-end
-overflow_add-end c = omega (arith, end_fits (goal.at.overflow_add-end c).In-sections)
-
 pub overflow_add-end-in-sections : goal.overflow_add-end-in-sections
 overflow_add-end-in-sections c = omega (arith, end_fits (goal.at.overflow_add-end-in-sections c).In-sections)
-
-pub overflow_add-at : goal.overflow_add-at
-overflow_add-at c = omega (arith, end_fits (goal.at.overflow_add-at c).In-sections)
 
 pub pass-at-requires : goal.pass-at-requires
 pass-at-requires c = omega (arith, end_fits (goal.at.pass-at-requires c).In-sections)
@@ -37,7 +30,7 @@ loop-at-init c =
       l.invariant.0,
       l.invariant.1,
       section_passed _ _ _ (omega arith) l.at l.m l.invariant.2
-          (λ i h. omega (arith, c.shared_slice_known-1.given i)) (omega arith) _ c.pass-at.ensures,
+          (λ i h. omega (arith, c.type_inv.words i)) (omega arith) _ c.pass-at.ensures,
     )
 
 pub loop-at-preserved : goal.loop-at-preserved

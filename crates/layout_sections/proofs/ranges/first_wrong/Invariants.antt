@@ -1,11 +1,9 @@
 -- `ranges::first_wrong` meets its contract. The invariants: the sections before m, and the words of section m before `at`, are in range.
-use mathlib.Core.Path.{◌≡◌, refl, ap, ◌∙◌}
-use Prim.Native.Nat.{◌+◌, ◌-◌, ◌≤◌}
-use native.Mathlib.Omega.{arith}
-use lib.ListN.{length, get_or}
-use Rattle.layout_sections.specs.Sections.{listed, of_found}
+use mathlib.Core.Path.{◌≡◌}
+use Prim.Native.Nat.{◌-◌, ◌≤◌}
+use Rattle.layout_sections.specs.Sections.{listed}
 use Rattle.layout_sections.specs.declared.counts.Found.TheVariants as F
-use Rattle.layout_sections.proofs.Search.{Searched, InSection, searched_none, searched_all, section_ends, section_passed, word_next, word-found, section_next}
+use Rattle.layout_sections.proofs.Search.{Searched, InSection}
 use Rattle.layout_sections.proofs.ranges.first_wrong.Given as goal
 
 abbrev pub invariant-loop-at : goal.invariant-loop-at

@@ -1,13 +1,10 @@
-use Prim.Native.Nat.{◌-◌}
 use native.Mathlib.Nat.{le_refl}
 use native.Mathlib.Omega.{arith}
-use borrow.Author.Tests.{not-false}
-use Rattle.layout_sections.specs.Sections.{Passed}
 use Rattle.layout_sections.proofs.Search.{passed_none, passed_more}
 use Rattle.layout_sections.proofs.ranges.pass.Goals as goal
 
 pub returns-then-greatest-eq4294967295 : goal.returns-then-greatest-eq4294967295
-returns-then-greatest-eq4294967295 c = record { after = omega arith; before = le_refl _; most = λ i g l. omega (arith, c.shared_slice_known-1.given i) }
+returns-then-greatest-eq4294967295 c = record { after = omega arith; before = le_refl _; most = λ i g l. omega (arith, c.type_inv.words i) }
 
 pub loop-at-init : goal.loop-at-init
 loop-at-init c = passed_none _ _ _ _ (omega arith)
@@ -18,7 +15,7 @@ returns-then-not-within c = c.loop-at.invariant
 pub loop-at-preserved : goal.loop-at-preserved
 loop-at-preserved c =
     let l = c.loop-at in
-    passed_more _ _ _ _ l.at 256 l.invariant (omega arith) (c.within.ensures (not-false _ c.if-not-within.false))
+    passed_more _ _ _ _ l.at 256 l.invariant (omega arith) (c.within.ensures c.if-not-within.false)
 
 pub returns : goal.returns
 returns c = c.loop-at.invariant

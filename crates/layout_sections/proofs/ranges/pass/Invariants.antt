@@ -1,10 +1,6 @@
 -- `pass` meets its contract. The invariant: the words before `at` are at most the greatest.
 use Prim.Native.Nat.{◌-◌}
-use native.Mathlib.Nat.{le_refl}
-use native.Mathlib.Omega.{arith}
-use borrow.Author.Tests.{not-false}
 use Rattle.layout_sections.specs.Sections.{Passed}
-use Rattle.layout_sections.proofs.Search.{passed_none, passed_more}
 use Rattle.layout_sections.proofs.ranges.pass.Given as goal
 
 abbrev pub invariant-loop-at : goal.invariant-loop-at

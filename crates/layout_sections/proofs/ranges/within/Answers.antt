@@ -1,10 +1,9 @@
-use Prim.Native.Nat.{ℕ, ◌+◌, ◌-◌, ◌≤◌, ◌<◌}
-use mathlib.Core.Path.{◌≡◌, ◌∙◌, sym}
-use mathlib.Core.Bool.{true, true≢false}
-use mathlib.Core.Logic.{⊎_elim}
+use Prim.Native.Nat.{◌+◌, ◌≤◌}
+use mathlib.Core.Path.{◌∙◌, sym}
 use native.Mathlib.Omega.{arith}
 use borrow.Author.Count.{below_more}
 use lib.ListN.{get_or}
+use Rattle.layout_sections.proofs.ranges.within.Goals.{then-greatest-words, else-greatest-words}
 use Rattle.layout_sections.proofs.ranges.within.Goals as goal
 
 pub loop-k-init : goal.loop-k-init
@@ -16,15 +15,15 @@ loop-k-preserved c =
     let s = c.args in (
       omega arith,
       λ e.
-          ⊎_elim
-          (λ w. absurd (true≢false (sym e ∙ w.1)))
-          (λ w.
-          below_more
-          (λ j. get_or s.words.now (s.at + j) 0 ≤ s.greatest)
-          l.k
-          (l.invariant.1 (sym w.1 ∙ e))
-          w.0.left)
-          c.if-greatest-words.branch,
+          elim c.if-greatest-words.branch [
+            then-greatest-words w ↦ absurd (cc)
+          | else-greatest-words w ↦
+            below_more
+            (λ j. get_or s.words.now (s.at + j) 0 ≤ s.greatest)
+            l.k
+            (l.invariant.1 (sym w.fit-is ∙ e))
+            w.if-greatest-words.false
+          ],
     )
 
 pub returns : goal.returns
