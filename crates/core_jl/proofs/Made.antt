@@ -9,7 +9,7 @@ use lib.Dec.{ltb}
 use lib.ListN.{length, get_or, replicate, length-replicate, get_or-replicate}
 use Rattle.math.specs.lists.Sum.{Σ}
 use Rattle.math.specs.lists.Table.{table}
-use Rattle.math.proofs.lists.Sum.{Σ-suc, Σ_ext, Σ-bound, Σ-mod_ext}
+use Rattle.math.proofs.lists.Sum.{Σ-suc, Σ-bound, Σ-mod_ext}
 use Rattle.math.proofs.lists.Table.{length-table, get_or-table, table_ext, is_table}
 use Rattle.spec_leaves.specs.Zq.{Q}
 use Rattle.spec_leaves.proofs.Cases.{ltb_cases}

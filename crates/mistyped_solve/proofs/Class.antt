@@ -1,7 +1,7 @@
 -- The solutions of a congruence whose factor divides Q are the numbers of one remainder; of these the least or the greatest below Q has the smallest centred size.
 use mathlib.Core.Path.{◌≡◌, sym, ap, subst, ◌∙◌}
 use mathlib.Core.Bool.{cond}
-use Prim.Native.Nat.{ℕ, ◌+◌, ◌-◌, ◌*◌, ◌/◌, ◌%◌, ◌≤◌, ◌<◌, ◌∣◌}
+use Prim.Native.Nat.{ℕ, ◌+◌, ◌-◌, ◌*◌, ◌/◌, ◌%◌, ◌≤◌, ◌<◌}
 use native.Mathlib.Nat.{div-add-mod', mul-add-mod_self_right, mod-eq_of_lt, mod-lt, mod-le, mul-lt-mul_of_pos_left, lt_of_mul-lt-mul_left, eq_of_mul-eq-mul_left}
 use native.Mathlib.Nat.{pos_of_dvd_of_pos, mul-div_cancel', div-add-mod, mul-mod_right, div-le_self, add-zero, mul-le-mul_right}
 use native.Mathlib.Omega.{arith}

@@ -1,5 +1,5 @@
 -- Congruences factor·x = value modulo Q in one unknown.
-use Rattle.std.specs.Prelude.{◌≡◌, ◌↔◌, ℕ, ◌*◌, ◌%◌, ◌<◌, ◌≤◌}
+use Rattle.std.specs.Prelude.{◌≡◌, ◌↔◌, ℕ, ◌*◌, ◌%◌, ◌≤◌}
 use Rattle.std.specs.Int.{◌∣◌}
 use Rattle.spec_leaves.specs.Zq.{Q, Canonical, size}
 use Rattle.mistyped_solve.specs.declared.congruence.Congruence.{Congruence}

@@ -1,12 +1,12 @@
 -- What is nearest to zero in each range is a choice with the smallest norm, and what is farthest one with the largest.
-use mathlib.Core.Path.{◌≡◌, refl, sym, ap, subst, ◌∙◌}
+use mathlib.Core.Path.{◌≡◌, refl, ap, subst, ◌∙◌}
 use mathlib.Core.List.{List}
-use Prim.Native.Nat.{ℕ, ◌+◌, ◌*◌, ◌≤◌, ◌<◌}
+use Prim.Native.Nat.{ℕ, ◌+◌, ◌≤◌, ◌<◌}
 use native.Mathlib.Nat.{mul-le-mul}
 use native.Mathlib.Omega.{arith}
 use lib.IntN.{ℤ, pos, nat_abs}
 use lib.Signed.{◌≤ℤ◌}
-use lib.ListN.{length, get_or}
+use lib.ListN.{length}
 use Rattle.math.specs.lists.Table.{table}
 use Rattle.math.specs.lists.Part.{part}
 use Rattle.math.specs.lists.Sum.{Σ}

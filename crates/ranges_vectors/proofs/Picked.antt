@@ -3,7 +3,6 @@ use mathlib.Core.Path.{◌≡◌, ap, ◌∙◌}
 use mathlib.Core.List.{List}
 use Prim.Native.Nat.{ℕ, ◌+◌}
 use lib.IntN.{ℤ, pos}
-use lib.ListN.{length, get_or}
 use Rattle.math.specs.lists.Table.{table}
 use Rattle.math.specs.lists.Sum.{Σ}
 use Rattle.math.proofs.lists.Sum.{Σ_ext}

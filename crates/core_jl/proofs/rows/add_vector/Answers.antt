@@ -61,7 +61,7 @@ raise-requires c =
     let h = c.requires in
     let l = c.loop-j in
     let f = c.four-f.ensures in
-    let words : Words s.witness.now = λ k. omega (arith, c.shared_slice_known-2-1.given k) in
+    let words : Words s.witness.now = λ k. omega (arith, c.type_inv.witness k) in
     room s.sums.now s.randomness.now s.at s.witness.now s.wt s.width _ l.j _ _ h.3 words h.2 l.invariant.2 (omega (arith, l.invariant.1)) f.a_value
 
 pub raise-requires-in-loop-j : goal.raise-requires-in-loop-j
@@ -70,7 +70,7 @@ raise-requires-in-loop-j c =
     let h = c.requires in
     let l = c.loop-j in
     let f = c.four-f.ensures in
-    let words : Words s.witness.now = λ k. omega (arith, c.shared_slice_known-2-1.given k) in
+    let words : Words s.witness.now = λ k. omega (arith, c.type_inv.witness k) in
     let step = raised s.sums.now s.randomness.now s.at s.witness.now s.wt s.width in
     let one = step _ _ l.j _ _ (l.j + 1) l.invariant.2 c.raise.ensures f.a_value (omega arith) (omega arith) in
     room s.sums.now s.randomness.now s.at s.witness.now s.wt s.width _ (l.j + 1) _ _ h.3 words h.2 one (omega (arith, l.invariant.1)) f.b_value
@@ -81,7 +81,7 @@ raise-requires-in-loop-j-2 c =
     let h = c.requires in
     let l = c.loop-j in
     let f = c.four-f.ensures in
-    let words : Words s.witness.now = λ k. omega (arith, c.shared_slice_known-2-1.given k) in
+    let words : Words s.witness.now = λ k. omega (arith, c.type_inv.witness k) in
     let step = raised s.sums.now s.randomness.now s.at s.witness.now s.wt s.width in
     let one = step _ _ l.j _ _ (l.j + 1) l.invariant.2 c.raise.ensures f.a_value (omega arith) (omega arith) in
     let two = step _ _ (l.j + 1) _ _ (l.j + 2) one c.raise-in-loop-j.ensures f.b_value (omega arith) (omega arith) in
@@ -93,7 +93,7 @@ raise-requires-in-loop-j-3 c =
     let h = c.requires in
     let l = c.loop-j in
     let f = c.four-f.ensures in
-    let words : Words s.witness.now = λ k. omega (arith, c.shared_slice_known-2-1.given k) in
+    let words : Words s.witness.now = λ k. omega (arith, c.type_inv.witness k) in
     let step = raised s.sums.now s.randomness.now s.at s.witness.now s.wt s.width in
     let one = step _ _ l.j _ _ (l.j + 1) l.invariant.2
     c.raise.ensures f.a_value (omega arith) (omega arith) in

@@ -14,7 +14,7 @@ pub loop-m-preserved : goal.loop-m-preserved
 loop-m-preserved c =
     let l = c.loop-m in
     let s = c.args in
-    let words : Words s.witness.now = λ k. omega (arith, c.shared_slice_known-2-1.given k) in (
+    let words : Words s.witness.now = λ k. omega (arith, c.type_inv.witness k) in (
       omega arith,
       begun_next s.randomness.now _ s.witness.now s.wt l.m _ _ _ _ _ _ words l.invariant.1 c.add-a.ensures,
       begun_next s.randomness.now _ s.witness.now s.wt l.m _ _ _ _ _ _ words l.invariant.2 c.add-b.ensures,

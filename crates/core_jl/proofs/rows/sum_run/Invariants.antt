@@ -1,17 +1,8 @@
 -- `sum_run` meets its contract. The invariant: the sums are those of the vectors before i.
-use mathlib.Core.Path.{◌≡◌, sym, ◌∙◌, ap}
-use mathlib.Core.List.{List}
-use Prim.Native.Nat.{ℕ, ◌+◌, ◌-◌, ◌*◌, ◌≤◌}
-use native.Mathlib.Nat.{sub_self}
-use native.Mathlib.Omega.{arith}
-use borrow.Author.Rules.{rules}
-use lib.ListN.{length, length-replicate}
+use mathlib.Core.Path.{◌≡◌}
+use Prim.Native.Nat.{◌-◌, ◌≤◌}
 use Rattle.math.specs.lists.Table.{table}
-use Rattle.math.proofs.lists.Table.{length-table}
-use Rattle.math.proofs.lists.Rows.{rows-within}
 use Rattle.core_jl.specs.Run.{made_sum}
-use Rattle.core_jl.proofs.Places.{matrices-within}
-use Rattle.core_jl.proofs.Made.{Words, none_made, made-next, made-room}
 use Rattle.core_jl.proofs.rows.sum_run.Given as goal
 
 abbrev pub invariant-loop-i : goal.invariant-loop-i

@@ -1,6 +1,5 @@
 use mathlib.Core.Path.{refl, sym, ap, subst, ◌∙◌}
 use Prim.Native.Nat.{ℕ, ◌%◌}
-use borrow.Author.Rules.{rules}
 use native.Mathlib.Nat.{mod-lt}
 use native.Mathlib.Omega.{arith}
 use Rattle.spec_leaves.specs.Zq.{zsub}
@@ -11,8 +10,8 @@ pub loop-lower-preserved : goal.loop-lower-preserved
 loop-lower-preserved c =
     let l = c.loop-lower in
     let s = c.args in
-    subst (λ (v : ℕ). Carried s.first s.second l.lower l.lower-value (l.upper % l.lower) v)
-    (sym (c.sub-rest_value.ensures ∙ ap (zsub l.upper-value) c.mul.ensures))
+    subst (λ (v : ℕ). Carried s.first s.second l.lower l.lower_value (l.upper % l.lower) v)
+    (sym (c.sub-rest_value.ensures ∙ ap (zsub l.upper_value) c.mul.ensures))
     (carried-next s.first s.second l.invariant)
 
 pub returns-then-lower_value-ne0 : goal.returns-then-lower_value-ne0

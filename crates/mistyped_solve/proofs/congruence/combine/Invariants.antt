@@ -1,11 +1,5 @@
 -- `combine` meets its contract. The loop's invariant: the two congruences at hand have the solutions of the two handed in.
-use mathlib.Core.Path.{refl, sym, ap, subst, ◌∙◌}
-use Prim.Native.Nat.{ℕ, ◌%◌}
-use borrow.Author.Rules.{rules}
-use native.Mathlib.Nat.{mod-lt}
-use native.Mathlib.Omega.{arith}
-use Rattle.spec_leaves.specs.Zq.{zsub}
-use Rattle.mistyped_solve.proofs.Division.{Carried, carried-start, carried-next, carried_none, carried-one}
+use Rattle.mistyped_solve.proofs.Division.{Carried}
 use Rattle.mistyped_solve.proofs.congruence.combine.Given as goal
 
 abbrev pub invariant-loop-lower : goal.invariant-loop-lower

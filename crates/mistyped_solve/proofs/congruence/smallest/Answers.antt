@@ -4,7 +4,6 @@ use native.Mathlib.Nat.{div-le_self}
 use native.Mathlib.Omega.{arith}
 use Rattle.spec_leaves.specs.Zq.{Q}
 use Rattle.mistyped_solve.proofs.Class.{G_positive, no_solution, below_step, least-found, greatest-found}
-use Rattle.mistyped_solve.proofs.congruence.smallest.Goals.{Else-value-factor-ne0}
 use Rattle.mistyped_solve.proofs.congruence.smallest.Goals as goal
 
 pub overflow_sub-step : goal.overflow_sub-step
@@ -31,7 +30,7 @@ pub nonzero_div-step : goal.nonzero_div-step
 nonzero_div-step c = G_positive c.args.c c.requires
 
 pub overflow_sub-result : goal.overflow_sub-result
-overflow_sub-result c = sub-if2 (goal.at.overflow_sub-result c).Else-value-factor-ne0
+overflow_sub-result c = omega (arith, below_step c.args.c c.requires c.if-value-factor-ne0.false)
 
 pub overflow_sub-result-else-least-step : goal.overflow_sub-result-else-least-step
 overflow_sub-result-else-least-step c = omega (arith, div-le_self Q c.args.c.factor)

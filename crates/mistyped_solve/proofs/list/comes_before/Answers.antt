@@ -1,6 +1,5 @@
 -- `comes_before` meets its contract.
 use mathlib.Core.Path.{ap, ap₂, ◌∙◌}
-use borrow.Author.Rules.{rules}
 use lib.Dec.{ltb}
 use Rattle.spec_leaves.specs.Zq.{size}
 use Rattle.spec_protocol.specs.Mistyped.{comes_before, by_number}
@@ -17,5 +16,5 @@ returns c =
     let next = c.by_number-of_equal_size in
     c.by_number.ensures
     ∙ ap₂ (λ a b. by_number a b next.result) x.ensures y.ensures
-    ∙ ap (by_number (size s.number) (size s.other-number))
-    (next.ensures ∙ ap₂ (λ a b. by_number a b (ltb s.index s.other-index)) p.ensures q.ensures)
+    ∙ ap (by_number (size s.number) (size s.other_number))
+    (next.ensures ∙ ap₂ (λ a b. by_number a b (ltb s.index s.other_index)) p.ensures q.ensures)

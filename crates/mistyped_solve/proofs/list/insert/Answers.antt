@@ -1,10 +1,9 @@
-use mathlib.Core.Path.{refl, ap, ◌∙◌}
-use Prim.Native.Nat.{◌+◌, ◌*◌, ◌-◌, ◌≤◌, ◌<◌}
+use mathlib.Core.Path.{refl}
+use Prim.Native.Nat.{◌+◌, ◌*◌, ◌<◌}
 use native.Mathlib.Omega.{arith}
-use borrow.Author.Rules.{rules}
 use lib.ListN.{length, length-set}
 use Rattle.mistyped_solve.specs.Insert.{entry}
-use Rattle.mistyped_solve.proofs.Words.{Inserting, inserting_start, inserting_length, inserting_next, inserting_end}
+use Rattle.mistyped_solve.proofs.Words.{inserting_start, inserting_length, inserting_next, inserting_end}
 use Rattle.mistyped_solve.proofs.list.insert.Goals.{After-loop-j, In-loop-j}
 use Rattle.mistyped_solve.proofs.list.insert.Goals as goal
 
@@ -20,7 +19,7 @@ pub loop-j-preserved : goal.loop-j-preserved
 loop-j-preserved c =
     let l = c.loop-j in
     let r = c.in_order-two in
-    inserting_next l.invariant (entry r.result.index r.result.number) (entry r.result.later_index r.result.later_number) (omega arith) r.ensures.0 r.ensures.1
+    inserting_next l.invariant (entry r.result.index r.result.number) (entry r.result.later_index r.result.later_number) (omega arith) r.ensures.number_value r.ensures.later_number_value
 
 pub returns : goal.returns
 returns c = let l = c.loop-j in inserting_end l.invariant l.j refl (omega (arith, l.invariant.few))

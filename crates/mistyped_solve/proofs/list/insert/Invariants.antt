@@ -1,11 +1,7 @@
 -- `insert` meets its contract. The loop's invariant: the entries passed are stored, and what is carried is put among the others.
-use mathlib.Core.Path.{refl, ap, ◌∙◌}
-use Prim.Native.Nat.{◌+◌, ◌*◌, ◌-◌, ◌≤◌, ◌<◌}
-use native.Mathlib.Omega.{arith}
-use borrow.Author.Rules.{rules}
-use lib.ListN.{length, length-set}
+use Prim.Native.Nat.{◌-◌}
 use Rattle.mistyped_solve.specs.Insert.{entry}
-use Rattle.mistyped_solve.proofs.Words.{Inserting, inserting_start, inserting_length, inserting_next, inserting_end}
+use Rattle.mistyped_solve.proofs.Words.{Inserting}
 use Rattle.mistyped_solve.proofs.list.insert.Given as goal
 
 abbrev pub invariant-loop-j : goal.invariant-loop-j

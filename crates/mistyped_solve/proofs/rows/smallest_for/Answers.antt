@@ -1,8 +1,7 @@
-use Prim.Native.Nat.{◌+◌, ◌*◌, ◌-◌, ◌≤◌, ◌<◌}
+use Prim.Native.Nat.{◌+◌, ◌*◌, ◌<◌}
 use native.Mathlib.Omega.{arith}
-use borrow.Author.Rules.{rules}
 use lib.ListN.{length}
-use Rattle.mistyped_solve.proofs.Taken.{Taken, taken_start, taken_next, taken_stop, taken-all}
+use Rattle.mistyped_solve.proofs.Taken.{taken_start, taken_next, taken_stop, taken-all}
 use Rattle.mistyped_solve.proofs.rows.smallest_for.Goals.{In-loop-k}
 use Rattle.mistyped_solve.proofs.rows.smallest_for.Goals as goal
 
@@ -28,8 +27,7 @@ pub loop-k-preserved : goal.loop-k-preserved
 loop-k-preserved c =
     let j = c.combine in
     let l = c.loop-k in
-    let b = c.both-1.given in
-    (omega arith, taken_next _ _ _ _ l.invariant.1 j.result b.0.0 b.1 j.ensures)
+    (omega arith, taken_next _ _ _ _ l.invariant.1 j.result c.in-One.both c.in-One.is j.ensures)
 
 pub returns : goal.returns
 returns c =

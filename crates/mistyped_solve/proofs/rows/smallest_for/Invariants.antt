@@ -1,13 +1,10 @@
 -- `smallest_for` meets its contract. The loop's invariant: the congruence at hand stands for the rows taken.
-use Prim.Native.Nat.{◌+◌, ◌*◌, ◌-◌, ◌≤◌, ◌<◌}
-use native.Mathlib.Omega.{arith}
-use borrow.Author.Rules.{rules}
-use lib.ListN.{length}
-use Rattle.mistyped_solve.proofs.Taken.{Taken, taken_start, taken_next, taken_stop, taken-all}
+use Prim.Native.Nat.{◌-◌, ◌≤◌}
+use Rattle.mistyped_solve.proofs.Taken.{Taken}
 use Rattle.mistyped_solve.proofs.rows.smallest_for.Given as goal
 
 abbrev pub invariant-loop-k : goal.invariant-loop-k
-invariant-loop-k l = (l.k ≤ l.rows) × Taken l.randomness l.at l.width l.lacking l.k (record { l.factor = l.factor; l.value = l.value })
+invariant-loop-k l = (l.k ≤ l.rows) × Taken l.randomness l.at l.width l.lacking l.k (record { factor = l.factor; value = l.value })
 
 abbrev pub decreases-loop-k : goal.decreases-loop-k
 decreases-loop-k l = l.rows - l.k

@@ -1,8 +1,7 @@
 -- `vector` meets its contract.
-use mathlib.Core.Path.{◌≡◌, ◌∙◌, ap₂}
+use mathlib.Core.Path.{◌∙◌, ap₂}
 use Prim.Native.Nat.{◌<◌, ◌^◌}
 use native.Mathlib.Omega.{arith}
-use borrow.Author.Rules.{rules}
 use Rattle.spec_leaves.specs.Answer.{value128}
 use Rattle.spec_protocol.specs.Ranges.{norm}
 use Rattle.ranges_vectors.specs.Ends.{nearest, farthest, picked}
@@ -19,11 +18,11 @@ returns c =
     let e = c.norms_of-norms.ensures in
     let f : x.least.lo < 2 ^ 64 = omega arith in
     let g : x.greatest.lo < 2 ^ 64 = omega arith in
-    let m = c.meets_of.ensures ∙ ap₂ (meets_by (value128 s.bound)) e.0 e.1 in
+    let m = c.meets_of.ensures ∙ ap₂ (meets_by (value128 s.bound)) e.least_value e.greatest_value in
     λ i. record {
       meets = m i;
-      least_hi = hi_is x.least least f e.0 i;
-      least_lo = lo_is x.least least f e.0 i;
-      greatest_hi = hi_is x.greatest greatest g e.1 i;
-      greatest_lo = lo_is x.greatest greatest g e.1 i;
+      least_hi = hi_is x.least least f e.least_value i;
+      least_lo = lo_is x.least least f e.least_value i;
+      greatest_hi = hi_is x.greatest greatest g e.greatest_value i;
+      greatest_lo = lo_is x.greatest greatest g e.greatest_value i;
     }

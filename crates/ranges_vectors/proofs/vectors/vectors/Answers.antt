@@ -1,14 +1,11 @@
 use mathlib.Core.Path.{◌≡◌, ◌∙◌, ap}
-use mathlib.Core.List.{List}
-use Prim.Native.Nat.{ℕ, ◌+◌, ◌-◌, ◌*◌, ◌≤◌}
+use Prim.Native.Nat.{ℕ, ◌+◌, ◌*◌, ◌≤◌}
 use native.Mathlib.Nat.{mul-le-mul_right}
 use native.Mathlib.Omega.{arith}
-use lib.IntN.{ℤ}
 use Rattle.math.specs.lists.Table.{padded}
 use Rattle.math.proofs.lists.Padded.{padded-none, padded-next}
 use Rattle.spec_leaves.specs.Answer.{value128}
 use Rattle.spec_protocol.specs.Ranges.{unused}
-use Rattle.ranges_vectors.specs.declared.vectors.RangeNorms.{RangeNorms}
 use Rattle.ranges_vectors.specs.Vectors.{range_norms, worked}
 use Rattle.ranges_vectors.proofs.vectors.vectors.Invariants.{of_vector}
 use Rattle.ranges_vectors.proofs.vectors.vectors.Goals as goal

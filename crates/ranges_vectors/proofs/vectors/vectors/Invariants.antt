@@ -1,12 +1,9 @@
 -- `vectors` meets its contract. The invariant: the answers of the first i vectors stand in their places, and the others are unused.
-use mathlib.Core.Path.{◌≡◌, ◌∙◌, ap}
+use mathlib.Core.Path.{◌≡◌}
 use mathlib.Core.List.{List}
-use Prim.Native.Nat.{ℕ, ◌+◌, ◌-◌, ◌*◌, ◌≤◌}
-use native.Mathlib.Nat.{mul-le-mul_right}
-use native.Mathlib.Omega.{arith}
+use Prim.Native.Nat.{ℕ, ◌-◌, ◌*◌, ◌≤◌}
 use lib.IntN.{ℤ}
 use Rattle.math.specs.lists.Table.{padded}
-use Rattle.math.proofs.lists.Padded.{padded-none, padded-next}
 use Rattle.spec_leaves.specs.Answer.{value128}
 use Rattle.spec_protocol.specs.Ranges.{unused}
 use Rattle.ranges_vectors.specs.declared.vectors.RangeNorms.{RangeNorms}

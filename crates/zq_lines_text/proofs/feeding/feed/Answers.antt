@@ -1,5 +1,5 @@
 use mathlib.Core.Path.{◌≡◌, refl, ◌∙◌, sym, ap, subst}
-use Prim.Native.Nat.{ℕ, ◌+◌, ◌-◌, ◌≤◌, ◌<◌}
+use Prim.Native.Nat.{ℕ, ◌+◌, ◌<◌}
 use native.Mathlib.Omega.{arith}
 use mathlib.Core.List.{List}
 use lib.ListN.{length, take, get_or}
@@ -41,8 +41,8 @@ loop-i-preserved c =
     let l = c.loop-i in
     let e = c.feed_byte-f.ensures in (
       omega arith,
-      fed_more a.s l.f.state c.feed_byte-f.result.state a.chunk.now a.out.now l.out c.feed_byte-f.new.1.1.0
-          l.i l.f.at c.feed_byte-f.result.at (omega arith) l.invariant.1 e.0 e.1,
+      fed_more a.s l.f.state c.feed_byte-f.result.state a.chunk.now a.out.now l.out c.feed_byte-f.new.out
+          l.i l.f.at c.feed_byte-f.result.at (omega arith) l.invariant.1 e.state_value e.written,
     )
 
 pub shape_of-out : goal.shape_of-out

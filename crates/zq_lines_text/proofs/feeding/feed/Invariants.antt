@@ -1,16 +1,11 @@
 -- `feed` meets its contract: after i turns the first i bytes of the chunk are fed.
-use mathlib.Core.Path.{◌≡◌, refl, ◌∙◌, sym, ap, subst}
-use Prim.Native.Nat.{ℕ, ◌+◌, ◌-◌, ◌≤◌, ◌<◌}
-use native.Mathlib.Omega.{arith}
+use mathlib.Core.Path.{◌≡◌}
+use Prim.Native.Nat.{ℕ, ◌-◌, ◌≤◌}
 use mathlib.Core.List.{List}
-use lib.ListN.{length, take, get_or}
-use lib.Seq.{take_all, length-take-le}
-use Rattle.zq_lines_text.specs.Reading.{after, answers, written, next, Bounded}
+use lib.ListN.{length, take}
+use Rattle.zq_lines_text.specs.Reading.{after, answers}
 use Rattle.zq_lines_text.specs.Written.{Written}
 use Rattle.zq_lines_text.specs.declared.reading.State.{State}
-use Rattle.zq_lines_text.proofs.Chunks.{after-take, answers-take, length-answers}
-use Rattle.zq_lines_text.proofs.Runs.{written_none, written-append, written-length}
-use Rattle.zq_lines_text.proofs.Small.{bounded-after}
 use Rattle.zq_lines_text.proofs.feeding.feed.Given as goal
 
 -- what the first i bytes of a chunk leave

@@ -1,5 +1,4 @@
 -- `feed_byte` meets its contract.
-use borrow.Author.Rules.{rules}
 use borrow.Author.Tests.{eq-eqb, ne_eqb}
 use Rattle.zq_lines_text.proofs.Runs.{written_none}
 use Rattle.zq_lines_text.proofs.feeding.feed_byte.Goals as goal

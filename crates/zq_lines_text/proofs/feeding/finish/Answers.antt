@@ -1,7 +1,6 @@
 -- `finish` meets its contract.
 use mathlib.Core.Path.{◌≡◌, sym, ◌∙◌}
 use mathlib.Core.Bool.{true, false}
-use borrow.Author.Rules.{rules}
 use Rattle.zq_lines_text.specs.Reading.{is_fresh}
 use Rattle.zq_lines_text.proofs.Runs.{written_none}
 use Rattle.zq_lines_text.proofs.feeding.finish.Goals as goal

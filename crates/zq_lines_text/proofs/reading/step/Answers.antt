@@ -1,6 +1,5 @@
 -- `step` meets its contract.
 use mathlib.Core.Path.{◌∙◌, sym, ap, subst}
-use borrow.Author.Rules.{rules}
 use Rattle.zq_lines_text.specs.Reading.{stepped, Bounded}
 use Rattle.zq_lines_text.proofs.reading.step.Goals as goal
 

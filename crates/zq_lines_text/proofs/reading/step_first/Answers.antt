@@ -1,6 +1,5 @@
 -- `step_first` meets its contract.
 use mathlib.Core.Path.{◌∙◌, sym, ap}
-use borrow.Author.Rules.{rules}
 use borrow.Author.Tests.{eq-eqb, ne_eqb}
 use Rattle.zq_lines_text.specs.Reading.{stepped, with}
 use Rattle.zq_lines_text.specs.declared.reading.State.TheVariants.{First}

@@ -1,6 +1,5 @@
 -- `step_second` meets its contract.
 use mathlib.Core.Path.{◌∙◌, sym, ap}
-use borrow.Author.Rules.{rules}
 use Rattle.zq_lines_text.specs.Reading.{stepped, with}
 use Rattle.zq_lines_text.specs.declared.reading.State.TheVariants.{Second}
 use Rattle.zq_lines_text.proofs.reading.step_second.Goals as goal

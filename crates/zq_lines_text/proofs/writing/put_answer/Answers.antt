@@ -1,7 +1,6 @@
 -- `put_answer` meets its contract.
 use mathlib.Core.Path.{sym, subst}
 use native.Mathlib.Omega.{arith}
-use borrow.Author.Rules.{rules}
 use Rattle.zq_lines_text.specs.Reading.{FirstCanonical}
 use Rattle.zq_lines_text.proofs.Decimal.{length-text}
 use Rattle.zq_lines_text.proofs.Runs.{written-append, room}

@@ -1,7 +1,5 @@
 -- `put_centre` meets its contract.
 use native.Mathlib.Omega.{arith}
-use borrow.Author.Rules.{rules}
-use Rattle.spec_leaves.specs.Zq.{size}
 use Rattle.zq_lines_text.proofs.Decimal.{length-decimal, signed-small, signed_large}
 use Rattle.zq_lines_text.proofs.Runs.{written-append, written-length}
 use Rattle.zq_lines_text.proofs.writing.put_centre.Goals as goal

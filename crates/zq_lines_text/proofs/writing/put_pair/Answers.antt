@@ -4,7 +4,6 @@ use mathlib.Core.List.{List, [], ◌∷◌, ◌++◌, append_assoc}
 use Prim.Native.Nat.{ℕ, ◌+◌, ◌≤◌}
 use native.Mathlib.Omega.{arith}
 use lib.ListN.{length}
-use borrow.Author.Rules.{rules}
 use Rattle.spec_leaves.specs.Zq.{zadd, zmul, centre}
 use Rattle.zq_lines_text.specs.Text.{decimal, signed}
 use Rattle.zq_lines_text.specs.Line.{text}
@@ -26,18 +25,18 @@ five a b s p es ep w₁ w₂ w₃ w₄ w₅ =
     rw (← es, ← ep) (simp append_assoc (simp append_assoc at w))
 
 -- the room that is left after each number
-first : (c : After-put_word-second) → c.put_word-second.result + 44 ≤ length c.put_word-second.new.0
+first : (c : After-put_word-second) → c.put_word-second.result + 44 ≤ length c.put_word-second.new.out
 first c =
     room 11 44 c.put_word-second.ensures (length_spaced c.args.a) (omega arith)
 
-second : (c : After-put_word-third) → c.put_word-third.result + 33 ≤ length c.put_word-third.new.0
+second : (c : After-put_word-third) → c.put_word-third.result + 33 ≤ length c.put_word-third.new.out
 second c =
     room 11 33 c.put_word-third.ensures (length_spaced c.args.b) (first c.before.before.before.before)
 
-third : (c : After-put_word-fourth) → c.put_word-fourth.result + 22 ≤ length c.put_word-fourth.new.0
+third : (c : After-put_word-fourth) → c.put_word-fourth.result + 22 ≤ length c.put_word-fourth.new.out
 third c = room 11 22 c.put_word-fourth.ensures (length_spaced _) (second c.before.before.before.before)
 
-fourth : (c : After-put_word-fifth) → c.put_word-fifth.result + 11 ≤ length c.put_word-fifth.new.0
+fourth : (c : After-put_word-fifth) → c.put_word-fifth.result + 11 ≤ length c.put_word-fifth.new.out
 fourth c = room 11 11 c.put_word-fifth.ensures (length_spaced _) (third c.before.before.before.before)
 
 pub put_word-third-requires : goal.put_word-third-requires

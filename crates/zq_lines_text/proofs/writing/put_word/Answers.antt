@@ -1,6 +1,5 @@
 -- `put_word` meets its contract.
 use native.Mathlib.Omega.{arith}
-use borrow.Author.Rules.{rules}
 use Rattle.zq_lines_text.proofs.Decimal.{length-decimal}
 use Rattle.zq_lines_text.proofs.Runs.{written-append, room}
 use Rattle.zq_lines_text.proofs.writing.put_word.Goals as goal
