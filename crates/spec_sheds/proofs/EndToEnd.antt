@@ -111,6 +111,7 @@ split_chain r xs s rise =
 -- how often an index is in a run is at most how often it is in all
 held-by-one : (x : Run) (xs : List Run) (i : ℕ) → Memᴰ x xs → holds x i ≤ in_runs xs i
 unfolding in_runs
+held-by-one x [] i m = elim m [ ]
 held-by-one x (y ∷ ys) i (Memᴰ.head e) = omega (arith, ap (λ z. holds z i) e)
 held-by-one x (y ∷ ys) i (Memᴰ.tail m) = omega (arith, held-by-one x ys i m)
 

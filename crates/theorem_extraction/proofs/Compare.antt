@@ -16,7 +16,7 @@ use Rattle.spec_leaves.proofs.RqRing.{rq_ring}
 use Rattle.spec_protocol.specs.Parameters.{parameters}
 use Rattle.spec_protocol.specs.Views.{public}
 use Rattle.spec_protocol.specs.Formulas.{◌⊕◌, ◌⊗◌, sum, dot, norm_of, times}
-use Rattle.spec_binding.specs.Openings.{nil, neg, entry, EqualU1, EqualU2, SameTG, SameH, opening_1, opening_2, ShortKernel}
+use Rattle.spec_binding.specs.Openings.{nil, entry, EqualU1, EqualU2, SameTG, SameH, opening_1, opening_2, ShortKernel}
 use Rattle.spec_binding.proofs.Binding.{binding_1, binding_2}
 use Rattle.spec_binding.proofs.Bound.{same-t-g, same-h}
 use Rattle.theorem_extraction.specs.Fork.{Branch, z_of, challenge_of, ◌⊖◌, w_mixed, w_single, z_limit, GivesAway, unlike_t_g, unlike_h, mixed_z, single_z}

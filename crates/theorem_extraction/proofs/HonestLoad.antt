@@ -1,5 +1,5 @@
 -- Of every test load with parts enough there is a fork and a tree of the prover's transcripts: nothing is left to assume, and the premises of T4 and T5 are met.
-use mathlib.Core.Path.{◌≡◌, refl, sym, ap, ◌∙◌}
+use mathlib.Core.Path.{◌≡◌, refl, ap, ◌∙◌}
 use mathlib.Core.List.{List}
 use Prim.Native.Nat.{ℕ, ◌≤◌, ◌<◌, ◌^◌}
 use native.Mathlib.Nat.{le_refl}

@@ -14,7 +14,7 @@ use Rattle.spec_leaves.specs.Rq.{Element}
 use Rattle.spec_leaves.specs.Ring.{RqOps}
 use Rattle.spec_leaves.proofs.RqRing.{rq_ring}
 use Rattle.spec_protocol.specs.Parameters.{parameters}
-use Rattle.spec_protocol.specs.Formulas.{◌⊕◌, ◌⊗◌, sum, dot}
+use Rattle.spec_protocol.specs.Formulas.{◌⊕◌, ◌⊗◌, sum}
 use Rattle.spec_binding.specs.Openings.{nil}
 use Rattle.theorem_extraction.specs.Fork.{message_of, challenge_of, ◌⊖◌, Node, base, first, second, mixed, Used, changed, c, x, y, Fork, GivesAway}
 use Rattle.theorem_extraction.proofs.Steps.{step, one_at, dot-step, dot-one_at}

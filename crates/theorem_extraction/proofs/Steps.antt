@@ -5,7 +5,7 @@ use Prim.Native.Nat.{ℕ, ◌<◌}
 use lib.Dec.{eqb}
 use borrow.Author.Tests.{eq-eqb, ne_eqb}
 use Rattle.math.specs.algebra.Ops.{Ops, dot}
-use Rattle.math.proofs.algebra.Ring.{CRing, ring, add_cancel-left, mul-nil, one-mul, mul_assoc}
+use Rattle.math.proofs.algebra.Ring.{CRing, ring, add_cancel-left, mul-nil, one-mul}
 use Rattle.math.proofs.algebra.Sum.{sum_single}
 use Rattle.math.proofs.algebra.Dot.{dot-add-left, dot-add_right, dot-mul-left, dot-mul_right}
 use Rattle.theorem_soundness.specs.Weights.{IsUnit}

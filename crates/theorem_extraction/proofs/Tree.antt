@@ -47,7 +47,7 @@ module _ {J : List ℕ} (T : Tree J) where
   module _ (met : (p : Place) → Within (parameters J) p → MeetsSum (at p) s) where
     -- the row of b'' of a fork that is forked at beta
     row_of : (p q : Place) → Within (parameters J) p → Within (parameters J) q → AtBeta (at p) (at q) T.row → F.b'' (values (at p)) s T.row ≡ (message_of (at p)).b'' T.row
-    row_of p q h k forked = row_met (at p) (at q) s T.row T.row-Below forked (met p h) (met q k)
+    row_of p q h k forked = row_met (at p) (at q) s T.row T.row_below forked (met p h) (met q k)
 
     root-row : F.b'' (values (at root)) s T.row ≡ (message_of (at root)).b'' T.row
     root-row = row_of root beta (record {}) (record {}) T.at_beta
@@ -56,10 +56,10 @@ module _ {J : List ℕ} (T : Tree J) where
     pub all_met : Witness T
     all_met = record {
       meets = record {
-        constants = λ x h. constant_met (at root) (at (psi x)) s T.row T.row-Below root-row (row_of (psi x) (psi-beta x) h h (T.at_psi_beta x h)) x h (T.at_psi x h);
+        constants = λ x h. constant_met (at root) (at (psi x)) s T.row T.row_below root-row (row_of (psi x) (psi-beta x) h h (T.at_psi_beta x h)) x h (T.at_psi x h);
         rings = λ k h. ring_met (at root) (at (alpha k)) s k h (T.at_alpha k h) (met root (record {})) (met (alpha k) h);
       };
-      projection = λ j h. projection_met (at root) (at (omega j)) s T.row T.row-Below root-row (row_of (omega j) (omega-beta j) h h (T.at_omega_beta j h)) j h (T.at_omega j h);
+      projection = λ j h. projection_met (at root) (at (omega j)) s T.row T.row_below root-row (row_of (omega j) (omega-beta j) h h (T.at_omega_beta j h)) j h (T.at_omega j h);
     }
 
 -- T5
