@@ -1,0 +1,21 @@
+-- `zero` meets its contract. The invariant: the first k elements are zero.
+use mathlib.Core.Path.{◌≡◌, refl, sym, ◌∙◌, ap}
+use Prim.Native.Nat.{◌+◌, ◌-◌, ◌*◌, ◌≤◌}
+use native.Mathlib.Omega.{arith}
+use borrow.Author.Rules.{rules}
+use lib.ListN.{length}
+use Rattle.math.specs.lists.Table.{table}
+use Rattle.math.specs.lists.Part.{splice}
+use Rattle.math.proofs.lists.Splice.{length-splice}
+use Rattle.spec_leaves.specs.Ring.{RqOps}
+use Rattle.spec_leaves.proofs.Bridge.{words-nil}
+use Rattle.spec_protocol.specs.Formulas.{flat}
+use Rattle.spec_protocol.proofs.Stored.{stored-none, stored_next}
+use Rattle.ring_rq_vector.proofs.vector.zero.Given as goal
+
+abbrev pub invariant-loop-k : goal.invariant-loop-k
+invariant-loop-k l =
+    (l.k ≤ l.count) × (l.place ≡ l.at + 64 * l.k) × (l.out ≡ splice l.initial.out l.at (flat (table l.k (λ i. RqOps.nil)))) × (length l.out ≡ length l.initial.out)
+
+abbrev pub decreases-loop-k : goal.decreases-loop-k
+decreases-loop-k l = l.count - l.k
