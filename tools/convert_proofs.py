@@ -113,6 +113,7 @@ class Function:
         self.typed = dict(zip(self.parent, entry.get("typed") or []))
         self.clauses = dict(zip(self.parent, entry.get("clauses") or []))
         self.by_norm = {norm(o): o for o in self.parent}
+        self.loop_vars = {v for _, vs in entry["loops"] for v in vs}
         self.args = {}
         self.named = set()
         for a in entry.get("args") or []:
@@ -127,6 +128,19 @@ class Function:
         return self.by_norm.get(norm(name))
 
     def resolve(self, place, segs):
+        """As resolve_at; where the places that it counts are fewer today, by the step's name alone."""
+        r = self.resolve_at(place, segs)
+        if r is None and segs and segs[0] == "before":
+            rest = list(segs)
+            while rest and rest[0] == "before":
+                rest.pop(0)
+            if rest:
+                r = self.resolve_at(place, rest)
+        if r and r[0] == "path":
+            return ("path", [norm(x) if "-" in x and (norm(x) in self.own or norm(x) in self.loop_vars) else x for x in r[1]])
+        return r
+
+    def resolve_at(self, place, segs):
         """('place', p) or ('path', [segs]) behind c; None where it can't be read."""
         segs = list(segs)
         while segs and segs[0] == "before":
@@ -203,7 +217,8 @@ def convert_body(fn, text, env, goal, problems, record_vars=()):
                     changed = True
                     break
 
-    args_names, clause_names = set(), {}
+    args_names, clause_names, step_names = set(), {}, {}
+    bound = set(w for b in re.findall(r"λ ([^.]*)\.", text) for w in re.findall(SEG, b))
     for m in re.finditer(r"\blet (" + SEG + r") = (" + SEG + r"(?:\." + SEG + r")*) in[ \n]\s*", text):
         path = m[2].split(".")
         if path[0] in env:
@@ -215,6 +230,11 @@ def convert_body(fn, text, env, goal, problems, record_vars=()):
                 names = fn.pre_fields()
             elif r and r[0] == "path" and r[1][-1] == "ensures":
                 names = fn.last_fields
+            elif r and r[0] == "path" and len(r[1]) == 1 and r[1][0] not in ROOT:
+                fn.last_fields = []
+                fn.resolve(env[path[0]], path[1:] + ["ensures"])
+                if len(fn.last_fields) > 1:
+                    step_names[m[1]] = fn.last_fields
             if names and len(names) > 1:
                 clause_names[m[1]] = names
 
@@ -227,9 +247,18 @@ def convert_body(fn, text, env, goal, problems, record_vars=()):
             if segs and re.fullmatch(r"t\d+", segs[0]) and segs[0] not in fn.own and int(segs[0][1:]) <= len(fn.own):
                 segs[0] = fn.own[int(segs[0][1:]) - 1]
                 return ".".join([var] + segs)
+        if var in step_names and rest.startswith(".ensures."):
+            return ".".join([var, "ensures"] + nested(step_names[var], [s for s in rest.split(".") if s][1:]))
+        if var not in env and rest:
+            segs = rest.split(".")
+            if len(segs) > 1 and "-" in segs[1] and norm(segs[1]) in (fn.loop_vars | set(fn.own)):
+                segs[1] = norm(segs[1])
+                rest = ".".join(segs)
         if var in clause_names and rest:
             return ".".join([var] + nested(clause_names[var], [s for s in rest.split(".") if s]))
         if var not in env:
+            return var + rest
+        if not rest and var in bound:
             return m[0]
         segs = [s for s in rest.split(".") if s]
         r = fn.resolve(env[var], segs)
@@ -288,7 +317,7 @@ def convert(path, base, fn, inv_names):
     else:
         tail = text[m.end():]
         depth, k = 1, 0
-        while k < len(tail) and depth:
+        while k < len(tail) and depth > 0:
             depth += (tail[k] in "([{") - (tail[k] in ")]}")
             k += 1
         args = top_args(tail[: k - 1])
@@ -311,7 +340,15 @@ def convert(path, base, fn, inv_names):
     local_inv_helpers = set()
     old_of_new = {}
     done = set()
+    # what stands under the last declaration's `where` stands by itself
+    more = []
     for comment, lines in decls:
+        if any("tie.close" in l for l in lines):
+            for k, l in enumerate(lines):
+                if l.strip() == "where":
+                    block = [x[4:] if x.startswith("    ") else x for x in lines[k + 1 :]]
+                    more += split_decls("\n".join(block))[1]
+    for comment, lines in more + decls:
         body = "\n".join(lines)
         m = re.match(r"(?:(?:abbrev|unfoldable|pub)\s+)*(" + SEG + r")((?: \{[^}]*\})*) :\s", body)
         name = m[1] if m else None

@@ -17,10 +17,10 @@ use Rattle.spec_leaves.specs.Rq.{coeff}
 use Rattle.spec_leaves.proofs.Modulo.{add-mod}
 use Rattle.ring_zq.specs.Words.{lack}
 use Rattle.ring_zq.proofs.Words.{lack-neg}
-use Rattle.ring_rq_product.specs.Product.{AllWords, extended, extended_coeff}
+use Rattle.ring_rq_product.specs.Product.{extended, extended_coeff}
 use Rattle.ring_rq_product.proofs.Coefficient.{length-extended, extended-words}
 use Rattle.ring_challenge_products.specs.Powers.{turned, entry}
-use Rattle.ring_challenge_products.specs.Sums.{Entries, Extension}
+use Rattle.ring_challenge_products.specs.Sums.{Extension}
 use Rattle.ring_challenge_products.proofs.Product.{first, second, third, fourth, once, twice, reduced}
 
 -- the first numbers of a list

@@ -1,12 +1,11 @@
 -- Sums that grow by the entries from a row's places on.
-use mathlib.Core.Path.{◌≡◌, refl, sym, ap, ap₂, ◌∙◌}
+use mathlib.Core.Path.{◌≡◌, refl, sym, ap, ◌∙◌}
 use mathlib.Core.List.{List}
-use Prim.Native.Nat.{ℕ, zero, suc, ◌+◌, ◌*◌, ◌%◌, ◌≤◌, ◌<◌, ◌^◌}
+use Prim.Native.Nat.{ℕ, ◌+◌, ◌*◌, ◌%◌, ◌≤◌, ◌<◌, ◌^◌}
 use native.Mathlib.Nat.{add-zero}
 use native.Mathlib.Omega.{arith}
 use lib.ListN.{length, get_or}
 use Rattle.math.specs.lists.Sum.{Σ}
-use Rattle.math.specs.lists.Table.{table}
 use Rattle.math.proofs.lists.Sum.{Σ_split, Σ-bound, Σ-mod_ext}
 use Rattle.math.proofs.lists.Table.{get_or-table}
 use Rattle.spec_leaves.specs.Zq.{Q}

@@ -1,5 +1,5 @@
 -- What the places give is the inner product.
-use mathlib.Core.Path.{◌≡◌, refl, sym, ap, ap₂, subst, ◌∙◌}
+use mathlib.Core.Path.{◌≡◌, refl, sym, ap, subst, ◌∙◌}
 use mathlib.Core.Bool.{cond}
 use mathlib.Core.List.{List}
 use Prim.Native.Nat.{ℕ, zero, suc, ◌+◌, ◌-◌, ◌*◌, ◌%◌, ◌≤◌, ◌<◌}
@@ -24,7 +24,7 @@ use Rattle.spec_leaves.proofs.Cases.{ltb_cases}
 use Rattle.spec_leaves.proofs.Modulo.{add-mod}
 use Rattle.spec_leaves.proofs.RqRing.{rq_ring}
 use Rattle.ring_inner_product.specs.Run.{run}
-use Rattle.ring_inner_product.proofs.Totals.{Totals, totals_dot, product_of}
+use Rattle.ring_inner_product.proofs.Totals.{totals_dot, product_of}
 use Rattle.ring_challenge_products.specs.Powers.{turned, entry, place, Sparse, PowersOf, row_product, powers_product}
 
 -- a canonical value of size 2 at most is one of five

@@ -2,18 +2,18 @@
 use mathlib.Core.Path.{◌≡◌, refl, sym, ap, ◌∙◌}
 use mathlib.Core.Bool.{true, cond}
 use mathlib.Core.List.{List}
-use Prim.Native.Nat.{ℕ, ◌-◌, ◌≤◌, ◌<◌}
+use Prim.Native.Nat.{ℕ, ◌-◌, ◌<◌}
 use native.Mathlib.Omega.{arith}
 use borrow.Author.Tests.{lt-ltb, ltb-true, ne_eqb}
 use lib.Dec.{ltb, eqb}
-use lib.ListN.{length, get_or}
+use lib.ListN.{get_or}
 use Rattle.math.specs.lists.Sum.{Σ}
 use Rattle.math.proofs.lists.Sum.{Σ_ext}
 use Rattle.spec_leaves.specs.Zq.{Q, Canonical, half_Q, size}
 use Rattle.spec_leaves.specs.Rq.{coeff}
 use Rattle.spec_leaves.specs.Challenge.{start_size, start, challenge}
 use Rattle.spec_leaves.proofs.Cases.{ltb_cases}
-use Rattle.spec_leaves.proofs.Challenge.{total, all-shuffle, length-start, get_or-start, size-start, length-challenge, total-challenge, challenge-canonical}
+use Rattle.spec_leaves.proofs.Challenge.{all-shuffle, length-start, get_or-start, size-start, length-challenge, total-challenge, challenge-canonical}
 use Rattle.ring_challenge_products.specs.Powers.{taken, Sparse}
 
 -- a canonical value has size 0 where it is 0

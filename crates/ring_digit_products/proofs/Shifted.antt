@@ -1,5 +1,5 @@
 -- The forms of digits are small, and stand where they were stored.
-use mathlib.Core.Path.{◌≡◌, refl, sym, ◌∙◌, ap}
+use mathlib.Core.Path.{◌≡◌, sym, ◌∙◌, ap}
 use mathlib.Core.Bool.{cond}
 use mathlib.Core.List.{List, [], ◌∷◌, ◌++◌, flat_map, append-nil}
 use Prim.Native.Nat.{ℕ, ◌+◌, ◌-◌, ◌*◌, ◌%◌, ◌≤◌, ◌<◌, ◌^◌}
@@ -7,7 +7,6 @@ use native.Mathlib.Nat.{zero-add, add-sub_cancel_left}
 use native.Mathlib.Decide.{dec_lt}
 use native.Mathlib.Omega.{arith}
 use borrow.Author.Tests.{lt-ltb, le-ltb}
-use lib.Dec.{ltb}
 use lib.ListN.{length, get_or}
 use Rattle.math.specs.lists.Table.{table}
 use Rattle.math.specs.lists.Part.{part, splice}
@@ -20,7 +19,7 @@ use Rattle.ring_zq.specs.Words.{lack}
 use Rattle.spec_leaves.specs.Rq.{coeff}
 use Rattle.ring_zq.proofs.Words.{lack-canonical}
 use Rattle.ring_rq_product.specs.Product.{extended_coeff}
-use Rattle.ring_digit_products.specs.Forms.{shifted_coeff, shifted, Formed, SmallDigits}
+use Rattle.ring_digit_products.specs.Forms.{shifted_coeff, shifted, Formed}
 use Rattle.ring_digit_products.specs.Small.{SmallFrom}
 
 -- a size is the number or what it lacks of Q

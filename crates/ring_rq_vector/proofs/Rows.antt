@@ -6,7 +6,7 @@ use native.Mathlib.Nat.{zero-add, mod-eq_of_lt}
 use native.Mathlib.Decide.{dec_lt}
 use native.Mathlib.Omega.{arith}
 use Rattle.math.proofs.lists.Table.{table_ext}
-use Rattle.spec_leaves.specs.Zq.{Q, Canonical, size}
+use Rattle.spec_leaves.specs.Zq.{Q, Canonical}
 use Rattle.spec_leaves.specs.Digits.{size_after, digit}
 use Rattle.spec_leaves.specs.Rq.{coeff, rzero, digit_row}
 use Rattle.ring_rq.specs.Words.{AtMostQ}

@@ -1,13 +1,10 @@
-use mathlib.Core.Path.{◌≡◌, refl, ◌∙◌, ap, ap₂, subst}
-use Prim.Native.Nat.{◌+◌, ◌-◌, ◌*◌, ◌≤◌, ◌<◌, ◌^◌}
+use mathlib.Core.Path.{◌≡◌, ◌∙◌, ap, ap₂, subst}
 use native.Mathlib.Omega.{arith}
-use borrow.Author.Rules.{rules}
-use lib.ListN.{length}
 use Rattle.math.specs.lists.Part.{part}
 use Rattle.spec_leaves.specs.Rq.{rmul}
 use Rattle.ring_rq_product.specs.Product.{growth}
 use Rattle.ring_rq_product.specs.Sums.{Added}
-use Rattle.ring_inner_product.proofs.Totals.{Totals, totals_none, totals_next, totals_room, totals_dot, product_of}
+use Rattle.ring_inner_product.proofs.Totals.{totals_none, totals_next, totals_room, totals_dot}
 use Rattle.ring_inner_product.proofs.inner_product.Goals as goal
 
 pub load-requires : goal.load-requires

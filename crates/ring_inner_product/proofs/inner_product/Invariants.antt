@@ -1,14 +1,8 @@
 -- `inner_product` meets its contract. The invariant: the totals are those of the first m products, and i and j stand at the next elements.
-use mathlib.Core.Path.{◌≡◌, refl, ◌∙◌, ap, ap₂, subst}
-use Prim.Native.Nat.{◌+◌, ◌-◌, ◌*◌, ◌≤◌, ◌<◌, ◌^◌}
-use native.Mathlib.Omega.{arith}
-use borrow.Author.Rules.{rules}
-use lib.ListN.{length}
-use Rattle.math.specs.lists.Part.{part}
-use Rattle.spec_leaves.specs.Rq.{rmul}
+use mathlib.Core.Path.{◌≡◌}
+use Prim.Native.Nat.{◌+◌, ◌-◌, ◌*◌, ◌≤◌}
 use Rattle.ring_rq_product.specs.Product.{growth}
-use Rattle.ring_rq_product.specs.Sums.{Added}
-use Rattle.ring_inner_product.proofs.Totals.{Totals, totals_none, totals_next, totals_room, totals_dot, product_of}
+use Rattle.ring_inner_product.proofs.Totals.{Totals, product_of}
 use Rattle.ring_inner_product.proofs.inner_product.Given as goal
 
 abbrev pub invariant-loop-m : goal.invariant-loop-m

@@ -1,14 +1,13 @@
 use mathlib.Core.Path.{◌≡◌, ◌∙◌, subst}
 use mathlib.Core.List.{List}
-use Prim.Native.Nat.{ℕ, ◌+◌, ◌-◌, ◌*◌, ◌≤◌, ◌<◌, ◌^◌}
+use Prim.Native.Nat.{ℕ, ◌+◌}
 use native.Mathlib.Omega.{arith}
-use borrow.Author.Rules.{rules}
-use lib.ListN.{length, get_or, length-replicate}
+use lib.ListN.{get_or, length-replicate}
 use Rattle.math.specs.lists.Part.{part}
 use Rattle.spec_leaves.specs.Rq.{rscale}
 use Rattle.ring_rq_product.specs.Product.{growth}
 use Rattle.ring_rq_product.specs.Sums.{Added}
-use Rattle.ring_inner_product.proofs.Totals.{Totals, totals_none, totals_next, totals_room, totals_combination, scaled_of}
+use Rattle.ring_inner_product.proofs.Totals.{totals_none, totals_next, totals_room, totals_combination}
 use Rattle.ring_inner_product.proofs.linear_combination.Goals as goal
 
 pub add_scaled-requires : goal.add_scaled-requires
@@ -28,7 +27,7 @@ loop-m-preserved c =
     let scaled : ℕ → List ℕ = λ at. rscale (part s.x.now at 64) (get_or s.factors.now (s.at + l.m) 0) in (
       omega arith,
       omega arith,
-      totals_next _ _ _ l.m _ l.invariant.2 (subst (λ at. Added growth l.totals (scaled at) c.add_scaled.new.0) l.invariant.1 c.add_scaled.ensures.1),
+      totals_next _ _ _ l.m _ l.invariant.2 (subst (λ at. Added growth l.totals (scaled at) c.add_scaled.new.sums) l.invariant.1 c.add_scaled.ensures.1),
       c.add_scaled.ensures.0,
     )
 

@@ -1,7 +1,5 @@
 use mathlib.Core.Path.{◌≡◌, refl, sym, ◌∙◌, ap}
-use Prim.Native.Nat.{◌+◌, ◌-◌, ◌*◌, ◌≤◌}
 use native.Mathlib.Omega.{arith}
-use borrow.Author.Rules.{rules}
 use lib.ListN.{length}
 use Rattle.math.specs.lists.Table.{table}
 use Rattle.math.specs.lists.Part.{splice}
@@ -9,7 +7,7 @@ use Rattle.math.proofs.lists.Splice.{length-splice}
 use Rattle.spec_leaves.specs.Ring.{element}
 use Rattle.spec_protocol.specs.Formulas.{flat, digit_element}
 use Rattle.spec_protocol.proofs.Stored.{stored-none, stored_next}
-use Rattle.ring_rq_digits.proofs.Sizes.{sizes_after, sizes_first, sizes_next, row_is, rows_zero}
+use Rattle.ring_rq_digits.proofs.Sizes.{sizes_first, sizes_next, row_is, rows_zero}
 use Rattle.ring_rq_vector.proofs.Rows.{row_words, digit-nil}
 use Rattle.ring_rq_vector.proofs.digits.decompose_used.Goals as goal
 
@@ -22,11 +20,11 @@ returns-then-is_zero c =
     let l = c.loop-k in
     let settled = c.settled in
     let a = settled.result.coeffs in
-    let cell = settled.ensures.0 ∙ ap element c.load.ensures in (
-      (l.invariant.0, l.invariant.3 ∙ ap (λ e. splice s.to.now s.to_at (flat (table l.k (digit_element s.base e)))) cell),
-      λ k h _. ap (λ e. digit_element s.base e k) (sym cell)
-          ∙ digit-nil s.base a k settled.ensures.1 (rows_zero s.base a l.sizes l.k l.invariant.2 (sym c.is_zero.ensures ∙ c.if-is_zero.true) k h),
-    )
+    let cell = settled.ensures.0 ∙ ap element c.load.ensures in record {
+      upper_bound = (l.invariant.0, l.invariant.3 ∙ ap (λ e. splice s.to.now s.to_at (flat (table l.k (digit_element s.base e)))) cell);
+      by_index = λ k h _. ap (λ e. digit_element s.base e k) (sym cell)
+          ∙ digit-nil s.base a k settled.ensures.1 (rows_zero s.base a l.sizes l.k l.invariant.2 (sym c.is_zero.ensures ∙ c.if-is_zero.true) k h);
+    }
 
 pub loop-k-preserved : goal.loop-k-preserved
 loop-k-preserved c =
@@ -52,7 +50,4 @@ returns c =
     let l = c.loop-k in
     let settled = c.settled in
     let a = settled.result.coeffs in
-    let cell = settled.ensures.0 ∙ ap element c.load.ensures in (
-      (l.invariant.0, l.invariant.3 ∙ ap (λ e. splice s.to.now s.to_at (flat (table l.k (digit_element s.base e)))) cell),
-      λ k h m. absurd (let done : l.k ≡ s.parts = omega arith in omega arith),
-    )
+    let cell = settled.ensures.0 ∙ ap element c.load.ensures in record { upper_bound = (l.invariant.0, l.invariant.3 ∙ ap (λ e. splice s.to.now s.to_at (flat (table l.k (digit_element s.base e)))) cell); by_index = λ k h m. absurd (let done : l.k ≡ s.parts = omega arith in omega arith) }

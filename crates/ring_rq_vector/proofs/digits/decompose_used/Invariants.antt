@@ -1,17 +1,12 @@
 -- `decompose_used` meets its contract. The invariant: the sizes are those after k digits, and the first k rows are stored.
-use mathlib.Core.Path.{◌≡◌, refl, sym, ◌∙◌, ap}
+use mathlib.Core.Path.{◌≡◌}
 use Prim.Native.Nat.{◌+◌, ◌-◌, ◌*◌, ◌≤◌}
-use native.Mathlib.Omega.{arith}
-use borrow.Author.Rules.{rules}
 use lib.ListN.{length}
 use Rattle.math.specs.lists.Table.{table}
 use Rattle.math.specs.lists.Part.{splice}
-use Rattle.math.proofs.lists.Splice.{length-splice}
 use Rattle.spec_leaves.specs.Ring.{element}
 use Rattle.spec_protocol.specs.Formulas.{flat, digit_element}
-use Rattle.spec_protocol.proofs.Stored.{stored-none, stored_next}
-use Rattle.ring_rq_digits.proofs.Sizes.{sizes_after, sizes_first, sizes_next, row_is, rows_zero}
-use Rattle.ring_rq_vector.proofs.Rows.{row_words, digit-nil}
+use Rattle.ring_rq_digits.proofs.Sizes.{sizes_after}
 use Rattle.ring_rq_vector.proofs.digits.decompose_used.Given as goal
 
 abbrev pub invariant-loop-k : goal.invariant-loop-k

@@ -1,16 +1,11 @@
 -- `zero` meets its contract. The invariant: the first k elements are zero.
-use mathlib.Core.Path.{◌≡◌, refl, sym, ◌∙◌, ap}
+use mathlib.Core.Path.{◌≡◌}
 use Prim.Native.Nat.{◌+◌, ◌-◌, ◌*◌, ◌≤◌}
-use native.Mathlib.Omega.{arith}
-use borrow.Author.Rules.{rules}
 use lib.ListN.{length}
 use Rattle.math.specs.lists.Table.{table}
 use Rattle.math.specs.lists.Part.{splice}
-use Rattle.math.proofs.lists.Splice.{length-splice}
 use Rattle.spec_leaves.specs.Ring.{RqOps}
-use Rattle.spec_leaves.proofs.Bridge.{words-nil}
 use Rattle.spec_protocol.specs.Formulas.{flat}
-use Rattle.spec_protocol.proofs.Stored.{stored-none, stored_next}
 use Rattle.ring_rq_vector.proofs.vector.zero.Given as goal
 
 abbrev pub invariant-loop-k : goal.invariant-loop-k

@@ -1,0 +1,63 @@
+use mathlib.Core.Path.{◌≡◌, refl, ap, ◌∙◌}
+use Prim.Native.Nat.{◌+◌, ◌-◌, ◌*◌, ◌≤◌}
+use native.Mathlib.Omega.{arith}
+use lib.ListN.{length}
+use Rattle.math.specs.lists.Table.{table}
+use Rattle.math.specs.lists.Part.{splice}
+use Rattle.math.proofs.lists.Table.{length-table}
+use Rattle.spec_leaves.specs.Ring.{words}
+use Rattle.spec_protocol.specs.Formulas.{flat}
+use Rattle.spec_protocol.proofs.Stored.{stored-none}
+use Rattle.ring_rq_matrix.proofs.Place.{rows-within}
+use Rattle.ring_rq_matrix.proofs.Fill.{length_filled, fill_next, apart_filled}
+use Rattle.core_garbage_polynomials.specs.Garbage.{h_of}
+use Rattle.core_garbage_polynomials.proofs.Cell.{h-places, h_unchanged}
+use Rattle.core_garbage_polynomials.proofs.h.h_row.Goals as goal
+
+pub h_cell-cell-requires : goal.h_cell-cell-requires
+h_cell-cell-requires c =
+    let s = c.before.before.before.before.before.before.before.args in
+    omega (arith, rows-within s.i (s.i + 1) s.n (omega arith), rows-within c.before.before.loop.j (s.i + 1) s.n (omega arith))
+
+pub overflow_add-s_j : goal.overflow_add-s_j
+overflow_add-s_j c =
+    let s = c.before.before.before.before.before.before.before.before.before.before.before.before.args in
+    omega (arith, rows-within c.before.before.before.before.before.before.before.loop.j (s.i + 1) s.n (omega arith))
+
+pub overflow_add-phi_j : goal.overflow_add-phi_j
+overflow_add-phi_j c =
+    let s = c.before.before.before.before.before.before.before.before.before.before.before.before.args in
+    omega (arith, rows-within c.before.before.before.before.before.before.before.loop.j (s.i + 1) s.n (omega arith))
+
+pub loop-j-preserved : goal.loop-j-preserved
+loop-j-preserved c =
+    let at-start = c.before.before.before.before.before.before.before.before.before.before.before.before in
+    let s = at-start.args in
+    let l = c.before.before.before.before.before.before.before.loop in
+    let φ-i = c.before.before.before.before.before.before.before.before.vector-at2 in
+    let s-i = c.before.before.before.before.before.before.before.before.before.vector-at in
+    let row = h_of s.scratch.now s.phi-at s.s.now s.s-at s.n s.i in
+    let apart = apart_filled s.phi-at (64 * ((s.i + 1) * s.n)) s.out_at (64 * (s.i + 1)) (table l.j row) at-start.requires.3 (omega (arith, length-table l.j row)) in
+    let now = h-places l.scratch s.s.now s.phi-at s.s-at s.n _ s.i l.j φ-i.result l.phi-j s-i.result l.s-j
+    c.h_cell-cell.ensures φ-i.ensures l.invariant.2 s-i.ensures l.invariant.1 in
+    let unchanged =
+    h_unchanged l.scratch s.scratch.now s.out_at (flat (table l.j row)) s.phi-at (s.i + 1) s.n l.invariant.4 apart
+    s.s.now s.s-at s.i l.j (omega arith) (omega arith) in
+    let stored = c.store.ensures in (
+      omega arith,
+      omega arith,
+      omega arith,
+      omega arith,
+      fill_next s.scratch.now s.out_at _ _ _ l.j l.place row l.invariant.4 l.invariant.3 (now ∙ ap words unchanged) stored,
+      length_filled _ _ _ _ stored ∙ l.invariant.5,
+    )
+
+pub returns : goal.returns
+returns c =
+    let s = c.args in
+    let l = c.loop-j in
+    let done : l.j ≡ s.i + 1 = omega arith in
+    l.invariant.4 ∙ ap (λ k. splice s.scratch.now s.out_at (flat (table k (h_of s.scratch.now s.phi_at s.s.now s.s_at s.n s.i)))) done
+
+pub loop-j-init : goal.loop-j-init
+loop-j-init c = (omega arith, omega arith, omega arith, omega arith, stored-none _ _ _, refl)
