@@ -1,5 +1,5 @@
 -- The regions fit the scratch that document 01 asks for.
-use Prim.Native.Nat.{ℕ, ◌+◌, ◌*◌, ◌≤◌}
+use Prim.Native.Nat.{◌+◌, ◌*◌, ◌≤◌}
 use native.Mathlib.Nat.{mul-le-mul_left}
 use native.Mathlib.Omega.{arith}
 use Rattle.spec_protocol.specs.Parameters.{Parameters}
