@@ -14,7 +14,9 @@ bounds c = products (parameters_of c.args.params) c.triangle-t.result c.requires
 
 pub returns : goal.returns
 unfolding listed table
-returns c = is_table (rw c.triangle-t.ensures.0) (omega arith) (job-spans (parameters_of c.args.params) c.triangle-t.result c.requires (bounds (goal.at.returns c).After-triangle-t) c.triangle-t.ensures.0)
+returns c =
+    let b = bounds (goal.at.returns c).After-triangle-t in
+    is_table (rw c.triangle-t.ensures.0) (omega arith) (job-spans (parameters_of c.args.params) c.triangle-t.result c.requires b c.triangle-t.ensures.0)
 
 pub overflow_mul-result : goal.overflow_mul-result
 overflow_mul-result c = omega (arith, bounds (goal.at.overflow_mul-result c).After-triangle-t)

@@ -15,7 +15,8 @@ bounds c = products (parameters_of c.args.params) c.triangle-t.result c.requires
 pub returns : goal.returns
 unfolding listed table
 returns c =
-    is_table (rw c.triangle-t.ensures.0) (omega arith) (transcript-spans (parameters_of c.args.params) c.triangle-t.result c.requires (bounds (goal.at.returns c).After-triangle-t) c.triangle-t.ensures.0)
+    let b = bounds (goal.at.returns c).After-triangle-t in
+    is_table (rw c.triangle-t.ensures.0) (omega arith) (transcript-spans (parameters_of c.args.params) c.triangle-t.result c.requires b c.triangle-t.ensures.0)
 
 pub overflow_mul-result-5 : goal.overflow_mul-result-5
 overflow_mul-result-5 c = omega (arith, bounds (goal.at.overflow_mul-result-5 c).After-triangle-t)
