@@ -21,7 +21,8 @@ module _ (J : List ℕ) (x : Admitted) (e : of_admitted x ≡ job_refusal J) whe
       refusal_none r n 0 ∙ ap (λ a. result_of a n 0) (sym (ap of_admitted is) ∙ e)
 
   -- of a job that is refused nothing
-  pub length_found : (params : EnvironmentParameters) (length : ℕ) → At x (λ params. parameters_of params ≡ parameters J) → x ≡ A.Fit params → length ≡ span (transcript_sections (parameters_of params))
+  pub length_found : (params : EnvironmentParameters) (length : ℕ) → At x (λ params. parameters_of params ≡ parameters J) → x ≡ A.Fit params
+      → length ≡ span (transcript_sections (parameters_of params))
       → length ≡ result_of (job_refusal J) (span (transcript_sections (parameters J))) 0
   length_found params length at is h =
       h

@@ -1,11 +1,11 @@
 -- What holds of a call that is refused nothing before its work.
-use mathlib.Core.Path.{◌≡◌, refl, sym, ◌∙◌}
+use mathlib.Core.Path.{◌≡◌, sym}
 use mathlib.Core.List.{List}
 use Prim.Native.Nat.{ℕ, ◌≤◌}
 use native.Mathlib.Decide.{dec_le}
 use native.Mathlib.Omega.{arith}
 use lib.ListN.{length, take}
-use Rattle.spec_leaves.specs.Answer.{Answer, fine, refused, ◌then◌}
+use Rattle.spec_leaves.specs.Answer.{fine, refused, ◌then◌}
 use Rattle.spec_protocol.specs.Checks.{require}
 use Rattle.spec_protocol.specs.Parameters.{Parameters, parameters}
 use Rattle.spec_protocol.specs.Layout.{Section, span, layout, ranged, job_sections, randomness_sections, witness_sections, transcript_sections, job_refusal}
@@ -22,7 +22,7 @@ use Rattle.layout_section_one.specs.SectionOne.{section_one}
 use Rattle.layout_section_one.proofs.Limits.{sound}
 use Rattle.layout_sizes.specs.Sizes.{Sized}
 use Rattle.layout_sizes.proofs.Sized.{sized}
-use Rattle.admission_slices.specs.Admission.{Handed, Provable, Verifiable}
+use Rattle.admission_slices.specs.Admission.{Provable, Verifiable}
 
 -- what is refused nothing after a layout and ranges
 slice_laid : (a b : ℕ) (words : List ℕ) (place : ℕ) (ss : List Section) → place ≤ length words → layout a words place ss then ranged b words place ss ≡ fine → Laid words place ss

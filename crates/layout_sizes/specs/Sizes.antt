@@ -1,5 +1,5 @@
 -- What the sizes are reckoned of, and what a table of sections is.
-use Rattle.std.specs.Prelude.{◌≡◌, List, ℕ, ◌≤◌, ◌<◌, ◌^◌, length}
+use Rattle.std.specs.Prelude.{◌≡◌, List, ◌≤◌, ◌<◌, ◌^◌, length}
 use Rattle.spec_protocol.specs.Parameters.{Parameters}
 use Rattle.spec_protocol.specs.Layout.{Section, span}
 use Rattle.layout_sections.specs.declared.sections.Sections.{Sections}

@@ -6,7 +6,7 @@ use native.Mathlib.Decide.{dec_le}
 use native.Mathlib.Omega.{arith}
 use Rattle.spec_leaves.specs.Answer.{fine, refused, ◌then◌}
 use Rattle.spec_protocol.specs.Checks.{require}
-use Rattle.spec_protocol.specs.Parameters.{parameters, limits}
+use Rattle.spec_protocol.specs.Parameters.{limits}
 use Rattle.spec_protocol.specs.Layout.{counted, first_section, job_sections, witness_sections, randomness_sections, output_refusal}
 use Rattle.spec_protocol.specs.Load.{Given, load_parameters, needs_refusal, load_refusal, job_need, witness_need, randomness_need}
 use Rattle.spec_protocol.proofs.Fine.{require-holds, require_fails, required, refused_not-fine, then_fine_left, then_fine_right}

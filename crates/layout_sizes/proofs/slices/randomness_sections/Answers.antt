@@ -9,22 +9,22 @@ use Rattle.layout_sections.proofs.Spans.{span-part}
 use Rattle.relation_env_params.specs.Parameters.{parameters_of}
 use Rattle.layout_sizes.proofs.Tables.{is_table}
 use Rattle.layout_sizes.proofs.Products.{Products, products, randomness-spans}
-use borrow.Author.Rules.{rules}
-use Rattle.layout_sizes.proofs.slices.randomness_sections.Statement.{statement}
-use Rattle.layout_sizes.proofs.slices.randomness_sections.Tie as tie
+use Rattle.layout_sizes.proofs.slices.randomness_sections.Goals.{Start}
+use Rattle.layout_sizes.proofs.slices.randomness_sections.Goals as goal
 
 -- the bounds of the products
-bounds : (c : tie.Start) → Products (parameters_of c.args.params) 0
+bounds : (c : Start) → Products (parameters_of c.args.params) 0
 bounds c = products (parameters_of c.args.params) 0 c.requires.0 (omega arith)
 
-returns : tie.Need-returns
+pub returns : goal.returns
 unfolding listed table
 returns c =
     let P = parameters_of c.args.params in
     is_table (sym (take-table c.args.handed 7 _ c.requires.1)) (omega arith)
-    (omega (arith, span-part (randomness_sections P) 0 c.args.handed, randomness-spans P 0 c.requires.0 (bounds c)))
+    (omega (arith, span-part (randomness_sections P) 0 c.args.handed, randomness-spans P 0 c.requires.0 (bounds (goal.at.returns c).Start)))
 
-pub randomness-sections-spec : {M : Type 1} → statement M
-randomness-sections-spec =
-    tie.close (tie.spec (λ c. search rules) (λ c. omega (arith, bounds c)) (λ c. omega (arith, bounds c)) (λ c. search rules) (λ c. search rules) (λ c. search rules)
-    (λ c. search rules) (λ c. search rules) returns)
+pub overflow_mul-result-2 : goal.overflow_mul-result-2
+overflow_mul-result-2 c = omega (arith, bounds (goal.at.overflow_mul-result-2 c).Start)
+
+pub overflow_mul-result-3 : goal.overflow_mul-result-3
+overflow_mul-result-3 c = omega (arith, bounds (goal.at.overflow_mul-result-3 c).Start)

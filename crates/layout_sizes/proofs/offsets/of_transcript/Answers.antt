@@ -1,0 +1,12 @@
+-- `of_transcript` meets its contract.
+use mathlib.Core.Path.{ap, ◌∙◌}
+use native.Mathlib.Omega.{arith}
+use Rattle.spec_protocol.specs.Layout.{start}
+use Rattle.layout_sizes.proofs.Tables.{table-spans}
+use Rattle.layout_sizes.proofs.offsets.of_transcript.Goals as goal
+
+pub start-requires : goal.start-requires
+start-requires c = let t = c.transcript_sections.ensures in (omega (arith, t.size), t.few, table-spans t)
+
+pub returns : goal.returns
+returns c = c.start.ensures ∙ ap (λ l. start l c.args.m) c.transcript_sections.ensures.lists
