@@ -47,7 +47,10 @@ returns-then-out-lt2048 c =
     let o = c.rq_digit_operands in
     let s = c.status_of-s.ensures in
     let h : length a.out.now < 2048 = omega arith in
-    let room = room_for2048 (length a.out.now) in record { value = s ∙ ap status_of (refused-first o.result _ room s c.if-s-eq0.false ∙ ap (λ b. b then room) o.ensures); out_after = unwritten a.base a.parts a.a.coeffs a.out.now h }
+    let room = room_for2048 (length a.out.now) in record {
+      value = s ∙ ap status_of (refused-first o.result _ room s c.if-s-eq0.false ∙ ap (λ b. b then room) o.ensures);
+      out_after = unwritten a.base a.parts a.a.coeffs a.out.now h;
+    }
 
 pub returns : goal.returns
 returns c =
