@@ -8,7 +8,6 @@ use Rattle.spec_leaves.specs.Answer.{fine}
 use Rattle.spec_leaves.specs.Digits.{digits, leftover}
 use Rattle.spec_leaves.specs.Recompose.{recompose}
 use Rattle.spec_leaves.proofs.Recompose.{recompose_iff, digits-fit}
-use Rattle.api_leaf_answers.specs.declared.answers.WordAnswer.{WordAnswer}
 use Rattle.api_leaf_answers.specs.Answers.{word_answer}
 use Rattle.api_leaf_answers.specs.Recomposed.{recompose_answer}
 

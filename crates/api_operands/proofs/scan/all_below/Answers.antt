@@ -12,8 +12,8 @@ loop-k-preserved c =
       omega arith,
       λ e.
           elim c.if-words-k.branch [
-            then-words-k w ↦ absurd (true≢false (sym e ∙ w.fit-is))
-          | else-words-k w ↦ one_passed s.limit s.words.now l.k (l.invariant.1 (sym w.fit-is ∙ e)) (omega arith) (omega arith)
+            | then-words-k w ↦ absurd (true≢false (sym e ∙ w.fit-is))
+            | else-words-k w ↦ one_passed s.limit s.words.now l.k (l.invariant.1 (sym w.fit-is ∙ e)) (omega arith) (omega arith)
           ],
     )
 

@@ -67,4 +67,7 @@ pub returns : goal.returns
 returns c =
     let s = c.args in
     let l = c.loop-j in
-    let n : l.j ≡ s.count = omega arith in record { least_value = all nearest s.lows.now s.highs.now s.at l.j s.count (value128 l.total.least) n l.invariant.1; greatest_value = all farthest s.lows.now s.highs.now s.at l.j s.count (value128 l.total.greatest) n l.invariant.3 }
+    let n : l.j ≡ s.count = omega arith in record {
+      least_value = all nearest s.lows.now s.highs.now s.at l.j s.count (value128 l.total.least) n l.invariant.1;
+      greatest_value = all farthest s.lows.now s.highs.now s.at l.j s.count (value128 l.total.greatest) n l.invariant.3;
+    }

@@ -36,7 +36,8 @@ pub returns-then-either_beyond : goal.returns-then-either_beyond
 unfolding beyond_refusal
 returns-then-either_beyond c =
     let f = test c.args.lows.now c.args.highs.now in
-    found_at 37 c.loop-j.j c.args.count f (omega arith) c.loop-j.invariant.1 (tested (goal.at.returns-then-either_beyond c).After-either_beyond ∙ ap (λ b. cond b (refused 37 c.loop-j.j) fine) c.if-either_beyond.true)
+    found_at 37 c.loop-j.j c.args.count f (omega arith) c.loop-j.invariant.1
+    (tested (goal.at.returns-then-either_beyond c).After-either_beyond ∙ ap (λ b. cond b (refused 37 c.loop-j.j) fine) c.if-either_beyond.true)
 
 pub returns : goal.returns
 unfolding beyond_refusal

@@ -34,7 +34,8 @@ pub returns-else-in_order : goal.returns-else-in_order
 unfolding crossed_refusal
 returns-else-in_order c =
     let f = test c.args.lows.now c.args.highs.now in
-    found_at 36 c.loop-j.j c.args.count f (omega arith) c.loop-j.invariant.1 (tested (goal.at.returns-else-in_order c).After-in_order ∙ ap (λ b. cond b fine (refused 36 c.loop-j.j)) c.if-in_order.false)
+    found_at 36 c.loop-j.j c.args.count f (omega arith) c.loop-j.invariant.1
+    (tested (goal.at.returns-else-in_order c).After-in_order ∙ ap (λ b. cond b fine (refused 36 c.loop-j.j)) c.if-in_order.false)
 
 pub returns : goal.returns
 unfolding crossed_refusal

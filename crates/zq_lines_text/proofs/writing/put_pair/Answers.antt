@@ -11,7 +11,7 @@ use Rattle.zq_lines_text.specs.Written.{Written}
 use Rattle.zq_lines_text.specs.declared.reading.Parsed.TheVariants.{Pair}
 use Rattle.zq_lines_text.proofs.Decimal.{length_spaced}
 use Rattle.zq_lines_text.proofs.Runs.{written-append, room}
-use Rattle.zq_lines_text.proofs.writing.put_pair.Goals.{After-put_word-fifth, After-put_word-fourth, After-put_word-second, After-put_word-third}
+use Rattle.zq_lines_text.proofs.writing.put_pair.Goals.{After-put_word-second}
 use Rattle.zq_lines_text.proofs.writing.put_pair.Goals as goal
 
 -- the five numbers written one after the other
@@ -26,31 +26,27 @@ five a b s p es ep w₁ w₂ w₃ w₄ w₅ =
 
 -- the room that is left after each number
 first : (c : After-put_word-second) → c.put_word-second.result + 44 ≤ length c.put_word-second.new.out
-first c =
-    room 11 44 c.put_word-second.ensures (length_spaced c.args.a) (omega arith)
-
-second : (c : After-put_word-third) → c.put_word-third.result + 33 ≤ length c.put_word-third.new.out
-second c =
-    room 11 33 c.put_word-third.ensures (length_spaced c.args.b) (first c.before.before.before.before)
-
-third : (c : After-put_word-fourth) → c.put_word-fourth.result + 22 ≤ length c.put_word-fourth.new.out
-third c = room 11 22 c.put_word-fourth.ensures (length_spaced _) (second c.before.before.before.before)
-
-fourth : (c : After-put_word-fifth) → c.put_word-fifth.result + 11 ≤ length c.put_word-fifth.new.out
-fourth c = room 11 11 c.put_word-fifth.ensures (length_spaced _) (third c.before.before.before.before)
+first c = room 11 44 c.put_word-second.ensures (length_spaced c.args.a) (omega arith)
 
 pub put_word-third-requires : goal.put_word-third-requires
 put_word-third-requires c = omega (arith, first (goal.at.put_word-third-requires c).After-put_word-second)
 
 pub put_word-fourth-requires : goal.put_word-fourth-requires
-put_word-fourth-requires c = omega (arith, second (goal.at.put_word-fourth-requires c).After-put_word-third)
+put_word-fourth-requires c =
+    let second = room 11 33 c.put_word-third.ensures (length_spaced c.args.b) (first (goal.at.put_word-fourth-requires c).After-put_word-second) in
+    omega (arith, second)
 
 pub put_word-fifth-requires : goal.put_word-fifth-requires
-put_word-fifth-requires c = omega (arith, third (goal.at.put_word-fifth-requires c).After-put_word-fourth)
+put_word-fifth-requires c =
+    let second = room 11 33 c.put_word-third.ensures (length_spaced c.args.b) (first (goal.at.put_word-fifth-requires c).After-put_word-second) in
+    let third = room 11 22 c.put_word-fourth.ensures (length_spaced _) second in
+    omega (arith, third)
 
 pub put_centre-requires : goal.put_centre-requires
 put_centre-requires c =
-    record { canonical = c.requires.canonical; at_in_bounds = fourth (goal.at.put_centre-requires c).After-put_word-fifth }
+    let second = room 11 33 c.put_word-third.ensures (length_spaced c.args.b) (first (goal.at.put_centre-requires c).After-put_word-second) in
+    let third = room 11 22 c.put_word-fourth.ensures (length_spaced _) second in
+    record { canonical = c.requires.canonical; at_in_bounds = room 11 11 c.put_word-fifth.ensures (length_spaced _) third }
 
 pub returns : goal.returns
 returns c =

@@ -4,7 +4,6 @@ use mathlib.Core.Bool.{cond}
 use mathlib.Core.List.{List}
 use Prim.Native.Nat.{ℕ, ◌≤◌, ◌<◌}
 use native.Mathlib.Omega.{arith}
-use borrow.Author.Rules.{rules}
 use borrow.Author.Tests.{lt-ltb, le-ltb}
 use lib.ListN.{length}
 use Rattle.math.specs.lists.Part.{splice}
@@ -13,8 +12,7 @@ use Rattle.spec_leaves.proofs.Fine.{then_fine}
 use Rattle.api_leaf_answers.specs.Answers.{status_of}
 use Rattle.api_leaf_answers.specs.Rows.{room_for2048, rows_or_zero, row_words, words_written}
 use Rattle.api_leaf_answers.proofs.Result.{is_fine, refused-first}
-use Rattle.api_leaf_answers.proofs.digits.rq_digits.Statement.{statement}
-use Rattle.api_leaf_answers.proofs.digits.rq_digits.Tie as tie
+use Rattle.api_leaf_answers.proofs.digits.rq_digits.Goals as goal
 
 -- a slice that is too short, or not
 short : (n : ℕ) → n < 2048 → refused 2 2048 ≡ room_for2048 n
@@ -35,44 +33,31 @@ written base parts a out last rows h r e =
     ∙ ap (λ l. splice out 0 (row_words l)) r
     ∙ ap (λ t. cond t out (splice out 0 (row_words (rows_or_zero base parts a)))) (sym (le-ltb (length out) 2048 h))
 
-returns : tie.Need-returns
+pub returns-then-s-eq0 : goal.returns-then-s-eq0
+returns-then-s-eq0 c =
+    let a = c.args in
+    let o = c.rq_digit_operands in
+    let h : length a.out.now < 2048 = omega arith in
+    let fits = sym o.ensures ∙ is_fine o.result _ c.status_of-s.ensures c.if-s-eq0.true in
+    record { value = ap status_of (ap₂ ◌then◌ (sym fits) (short (length a.out.now) h)); out_after = unwritten a.base a.parts a.a.coeffs a.out.now h }
+
+pub returns-then-out-lt2048 : goal.returns-then-out-lt2048
+returns-then-out-lt2048 c =
+    let a = c.args in
+    let o = c.rq_digit_operands in
+    let s = c.status_of-s.ensures in
+    let h : length a.out.now < 2048 = omega arith in
+    let room = room_for2048 (length a.out.now) in record {
+      value = s ∙ ap status_of (refused-first o.result _ room s c.if-s-eq0.false ∙ ap (λ b. b then room) o.ensures);
+      out_after = unwritten a.base a.parts a.a.coeffs a.out.now h;
+    }
+
+pub returns : goal.returns
 returns c =
-    let a = c.before.before.before.before.before.before.args in
-    let o = c.before.before.before.before.rq-digit-operands in
-    let h : length a.out.now < 2048 = omega arith in
-    let fits = sym o.ensures ∙ is_fine o.result _ c.before.before.before.status-of.ensures c.if2.true in
-    (ap status_of (ap₂ ◌then◌ (sym fits) (short (length a.out.now) h)), unwritten a.base a.parts a.a.coeffs a.out.now h)
-
-returns-2 : tie.Need-returns-2
-returns-2 c =
-    let a = c.before.before.before.before.before.before.args in
-    let o = c.before.before.before.before.rq-digit-operands in
-    let s = c.before.before.before.status-of.ensures in
-    let h : length a.out.now < 2048 = omega arith in
-    let room = room_for2048 (length a.out.now) in (
-      s ∙ ap status_of (refused-first o.result _ room s c.if2.false ∙ ap (λ b. b then room) o.ensures),
-      unwritten a.base a.parts a.a.coeffs a.out.now h,
-    )
-
-returns-3 : tie.Need-returns-3
-returns-3 c =
-    let a = c.before.before.before.before.before.before.before.before.before.args in
-    let o = c.before.before.before.before.before.before.before.rq-digit-operands in
-    let h : 2048 ≤ length a.out.now = omega arith in (
-      c.before.before.before.before.before.before.status-of.ensures
-          ∙ ap status_of (sym (then_fine (of_operands o.result)) ∙ ap₂ ◌then◌ o.ensures (roomy (length a.out.now) h)),
-      written a.base a.parts a.a.coeffs a.out.now _ _ h c.before.before.before.before.rq-digit-rows.ensures c.before.before.store-rows.ensures,
-    )
-
-pub rq-digits-spec : {M : Type 1} → statement M
-rq-digits-spec =
-    tie.close
-    (tie.spec
-    (λ c κs. search rules)
-    (λ c κs. search rules)
-    returns
-    returns-2
-    (λ c κs. search rules)
-    (λ c κs. search rules)
-    (λ c. search rules)
-    returns-3)
+    let a = c.args in
+    let o = c.rq_digit_operands in
+    let h : 2048 ≤ length a.out.now = omega arith in record {
+      value = c.status_of-s.ensures
+          ∙ ap status_of (sym (then_fine (of_operands o.result)) ∙ ap₂ ◌then◌ o.ensures (roomy (length a.out.now) h));
+      out_after = written a.base a.parts a.a.coeffs a.out.now _ _ h c.rq_digit_rows.ensures c.store_rows.ensures;
+    }
