@@ -19,7 +19,7 @@ use Rattle.spec_protocol.specs.Views.{public}
 use Rattle.spec_protocol.proofs.Alike.{upto}
 use Rattle.theorem_extraction.specs.Fork.{SameΠ, SamePsi, SameOmega, SameAlpha, SameWeights, Node, base, first, second, mixed}
 use Rattle.theorem_extraction.specs.Honest.{other_sign, flipped, sign_place, flipped_at, UnitDifferences}
-use Rattle.theorem_extraction.proofs.HonestUnits.{flipped-sign_units}
+use Rattle.theorem_extraction.proofs.HonestSigns.{flipped-sign_units}
 
 -- a flipped word: the length, the words elsewhere and the word there
 length-flipped : (p : ℕ) (R : List ℕ) → length (flipped p R) ≡ length R

@@ -1,5 +1,5 @@
--- Units exist: the sign word of a coefficient of size 1 flipped changes a challenge by 2·X^p or −2·X^p, and two such challenges and the first differ by units.
-use mathlib.Core.Path.{◌≡◌, refl, sym, ap, ap₂, subst, ◌∙◌}
+-- The sign word of a coefficient of size 1 flipped adds twice X^p or −X^p to a challenge.
+use mathlib.Core.Path.{◌≡◌, refl, sym, ap, ap₂, ◌∙◌}
 use mathlib.Core.Bool.{Bool, true, false, cond}
 use mathlib.Core.List.{List}
 use mathlib.Core.Logic.{◌≢◌}
@@ -13,23 +13,20 @@ use lib.Seq.{get_or-set_same, get_or-set_other}
 use borrow.Author.Tests.{eq-eqb, ne_eqb, lt-ltb}
 use Rattle.math.specs.lists.Table.{table}
 use Rattle.math.specs.algebra.Ops.{Ops}
-use Rattle.math.proofs.algebra.Ring.{CRing, ring, neg_add_cancel, neg-neg, neg-nil, two-mul, sub_common}
+use Rattle.math.proofs.algebra.Ring.{CRing, ring, neg_add_cancel, neg-neg, neg-nil}
 use Rattle.spec_leaves.specs.Zq.{zneg}
 use Rattle.spec_leaves.specs.Rq.{Element}
-use Rattle.spec_leaves.specs.Ring.{Residue, residue, ZqOps, RqOps, words, element}
+use Rattle.spec_leaves.specs.Ring.{Residue, residue, ZqOps, words, element}
 use Rattle.spec_leaves.specs.Challenge.{start_size, start_coeff, start, challenge}
 use Rattle.spec_leaves.proofs.ZqRing.{zq_ring, residue-zneg}
-use Rattle.spec_leaves.proofs.RqRing.{rq_ring, coefficient, element_path, coefficient-element, coefficient-table, coefficient-radd, coefficient-neg}
+use Rattle.spec_leaves.proofs.RqRing.{coefficient, element_path, coefficient-element, coefficient-table, coefficient-radd, coefficient-neg}
 use Rattle.spec_leaves.proofs.Challenge.{length-start, get_or-start}
 use Rattle.spec_leaves.proofs.Cases.{ltb_cases}
-use Rattle.spec_protocol.specs.Formulas.{◌⊕◌, ◌⊗◌}
+use Rattle.spec_protocol.specs.Formulas.{◌⊕◌}
 use Rattle.spec_binding.specs.Openings.{neg}
-use Rattle.theorem_soundness.specs.Weights.{monomial, shift, IsUnit}
-use Rattle.theorem_soundness.proofs.Units.{unit-mul}
-use Rattle.theorem_soundness.proofs.Monomials.{two-unit, shift-unit, difference-unit}
-use Rattle.theorem_extraction.specs.Fork.{◌⊖◌}
-use Rattle.theorem_extraction.specs.Honest.{other_sign, flipped, UnitDifferences}
-use Rattle.theorem_extraction.proofs.HonestShuffle.{shuffled_place, shuffled_below, shuffled_apart, shuffled_at, shuffled_elsewhere}
+use Rattle.theorem_soundness.specs.Weights.{monomial, shift}
+use Rattle.theorem_extraction.specs.Honest.{other_sign, flipped}
+use Rattle.theorem_extraction.proofs.HonestShuffle.{shuffled_place, shuffled_below, shuffled_at, shuffled_elsewhere}
 
 module _ (O : Ops) (R : CRing O) where
   open O use {Carrier, add as ◌⊕'◌, mul as ◌⊗'◌, neg as minus, nil as zero, one}
@@ -43,25 +40,17 @@ module _ (O : Ops) (R : CRing O) where
   twice-added : (v : Carrier) → v ≡ minus v ⊕' (v ⊕' v)
   twice-added v = sym (neg_add_cancel O R v v)
 
-  -- c + (e + e) − c = 2·e
-  added_less : (c e : Carrier) → c ⊕' (e ⊕' e) ⊕' minus c ≡ (one ⊕' one) ⊗' e
-  added_less c e = R.add_comm (c ⊕' (e ⊕' e)) (minus c) ∙ neg_add_cancel O R c (e ⊕' e) ∙ sym (two-mul O R e)
-
-  -- 2·p − 2·q = 2·(p − q)
-  twice-difference : (p q : Carrier) → (one ⊕' one) ⊗' p ⊕' minus ((one ⊕' one) ⊗' q) ≡ (one ⊕' one) ⊗' (p ⊕' minus q)
-  twice-difference p q = simp (ring, R)
-
 -- the element with v at place p, and 0 elsewhere
-single : ℕ → ℕ → Element
+pub single : ℕ → ℕ → Element
 single p v = element (table 64 (λ k. cond (eqb k p) v 0))
 
 module _ (signs shuffles : List ℕ) (j : ℕ) (size-one : j < 31) (within : j < length signs) where
   -- the coefficient with the sign word flipped
-  abbrev v : ℕ
+  abbrev pub v : ℕ
   v = start_coeff (flipped j signs) j
 
   -- its place after the shuffle
-  abbrev p : ℕ
+  abbrev pub p : ℕ
   p = shuffled_place shuffles j
 
   -- the sign is the other one
@@ -88,7 +77,7 @@ module _ (signs shuffles : List ℕ) (j : ℕ) (size-one : j < 31) (within : j <
       ∙ sym (get_or-start (flipped j signs) i h)
 
   -- after it at p alone
-  added : element (challenge (flipped j signs) shuffles) ≡ element (challenge signs shuffles) ⊕ (single p v ⊕ single p v)
+  pub added : element (challenge (flipped j signs) shuffles) ≡ element (challenge signs shuffles) ⊕ (single p v ⊕ single p v)
   unfolding challenge single
   added = element_path (element (challenge (flipped j signs) shuffles)) (element (challenge signs shuffles) ⊕ (single p v ⊕ single p v)) (λ k h.
       coefficient-element (challenge (flipped j signs) shuffles) k h
@@ -116,10 +105,10 @@ module _ (signs shuffles : List ℕ) (j : ℕ) (size-one : j < 31) (within : j <
           ∙ ap (λ t. ZqOps.add (old k) (ZqOps.add (residue (cond t v 0)) (residue (cond t v 0)))) (sym (ne_eqb k p d))
 
   -- which of the elements X^i and −X^i it is
-  number : ℕ
+  pub number : ℕ
   number = cond (eqb (get_or (flipped j signs) j 0) 1) p (p + 64)
 
-  number-below : number < 128
+  pub number-below : number < 128
   unfolding number
   number-below = go (eqb (get_or (flipped j signs) j 0) 1)
     where
@@ -131,7 +120,7 @@ module _ (signs shuffles : List ℕ) (j : ℕ) (size-one : j < 31) (within : j <
       go false = omega (arith, low)
 
   -- the place, of the number
-  number-place : number % 64 ≡ p
+  pub number-place : number % 64 ≡ p
   unfolding number
   number-place = go (eqb (get_or (flipped j signs) j 0) 1)
     where
@@ -142,7 +131,7 @@ module _ (signs shuffles : List ℕ) (j : ℕ) (size-one : j < 31) (within : j <
       go true = mod-eq_of_lt low
       go false = omega (arith, low)
 
-  single_shift : single p v ≡ shift (suc number)
+  pub single_shift : single p v ≡ shift (suc number)
   unfolding number single shift monomial
   single_shift = go (eqb (get_or (flipped j signs) j 0) 1)
     where
@@ -168,60 +157,3 @@ module _ (signs shuffles : List ℕ) (j : ℕ) (size-one : j < 31) (within : j <
               signs_of : (t : Bool) → ZqOps.neg (residue (cond t 1 0)) ≡ residue (cond t (zneg 1) 0)
               signs_of true = sym (residue-zneg 1)
               signs_of false = neg-nil ZqOps zq_ring
-
-  -- the challenge changes by 2·X^p or −2·X^p
-  flipped-difference : element (challenge (flipped j signs) shuffles) ⊖ element (challenge signs shuffles) ≡ (RqOps.one ⊕ RqOps.one) ⊗ shift (suc number)
-  flipped-difference =
-      ap (λ x. x ⊖ element (challenge signs shuffles)) added
-      ∙ added_less RqOps rq_ring (element (challenge signs shuffles)) (single p v)
-      ∙ ap (λ e. (RqOps.one ⊕ RqOps.one) ⊗ e) single_shift
-
-  flipped-unit : IsUnit RqOps (element (challenge (flipped j signs) shuffles) ⊖ element (challenge signs shuffles))
-  flipped-unit = subst (IsUnit RqOps) (sym flipped-difference) (unit-mul RqOps rq_ring (RqOps.one ⊕ RqOps.one) (shift (suc number)) two-unit (shift-unit number number-below))
-
--- sign words at two places below 31, each flipped: all three differences are units
-pub flipped-sign_units : (signs shuffles : List ℕ) (j j' : ℕ) → j < 31 → j' < 31 → j ≢ j' → length signs ≡ 41
-    → UnitDifferences (element (challenge signs shuffles)) (element (challenge (flipped j signs) shuffles)) (element (challenge (flipped j' signs) shuffles))
-flipped-sign_units signs shuffles j j' h h' apart size = record {
-  unit_x = flipped-unit signs shuffles j h (omega arith);
-  unit_y = flipped-unit signs shuffles j' h' (omega arith);
-  unit_x_y = subst (IsUnit RqOps) (sym difference)
-      (unit-mul RqOps rq_ring two (shift (suc d) ⊖ shift (suc d')) two-unit
-      (difference-unit (suc d) (suc d') (omega (arith, below)) (omega (arith, below')) unlike));
-}
-  where
-    c : Element
-    c = element (challenge signs shuffles)
-
-    x : Element
-    x = element (challenge (flipped j signs) shuffles)
-
-    y : Element
-    y = element (challenge (flipped j' signs) shuffles)
-
-    two : Element
-    two = RqOps.one ⊕ RqOps.one
-
-    d : ℕ
-    d = number signs shuffles j h (omega arith)
-
-    d' : ℕ
-    d' = number signs shuffles j' h' (omega arith)
-
-    below : d < 128
-    below = number-below signs shuffles j h (omega arith)
-
-    below' : d' < 128
-    below' = number-below signs shuffles j' h' (omega arith)
-
-    unlike : suc d ≡ suc d' → ⊥
-    unlike e = apart (shuffled_apart shuffles j j' (sym (number-place signs shuffles j h (omega arith)) ∙ ap (λ m. m % 64) same ∙ number-place signs shuffles j' h' (omega arith)))
-      where
-        same : d ≡ d'
-        same = omega arith
-
-    difference : x ⊖ y ≡ two ⊗ (shift (suc d) ⊖ shift (suc d'))
-    difference =
-        sym (sub_common RqOps rq_ring x (neg c) y)
-        ∙ ap₂ (λ p q. p ⊖ q) (flipped-difference signs shuffles j h (omega arith)) (flipped-difference signs shuffles j' h' (omega arith))
-        ∙ twice-difference RqOps rq_ring (shift (suc d)) (shift (suc d'))

@@ -13,7 +13,7 @@ use Rattle.spec_protocol.specs.Views.{public}
 use Rattle.spec_protocol.specs.Formulas.{◌⊕◌, ◌⊗◌, norm_of}
 use Rattle.spec_binding.specs.Openings.{neg, sent, Accepted}
 use Rattle.theorem_extraction.proofs.NormsOfSums.{difference-norm, difference-within, four_norm}
-use Rattle.theorem_extraction.proofs.NormsOfProducts.{product_norm_of}
+use Rattle.theorem_extraction.proofs.NormsOfMultiples.{product_norm_of}
 use Rattle.theorem_extraction.proofs.NormsOfZ.{z-norm-le}
 use Rattle.theorem_extraction.proofs.NormsOfChallenges.{difference_l1}
 

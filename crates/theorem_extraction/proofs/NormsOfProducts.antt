@@ -3,7 +3,6 @@ use mathlib.Core.Path.{◌≡◌, sym, ap, ap₂, subst, ◌∙◌}
 use Prim.Native.Nat.{ℕ, zero, suc, ◌+◌, ◌-◌, ◌*◌, ◌%◌, ◌≤◌, ◌<◌}
 use native.Mathlib.Nat.{le_refl, mul-le-mul, mul-le-mul_left}
 use native.Mathlib.Omega.{arith}
-use Rattle.math.specs.lists.Table.{table}
 use Rattle.math.specs.lists.Sum.{Σ}
 use Rattle.math.proofs.lists.Sum.{Σ_ext, Σ-le, Σ-add, Σ-mul-left, Σ-mul_right, Σ-swap, Σ_split}
 use Rattle.spec_leaves.specs.Zq.{Q, zsub, size}
@@ -12,8 +11,8 @@ use Rattle.spec_leaves.specs.Rq.{Element, coeff, low, high, rmul}
 use Rattle.spec_leaves.specs.Ring.{words, canonical_mod}
 use Rattle.spec_leaves.proofs.Bridge.{coeff-canonical, words-mul}
 use Rattle.spec_leaves.proofs.Challenge.{total}
-use Rattle.spec_protocol.specs.Formulas.{◌⊗◌, norm_of}
-use Rattle.spec_protocol.proofs.Norms.{norm-table, norm_of-table}
+use Rattle.spec_protocol.specs.Formulas.{◌⊗◌}
+use Rattle.spec_protocol.proofs.Norms.{norm-table}
 use Rattle.spec_protocol.proofs.Flat.{length-words}
 use Rattle.spec_binding.proofs.Size.{twice_product}
 use Rattle.spec_binding.proofs.Norm.{norm_of-words}
@@ -140,15 +139,4 @@ product_norm S d a h =
       each,
       squares_of-products d a,
       mul-le-mul h (mul-le-mul h (le_refl (norm (words a)))),
-    )
-
--- and so for each entry of a vector
-pub product_norm_of : (S : ℕ) (d : Element) (n : ℕ) (v : ℕ → Element) → total size (words d) ≤ S → norm_of (table n (λ m. d ⊗ v m)) ≤ S * S * norm_of (table n v)
-product_norm_of S d n v h =
-    omega (
-      arith,
-      norm_of-table n (λ m. d ⊗ v m),
-      Σ-le n (λ m. norm (words (d ⊗ v m))) (λ m. S * S * norm (words (v m))) (λ m l. product_norm S d (v m) h),
-      Σ-mul-left n (S * S) (λ m. norm (words (v m))),
-      ap (λ x. S * S * x) (norm_of-table n v),
     )

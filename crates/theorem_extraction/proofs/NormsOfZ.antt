@@ -1,21 +1,19 @@
--- The norm of z where check 23 passes (document 02, Item 9): a coefficient is part 0 plus b times part 1.
-use mathlib.Core.Path.{◌≡◌, sym, ap, ap₂, subst, ◌∙◌}
+-- The norm of z where check 23 passes (document 02, Item 9).
+use mathlib.Core.Path.{◌≡◌, sym, ap, ap₂, ◌∙◌}
 use mathlib.Core.List.{List, [], ◌∷◌, flat_map}
-use Prim.Native.Nat.{ℕ, ◌+◌, ◌*◌, ◌%◌, ◌^◌, ◌≤◌, ◌<◌}
-use native.Mathlib.Nat.{mul-le-mul, mul-le-mul_left, mod-mod, mul-one, pow-zero, pow-suc, zero-add}
+use Prim.Native.Nat.{ℕ, ◌+◌, ◌*◌, ◌≤◌, ◌<◌}
+use native.Mathlib.Nat.{mul-le-mul_left}
 use native.Mathlib.Decide.{dec_le}
 use native.Mathlib.Omega.{arith}
 use Rattle.math.specs.lists.Table.{table}
 use Rattle.math.specs.lists.Sum.{Σ}
 use Rattle.math.proofs.lists.Sum.{Σ-le, Σ-add, Σ-mul-left}
-use Rattle.spec_leaves.specs.Zq.{Q, Canonical, size}
 use Rattle.spec_leaves.specs.Norm.{square, norm}
-use Rattle.spec_leaves.specs.Digits.{digit, leftover, rest}
+use Rattle.spec_leaves.specs.Digits.{digit, rest}
 use Rattle.spec_leaves.specs.Answer.{fine, failed, accepted}
 use Rattle.spec_leaves.specs.Rq.{Element, coeff, digit_row, rest_row}
 use Rattle.spec_leaves.specs.Ring.{words}
 use Rattle.spec_leaves.proofs.Bridge.{coeff-canonical}
-use Rattle.spec_leaves.proofs.Digits.{digits_sum, digit_of-canonical, rest_of-canonical}
 use Rattle.spec_protocol.specs.Parameters.{parameters}
 use Rattle.spec_protocol.specs.Views.{Public, public, Message, message}
 use Rattle.spec_protocol.specs.Formulas.{norm_of, t_digits, g_digits, h_digits}
@@ -24,38 +22,10 @@ use Rattle.spec_protocol.specs.Verifier.{verify, z_parts, check_23}
 use Rattle.spec_protocol.proofs.Fine.{required, failed_not-fine}
 use Rattle.spec_protocol.proofs.Norms.{norm-table, parts_of-table, norm_of-table}
 use Rattle.spec_protocol.proofs.Acceptance.{accepted-passes, base_at-least}
-use Rattle.spec_binding.proofs.Size.{twice_product}
 use Rattle.spec_binding.proofs.Norm.{norm_of-words}
-use Rattle.theorem_extraction.proofs.NormsWithin.{Within, within_itself, size-within, size-least, within-mod, within-add, within-mul}
+use Rattle.theorem_extraction.proofs.NormsOfParts.{square_of-parts}
 
 module _ (b : ℕ) (p : 0 < b) where
-  -- a value is its part 0 plus b times its part 1 modulo Q
-  parts-sum : (a : ℕ) → Canonical a → (digit b a 0 + rest b a * b) % Q ≡ a
-  unfolding Σ rest leftover
-  parts-sum a h =
-      ap (λ x. x % Q) (ap₂ (λ u v. u + rest b a * v) (sym (zero-add (digit b a 0 * b ^ 0) ∙ ap (λ x. digit b a 0 * x) (pow-zero b) ∙ mul-one (digit b a 0))) (sym first))
-      ∙ digits_sum b 1 a p h
-    where
-      first : b ^ 1 ≡ b
-      first = omega (arith, pow-suc b 0, ap (λ x. x * b) (pow-zero b))
-
-  -- so its size is at most that sum of the sizes
-  size_of-parts : (a : ℕ) → Canonical a → size a ≤ size (digit b a 0) + size (rest b a) * b
-  size_of-parts a h =
-      size-least a (size (digit b a 0) + size (rest b a) * b) h
-      (subst (λ x. Within x (size (digit b a 0) + size (rest b a) * b)) (parts-sum a h)
-      (within-mod (digit b a 0 + rest b a * b) ((digit b a 0 + rest b a * b) % Q) (size (digit b a 0) + size (rest b a) * b) (sym (mod-mod (digit b a 0 + rest b a * b) Q))
-      (within-add (digit b a 0) (rest b a * b) (size (digit b a 0)) (size (rest b a) * b)
-      (size-within (digit b a 0) (digit_of-canonical b a 0 h))
-      (within-mul (rest b a) b (size (rest b a)) b (size-within (rest b a) (rest_of-canonical b a h)) (within_itself b)))))
-
-  -- and its square at most 1 + b² times the squares together
-  square_of-parts : (a : ℕ) → Canonical a → square a ≤ (1 + b * b) * (square (digit b a 0) + square (rest b a))
-  square_of-parts a h = omega (arith, mul-le-mul (size_of-parts a h) (size_of-parts a h), schwarz (size (digit b a 0)) (size (rest b a)))
-    where
-      schwarz : (u v : ℕ) → (u + v * b) * (u + v * b) ≤ (1 + b * b) * (u * u + v * v)
-      schwarz u v = omega (arith, twice_product (u * b) v)
-
   -- of an element
   norm_of-parts : (e : Element) → norm (words e) ≤ (1 + b * b) * two_parts_norm b e
   unfolding digit_row rest_row
@@ -63,7 +33,7 @@ module _ (b : ℕ) (p : 0 < b) where
       let zeros : ℕ → ℕ = λ j. digit b (coeff (words e) j) 0 in
       let rests : ℕ → ℕ = λ j. rest b (coeff (words e) j) in
       let each =
-      Σ-le 64 (λ j. square (coeff (words e) j)) (λ j. (1 + b * b) * (square (zeros j) + square (rests j))) (λ j l. square_of-parts (coeff (words e) j) (coeff-canonical e j)) in
+      Σ-le 64 (λ j. square (coeff (words e) j)) (λ j. (1 + b * b) * (square (zeros j) + square (rests j))) (λ j l. square_of-parts b p (coeff (words e) j) (coeff-canonical e j)) in
       omega (
         arith,
         norm_of-words e,

@@ -3,10 +3,13 @@ pub mod AlteredWords
 pub mod Modulus
 pub mod Gcd
 pub mod Rows
+pub mod RowsOverPrime
 pub mod RowsOfPsi
+pub mod GcdThird
 pub mod Third
 pub mod Units
 pub mod Monomials
+pub mod OneWeight
 pub mod Weights
 pub mod SlotOne
 pub mod Slot

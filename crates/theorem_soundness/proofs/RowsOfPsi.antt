@@ -10,7 +10,8 @@ use Rattle.spec_protocol.specs.Conditions.{constant_error, psi_error}
 use Rattle.theorem_soundness.specs.Rows.{AllZero, Prime, AtMostAThird, OneRowIn, SomeError, GcdOfErrors, OnePsiRowIn, OnePsiIn}
 use Rattle.theorem_soundness.proofs.Modulus.{Q_positive, Q_odd}
 use Rattle.theorem_soundness.proofs.Gcd.{gcd_exists}
-use Rattle.theorem_soundness.proofs.Rows.{one-row_in, one-row_in_q, at_most-a-third}
+use Rattle.theorem_soundness.proofs.Rows.{one-row_in, at_most-a-third}
+use Rattle.theorem_soundness.proofs.RowsOverPrime.{one-row_in_q}
 
 module _ (X : Public) (s : ℕ → ℕ → Element) where
   -- errors are 0 where they are 0 modulo Q

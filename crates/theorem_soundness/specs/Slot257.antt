@@ -13,8 +13,8 @@ divided_by_65537 = refl
 
 -- ζ = 9 modulo 257
 abbrev pub slot_257 : Slot
-slot_257 = record { p = 257; ζ = 9; ζ⁻¹ = 200; divides = divided_by_257; root = refl; inverse = refl }
+slot_257 = record { p = 257; ζ = 9; ζ⁻¹ = 200; divides = refl; root = refl; inverse = refl }
 
 -- ζ = 13987 modulo 65537
 abbrev pub slot_65537 : Slot
-slot_65537 = record { p = 65537; ζ = 13987; ζ⁻¹ = 39504; divides = divided_by_65537; root = refl; inverse = refl }
+slot_65537 = record { p = 65537; ζ = 13987; ζ⁻¹ = 39504; divides = refl; root = refl; inverse = refl }
