@@ -1,5 +1,5 @@
 // The names of the kinds of records.
-use libc::STDOUT_FILENO;
+use std::io;
 
 // The kind of the calls on whole slices.
 const CALL: u32 = 34;
@@ -30,24 +30,25 @@ fn end_of(names: &[u8], start: usize) -> usize {
 }
 
 // The name behind a number of spaces, and `unknown` where there is none.
-fn print_name_of(names: &[u8], spaces: u32) {
+fn print_name_of(rt: &impl Print, names: &[u8], spaces: u32) -> io::Result<()> {
     let start = start_of(names, spaces);
     let end = end_of(names, start);
     if start < end && end <= names.len() {
-        io::write_all(STDOUT_FILENO, &names[start..end]);
+        rt.write_all(&names[start..end])
     } else {
-        io::write_all(STDOUT_FILENO, b"unknown");
+        rt.write_all(b"unknown")
     }
 }
 
 // The name of a kind: a leaf call's stands behind as many spaces as its kind.
-pub fn print_name(kind: u32) {
+pub fn print_name(rt: &impl Print, kind: u32) -> io::Result<()> {
     if kind == CALL {
-        io::write_all(STDOUT_FILENO, b"call");
+        rt.write_all(b"call")
     } else {
         print_name_of(
+            rt,
             b" zq_add zq_sub zq_mul zq_neg zq_centre zq_digits projection_entry rq_add rq_sub rq_mul rq_scale rq_conj rq_norm rq_digits challenge rq_left",
             kind,
-        );
+        )
     }
 }

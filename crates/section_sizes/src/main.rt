@@ -1,10 +1,12 @@
 // Prints the sections of two files of little-endian words: each one's number, place and count, and where the words end.
 #![tactic(auto)]
 
-ghost use Rattle.std.specs.Prelude.{◌<◌};
+ghost use Rattle.std.specs.Prelude.{◌<◌, ◌≤◌, length, IfOk};
 
+use anyhow::{Context, Result};
 use layout_section_reader::Read;
-use libc::STDOUT_FILENO;
+use std::rt::Files;
+use std::{fs, io};
 
 fn wide(x: u8) -> u32
     ensures { result < 256 }
@@ -38,78 +40,85 @@ fn fill(bytes: &[u8], words: &mut [u32]) {
     }
 }
 
-fn print_line(before: &[u8], n: usize) {
-    io::write_all(STDOUT_FILENO, before);
-    io::print_decimal(STDOUT_FILENO, n as u64);
-    io::write_all(STDOUT_FILENO, b"\n");
+fn print_line(rt: &impl Print, before: &str, n: usize) -> io::Result<()> {
+    println!(rt; "{before}{n}")
 }
 
-fn print_section(number: usize, place: usize, count: usize) {
-    io::write_all(STDOUT_FILENO, b"section ");
-    io::print_decimal(STDOUT_FILENO, number as u64);
-    io::write_all(STDOUT_FILENO, b" at ");
-    io::print_decimal(STDOUT_FILENO, place as u64);
-    print_line(b" count ", count);
+fn print_section(rt: &impl Print, number: usize, place: usize, count: usize) -> io::Result<()> {
+    print!(rt; "section {number} at {place}")?;
+    print_line(rt, " count ", count)
 }
 
-fn print_short(position: usize) {
-    print_line(b"short at ", position);
+fn print_short(rt: &impl Print, position: usize) -> io::Result<()> {
+    print_line(rt, "short at ", position)
 }
 
-fn print_end(position: usize) {
-    print_line(b"end at ", position);
+fn print_end(rt: &impl Print, position: usize) -> io::Result<()> {
+    print_line(rt, "end at ", position)
 }
 
 // A line for each section, and a last one: `end at` the number of words, or `short at` a count that passes it.
-fn print_sections(words: &[u32]) {
+fn print_sections(rt: &impl Print, words: &[u32]) -> io::Result<()> {
     let mut position = 0;
     let mut number = 0;
     while position < words.len() {
         match layout_section_reader::section_from(words, position) {
             Read::Section(place, count) => {
-                print_section(number + 1, place, count);
+                print_section(rt, number + 1, place, count)?;
                 position = place + count;
             }
             Read::Short => {
-                print_short(position);
-                return;
+                return print_short(rt, position);
             }
             Read::End => {
-                return;
+                return Ok(());
             }
         }
         number += 1;
     }
-    print_end(position);
+    print_end(rt, position)
 }
 
 // The sections of the first words of a buffer.
-fn print_first(count: usize, words: &[u32]) {
+fn print_first(rt: &impl Print, count: usize, words: &[u32]) -> io::Result<()> {
     if count <= words.len() {
-        print_sections(&words[..count]);
+        print_sections(rt, &words[..count])
+    } else {
+        Ok(())
     }
+}
+
+// Reads until a buffer is full or the input ends, and answers how many bytes were read.
+fn read_full<I: io::Read>(input: &mut I, bytes: &mut [u8]) -> io::Result<usize>
+    ensures { IfOk result (λ n. n ≤ length bytes.new) }
+{
+    let mut done = 0;
+    while done < bytes.len() {
+        let n = input.read(&mut bytes[done..])?;
+        if n == 0 {
+            break;
+        }
+        done += n;
+    }
+    Ok(done)
 }
 
 // The sections of a file of at most 1023 words. Bytes behind the last whole word are left out.
-fn print_file(path: &[u8]) {
-    let fd = os::open_read(path);
-    if fd < 0 {
-        os::fail(path);
-        return;
-    }
+fn print_file(rt: &(impl Files + Print), path: &str) -> Result<()> {
+    let mut file = fs::open(rt, path).context(path)?;
     let mut bytes = [0u8; 4096];
-    let length = io::read_full(fd, &mut bytes);
-    libc::close(fd);
+    let length = read_full(&mut file, &mut bytes).context(path)?;
     if length == 4096 {
-        io::write_all(STDOUT_FILENO, b"too long\n");
-        return;
+        println!(rt; "too long")?;
+        return Ok(());
     }
     let mut words = [0u32; 1024];
     fill(&bytes, &mut words);
-    print_first(length / 4, &words);
+    print_first(rt, length / 4, &words)?;
+    Ok(())
 }
 
-fn main() {
-    print_file(b"words");
-    print_file(b"cut");
+fn main(rt: HostRuntime) -> Result<()> {
+    print_file(&rt, "words")?;
+    print_file(&rt, "cut")
 }
