@@ -34,6 +34,17 @@ def nested(fields, segs):
     return ([fields[k]] if k == len(fields) - 1 else ["?"]) + segs[i:]
 
 
+def lent(params, segs):
+    """new.1.1.0 was what the third parameter holds after the call."""
+    if len(segs) > 1 and segs[0] == "new":
+        k = 1
+        while k < len(segs) and segs[k] == "1":
+            k += 1
+        if k < len(segs) and segs[k] == "0" and k - 1 < len(params):
+            return ["new", params[k - 1]] + segs[k + 1 :]
+    return segs
+
+
 def split_decls(text):
     """Header (comments and uses) and a list of (comment, [lines])."""
     lines = text.rstrip("\n").split("\n")
@@ -103,6 +114,7 @@ class Function:
     def __init__(self, entry, own=()):
         self.e = entry
         self.own = list(own)
+        self.last_params = []
         self.parent, self.step, self.new_place, self.callee = {}, {}, {}, {}
         for (old, par, field, callee, extra), new in zip(entry["places"], entry["places_by_name"]):
             self.parent[old] = par
@@ -192,6 +204,8 @@ class Function:
                         rest = ["ensures"] + nested(fields, rest[1:])
                     elif len(fields) == 1 and (len(rest) < 2 or rest[1] != fields[0]):
                         rest[1:1] = fields
+                self.last_params = self.e["params"].get(self.callee[p]) or []
+                rest = lent(self.last_params, rest)
                 if rest and rest[0] == "taken":
                     rest[0] = "false" if p.startswith("Else") or p.startswith("After-loop") else "true"
                 return ("path", [new] + rest)
@@ -231,10 +245,9 @@ def convert_body(fn, text, env, goal, problems, record_vars=()):
             elif r and r[0] == "path" and r[1][-1] == "ensures":
                 names = fn.last_fields
             elif r and r[0] == "path" and len(r[1]) == 1 and r[1][0] not in ROOT:
-                fn.last_fields = []
+                fn.last_fields, fn.last_params = [], []
                 fn.resolve(env[path[0]], path[1:] + ["ensures"])
-                if len(fn.last_fields) > 1:
-                    step_names[m[1]] = fn.last_fields
+                step_names[m[1]] = (fn.last_fields, fn.last_params)
             if names and len(names) > 1:
                 clause_names[m[1]] = names
 
@@ -247,8 +260,10 @@ def convert_body(fn, text, env, goal, problems, record_vars=()):
             if segs and re.fullmatch(r"t\d+", segs[0]) and segs[0] not in fn.own and int(segs[0][1:]) <= len(fn.own):
                 segs[0] = fn.own[int(segs[0][1:]) - 1]
                 return ".".join([var] + segs)
-        if var in step_names and rest.startswith(".ensures."):
-            return ".".join([var, "ensures"] + nested(step_names[var], [s for s in rest.split(".") if s][1:]))
+        if var in step_names and rest.startswith(".ensures.") and len(step_names[var][0]) > 1:
+            return ".".join([var, "ensures"] + nested(step_names[var][0], [s for s in rest.split(".") if s][1:]))
+        if var in step_names and rest.startswith(".new."):
+            return ".".join([var] + lent(step_names[var][1], [s for s in rest.split(".") if s]))
         if var not in env and rest:
             segs = rest.split(".")
             if len(segs) > 1 and "-" in segs[1] and norm(segs[1]) in (fn.loop_vars | set(fn.own)):

@@ -10,7 +10,6 @@ use Rattle.math.specs.lists.Part.{splice}
 use Rattle.math.proofs.lists.Table.{length-table, get_or-table}
 use Rattle.math.proofs.lists.Part.{part_flat_map}
 use Rattle.math.proofs.lists.Splice.{get_or-splice-within, get_d_part}
-use Rattle.spec_leaves.specs.Zq.{Q, size}
 use Rattle.spec_leaves.specs.Rq.{Element, coeff, digit_row}
 use Rattle.spec_leaves.specs.Digits.{digit}
 use Rattle.spec_leaves.specs.Ring.{words}

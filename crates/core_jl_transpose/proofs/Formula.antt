@@ -5,7 +5,7 @@ use Rattle.math.proofs.lists.Table.{table_ext}
 use Rattle.math.proofs.algebra.Sum.{sum_ext}
 use Rattle.spec_leaves.specs.Projection.{entry}
 use Rattle.spec_leaves.specs.Ring.{RqOps, element, scale, conj}
-use Rattle.spec_protocol.specs.Parameters.{Parameters, parameters}
+use Rattle.spec_protocol.specs.Parameters.{parameters}
 use Rattle.spec_protocol.specs.Layout.{start, randomness_sections}
 use Rattle.spec_protocol.specs.Views.{public}
 use Rattle.spec_protocol.specs.Formulas.{◌⊕◌, sum, Π_row, φ''}

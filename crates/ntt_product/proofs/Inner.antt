@@ -1,10 +1,10 @@
 -- The inverse NTT of sums of products of values is the inner product modulo Q, for up to 512 elements.
 use mathlib.Core.Path.{◌≡◌, refl, sym, ap, ap₂, subst, ◌∙◌}
 use mathlib.Core.List.{List}
-use Prim.Native.Nat.{ℕ, zero, suc, ◌+◌, ◌-◌, ◌*◌, ◌/◌, ◌%◌, ◌≤◌, ◌<◌}
+use Prim.Native.Nat.{ℕ, ◌+◌, ◌-◌, ◌*◌, ◌/◌, ◌%◌, ◌≤◌, ◌<◌}
 use native.Mathlib.Nat as Nat
 use native.Mathlib.Omega.{arith}
-use lib.ListN.{length, get_or, replicate, length-replicate, get_or-replicate}
+use lib.ListN.{get_or, replicate, length-replicate, get_or-replicate}
 use Rattle.math.specs.lists.Table.{table}
 use Rattle.math.specs.lists.Sum.{Σ}
 use Rattle.math.proofs.lists.Sum.{Σ-bound, Σ-suc}

@@ -1,7 +1,7 @@
 -- Modulo one prime: the inverse NTT of sums of products of values gives the coefficients of the inner product, plus 512·64·Q².
 use mathlib.Core.Path.{◌≡◌, sym, ap, ap₂, subst, ◌∙◌}
 use mathlib.Core.List.{List}
-use Prim.Native.Nat.{ℕ, zero, ◌+◌, ◌-◌, ◌*◌, ◌%◌, ◌≤◌, ◌<◌, ◌^◌}
+use Prim.Native.Nat.{ℕ, ◌+◌, ◌-◌, ◌*◌, ◌%◌, ◌≤◌, ◌<◌, ◌^◌}
 use native.Mathlib.Nat as Nat
 use native.Mathlib.Omega.{arith}
 use lib.ListN.{get_or}
@@ -16,13 +16,12 @@ use Rattle.math.proofs.algebra.Antiperiodic.{extend, mul_f, extend_below, extend
 use Rattle.math.proofs.transform.Evaluation.{eval, eval_mul, eval_sum}
 use Rattle.math.proofs.transform.Layers.{layers_eval, point_hom, point_anti}
 use Rattle.math.proofs.transform.Computed.{agree}
-use Rattle.spec_leaves.specs.Zq.{Q}
 use Rattle.spec_leaves.specs.Rq.{coeff, low, high}
 use Rattle.ntt_layers.specs.Fold.{prime}
 use Rattle.ntt_layers.specs.Words.{remainders_of}
 use Rattle.ntt_layers.proofs.Residues.{Below, res, ModOps, mod_ring, res_less, res_reduced, res_add, res_mul, res_sub, res_Σ}
 use Rattle.ntt_layers.proofs.Folds.{prime_pos}
-use Rattle.ntt_transform.specs.Roots.{delta, root, opposite, twiddle_table}
+use Rattle.ntt_transform.specs.Roots.{delta, opposite, twiddle_table}
 use Rattle.ntt_transform.specs.Transforms.{inverse_transform_of}
 use Rattle.ntt_transform.proofs.Roots.{prime_of, positive, root_in, root_half, twiddle-pow, inverse-pow, twiddles_fit, inverses_fit}
 use Rattle.ntt_transform.proofs.Laws.{forward_bound, inverse-layers-bound, res_forward, res_inverse}

@@ -1,7 +1,7 @@
 -- The sums of products of values: one product more, and what they come to.
 use mathlib.Core.Path.{◌≡◌, refl, sym, ap, ap₂, ◌∙◌}
 use mathlib.Core.List.{List}
-use Prim.Native.Nat.{ℕ, zero, suc, ◌+◌, ◌-◌, ◌*◌, ◌%◌, ◌≤◌, ◌<◌, ◌^◌}
+use Prim.Native.Nat.{ℕ, zero, suc, ◌+◌, ◌-◌, ◌*◌, ◌%◌, ◌≤◌, ◌<◌}
 use native.Mathlib.Nat as Nat
 use native.Mathlib.Decide.{dec_lt}
 use native.Mathlib.Omega.{arith}
@@ -10,7 +10,7 @@ use Rattle.math.specs.lists.Table.{table}
 use Rattle.math.specs.lists.Sum.{Σ}
 use Rattle.math.proofs.lists.Table.{length-table, get_or-table, table_ext, is_table}
 use Rattle.math.proofs.lists.Sum.{Σ-suc, Σ_ext, Σ-bound}
-use Rattle.math.specs.algebra.Ops.{sum, dot}
+use Rattle.math.specs.algebra.Ops.{dot}
 use Rattle.math.proofs.algebra.Sum.{sum_ext}
 use Rattle.spec_leaves.specs.Zq.{Q, zsub}
 use Rattle.spec_leaves.specs.Rq.{coeff, low, high, rmul}

@@ -1,16 +1,11 @@
 -- `compute_h` meets its contract. The invariant: the first i rows are stored, and the place stands at the next row.
-use mathlib.Core.Path.{◌≡◌, refl, ap, ◌∙◌}
+use mathlib.Core.Path.{◌≡◌}
 use Prim.Native.Nat.{◌+◌, ◌-◌, ◌*◌, ◌≤◌}
-use native.Mathlib.Omega.{arith}
 use lib.ListN.{length}
 use Rattle.math.specs.lists.Part.{splice}
 use Rattle.spec_protocol.specs.Parameters.{triangular}
 use Rattle.spec_protocol.specs.Formulas.{flat, triangle}
-use Rattle.spec_protocol.proofs.Flat.{length-triangle}
-use Rattle.ring_rq_matrix.proofs.Place.{rows-within, triangular-suc, triangle-within, apart_part}
-use Rattle.ring_rq_matrix.proofs.Fill.{length_filled, triangle-none, triangle-next, apart_filled}
 use Rattle.core_garbage_polynomials.specs.Garbage.{h_of}
-use Rattle.core_garbage_polynomials.proofs.Cell.{h-row_unchanged}
 use Rattle.core_garbage_polynomials.proofs.h.compute_h.Given as goal
 
 abbrev pub invariant-loop-i : goal.invariant-loop-i

@@ -1,7 +1,6 @@
 use mathlib.Core.Path.{◌≡◌, refl, ap, ◌∙◌}
-use Prim.Native.Nat.{◌+◌, ◌-◌, ◌*◌, ◌≤◌}
+use Prim.Native.Nat.{◌+◌, ◌*◌}
 use native.Mathlib.Omega.{arith}
-use lib.ListN.{length}
 use Rattle.math.specs.lists.Table.{table}
 use Rattle.math.specs.lists.Part.{splice}
 use Rattle.math.proofs.lists.Table.{length-table}
@@ -16,33 +15,33 @@ use Rattle.core_garbage_polynomials.proofs.h.h_row.Goals as goal
 
 pub h_cell-cell-requires : goal.h_cell-cell-requires
 h_cell-cell-requires c =
-    let s = c.before.before.before.before.before.before.before.args in
-    omega (arith, rows-within s.i (s.i + 1) s.n (omega arith), rows-within c.before.before.loop.j (s.i + 1) s.n (omega arith))
+    let s = c.args in
+    omega (arith, rows-within s.i (s.i + 1) s.n (omega arith), rows-within c.loop-j.j (s.i + 1) s.n (omega arith))
 
 pub overflow_add-s_j : goal.overflow_add-s_j
 overflow_add-s_j c =
-    let s = c.before.before.before.before.before.before.before.before.before.before.before.before.args in
-    omega (arith, rows-within c.before.before.before.before.before.before.before.loop.j (s.i + 1) s.n (omega arith))
+    let s = c.args in
+    omega (arith, rows-within c.loop-j.j (s.i + 1) s.n (omega arith))
 
 pub overflow_add-phi_j : goal.overflow_add-phi_j
 overflow_add-phi_j c =
-    let s = c.before.before.before.before.before.before.before.before.before.before.before.before.args in
-    omega (arith, rows-within c.before.before.before.before.before.before.before.loop.j (s.i + 1) s.n (omega arith))
+    let s = c.args in
+    omega (arith, rows-within c.loop-j.j (s.i + 1) s.n (omega arith))
 
 pub loop-j-preserved : goal.loop-j-preserved
 loop-j-preserved c =
     let at-start = c.before.before.before.before.before.before.before.before.before.before.before.before in
     let s = at-start.args in
-    let l = c.before.before.before.before.before.before.before.loop in
-    let φ-i = c.before.before.before.before.before.before.before.before.vector-at2 in
-    let s-i = c.before.before.before.before.before.before.before.before.before.vector-at in
-    let row = h_of s.scratch.now s.phi-at s.s.now s.s-at s.n s.i in
-    let apart = apart_filled s.phi-at (64 * ((s.i + 1) * s.n)) s.out_at (64 * (s.i + 1)) (table l.j row) at-start.requires.3 (omega (arith, length-table l.j row)) in
-    let now = h-places l.scratch s.s.now s.phi-at s.s-at s.n _ s.i l.j φ-i.result l.phi-j s-i.result l.s-j
+    let l = c.loop-j in
+    let φ-i = c.vector_at-phi_i in
+    let s-i = c.vector_at-s_i in
+    let row = h_of s.scratch.now s.phi_at s.s.now s.s_at s.n s.i in
+    let apart = apart_filled s.phi_at (64 * ((s.i + 1) * s.n)) s.out_at (64 * (s.i + 1)) (table l.j row) at-start.requires.3 (omega (arith, length-table l.j row)) in
+    let now = h-places l.scratch s.s.now s.phi_at s.s_at s.n _ s.i l.j φ-i.result l.phi_j s-i.result l.s_j
     c.h_cell-cell.ensures φ-i.ensures l.invariant.2 s-i.ensures l.invariant.1 in
     let unchanged =
-    h_unchanged l.scratch s.scratch.now s.out_at (flat (table l.j row)) s.phi-at (s.i + 1) s.n l.invariant.4 apart
-    s.s.now s.s-at s.i l.j (omega arith) (omega arith) in
+    h_unchanged l.scratch s.scratch.now s.out_at (flat (table l.j row)) s.phi_at (s.i + 1) s.n l.invariant.4 apart
+    s.s.now s.s_at s.i l.j (omega arith) (omega arith) in
     let stored = c.store.ensures in (
       omega arith,
       omega arith,

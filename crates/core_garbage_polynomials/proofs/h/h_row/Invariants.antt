@@ -1,18 +1,11 @@
 -- `h_row` meets its contract. The invariant: the first j cells are stored, and the places stand at the next vectors and cell.
-use mathlib.Core.Path.{◌≡◌, refl, ap, ◌∙◌}
+use mathlib.Core.Path.{◌≡◌}
 use Prim.Native.Nat.{◌+◌, ◌-◌, ◌*◌, ◌≤◌}
-use native.Mathlib.Omega.{arith}
 use lib.ListN.{length}
 use Rattle.math.specs.lists.Table.{table}
 use Rattle.math.specs.lists.Part.{splice}
-use Rattle.math.proofs.lists.Table.{length-table}
-use Rattle.spec_leaves.specs.Ring.{words}
 use Rattle.spec_protocol.specs.Formulas.{flat}
-use Rattle.spec_protocol.proofs.Stored.{stored-none}
-use Rattle.ring_rq_matrix.proofs.Place.{rows-within}
-use Rattle.ring_rq_matrix.proofs.Fill.{length_filled, fill_next, apart_filled}
 use Rattle.core_garbage_polynomials.specs.Garbage.{h_of}
-use Rattle.core_garbage_polynomials.proofs.Cell.{h-places, h_unchanged}
 use Rattle.core_garbage_polynomials.proofs.h.h_row.Given as goal
 
 abbrev pub invariant-loop-j : goal.invariant-loop-j
