@@ -67,7 +67,7 @@ fn enough_aggregations(job: &[u32]) -> SectionOne
     }
 }
 
-// The least number of constant_term constraints: 1 where there is no ring constraint, since K and l are not both 0.
+// The least number of constant-term constraints: 1 where there is no ring constraint, since K and l are not both 0.
 fn least_l(job: &[u32]) -> u32
     requires { 31 ≤ length job.now }
     ensures { result ≡ least_l (get_or job.now 6 0) }

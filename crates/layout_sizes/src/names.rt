@@ -1,6 +1,6 @@
 // The sections of each slice by name, counted from 0.
 
-// Of the job, after section one: a', φ' and b0 of the constant_term constraints.
+// Of the job, after section one: a', φ' and b0 of the constant-term constraints.
 pub const CONSTANT_A: usize = 0;
 
 pub const CONSTANT_PHI: usize = 1;

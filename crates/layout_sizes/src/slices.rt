@@ -18,7 +18,7 @@ pub fn triangle(r: usize) -> usize
     triangles::cells(r)
 }
 
-// "constant_term constraints: l triangles a', then l·r·n elements φ', then l words b0; ring constraints: K triangles a, K·r·n elements φ,
+// "constant-term constraints: l triangles a', then l·r·n elements φ', then l words b0; ring constraints: K triangles a, K·r·n elements φ,
 // K elements b; matrices A (κ rows of n), B (κ1 rows of r·κ·t1), C (κ1 rows of T·t2), D (κ2 rows of T·t1)"
 pub fn job_sections(params: EnvironmentParameters) -> Sections
     requires { Sized (parameters_of params) }

@@ -24,7 +24,7 @@ pub struct EnvironmentParameters {
     pub kappa: usize,
     pub kappa_1: usize,
     pub kappa_2: usize,
-    // K ring constraints, l constant_term constraints, L aggregated equations
+    // K ring constraints, l constant-term constraints, L aggregated equations
     pub constraint_k: usize,
     pub constraint_l: usize,
     pub const_agg_length: usize,
