@@ -66,14 +66,14 @@ module _ (J R : List ℕ) where
   abbrev X : Public
   X = public J R
 
-  -- cell (i, j) of the constant_term triangles weighed by row k of psi
+  -- cell (i, j) of the constant-term triangles weighed by row k of psi
   pub a''_is : (k i j : ℕ) → weighed J (job_at J 0) (T P) P.l R (randomness_at J 1 + k * P.l) (cell i j) ≡ a'' X k i j
   unfolding weighed a''
   a''_is k i j =
       sum_ext RqOps P.l (λ x. scale (run J (job_at J 0 + 64 * cell i j) (64 * T P) x) (get_or R (randomness_at J 1 + k * P.l + x) 0)) (λ x. scale (X.a' x i j) (X.psi k x))
       (λ x h. ap₂ (λ place aggregations. scale (element (part J place 64)) (get_or R aggregations 0)) (constraint_place (job_at J 0) (cell i j) (T P) x) (number-place (randomness_at J 1) P.l k x))
 
-  -- element m of vector i of the constant_term vectors weighed by row k of psi
+  -- element m of vector i of the constant-term vectors weighed by row k of psi
   pub psi_is : (k i m : ℕ) → weighed J (job_at J 1) (P.r * P.n) P.l R (randomness_at J 1 + k * P.l) (i * P.n + m) ≡ sum P.l (λ x. scale (X.φ' x i m) (X.psi k x))
   unfolding weighed
   psi_is k i m =

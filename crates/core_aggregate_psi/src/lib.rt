@@ -1,4 +1,4 @@
-// Elements of the constant_term constraints weighed by the numbers of psi (core/aggregate.rs). The constraints' cells or vectors stand one constraint after
+// Elements of the constant-term constraints weighed by the numbers of psi (core/aggregate.rs). The constraints' cells or vectors stand one constraint after
 // the other, `width` elements each; element c of the result is weighed over the constraints' elements c.
 #![tactic(auto)]
 

@@ -15,7 +15,7 @@ pub record Blank (P : Parameters) (J : List ℕ) : Type 0 where
   pub b₀ : (x : ℕ) → x < P.l → get_or J (31 + start (job_sections P) 2 + x) 0 ≡ 0
   pub b : (x : ℕ) → x < 64 * P.K → get_or J (31 + start (job_sections P) 5 + x) 0 ≡ 0
 
--- the left side of constant_term constraint x and of ring constraint k of a job's and a witness's words
+-- the left side of constant-term constraint x and of ring constraint k of a job's and a witness's words
 abbrev pub constant_left : Parameters → List ℕ → List ℕ → ℕ → ℕ
 constant_left P J W x =
     coeff (words (left P (λ i j. element_at J (31 + start (job_sections P) 0) (x * T P + cell i j)) (λ i m. element_at J (31 + start (job_sections P) 1) ((x * P.r + i) * P.n + m)) (witness P W))) 0

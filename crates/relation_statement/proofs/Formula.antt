@@ -45,7 +45,7 @@ module _ (J R W : List ℕ) where
       ≡ left P (a k) (φ k) (witness P W)
   ring_left k = constraint_form J (31 + start (job_sections P) 3) (31 + start (job_sections P) 4) (T P) r n k (witness P W)
 
-  -- constant_term constraint x
+  -- constant-term constraint x
   pub constant_left : (x : ℕ)
       → form RqOps r n (triangle_at J (31 + start (job_sections P) 0 + 64 * (x * T P))) (vector J (31 + start (job_sections P) 1 + 64 * (x * r * n)) n) (vector W (start (witness_sections P) 0) n)
       ≡ left P (a' x) (φ' x) (witness P W)

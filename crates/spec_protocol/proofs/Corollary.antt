@@ -21,7 +21,7 @@ use Rattle.spec_protocol.proofs.Fine.{require-holds}
 use Rattle.spec_protocol.proofs.Checks.{then_fine, first_fine}
 
 module _ (X : Public) (s : ℕ → ℕ → Element) where
-  -- where every constant_term constraint is met, each psi row's sum is zero
+  -- where every constant-term constraint is met, each psi row's sum is zero
   pub psi_error_zero : ((x : ℕ) → x < X.P.l → constant_error X s x ≡ 0) → (k : ℕ) → psi_error X s k ≡ 0
   unfolding psi_error
   psi_error_zero met k = ap (λ x. x % Q)

@@ -29,7 +29,7 @@ section_one = 30 ∷ 1 ∷ 1 ∷ 4 ∷ 1 ∷ 1 ∷ 1 ∷ 1 ∷ 32 ∷ 2 ∷ 1 �
 abbrev pub job : List ℕ
 job = section_one ++ sections (zeros 64 ∷ zeros 64 ∷ zeros 1 ∷ zeros 64 ∷ zeros 64 ∷ zeros 64 ∷ zeros 256 ∷ zeros 256 ∷ zeros 64 ∷ zeros 64 ∷ [])
 
--- the jobs of ring constraints only and of constant_term constraints only: an empty section is its count, 0
+-- the jobs of ring constraints only and of constant-term constraints only: an empty section is its count, 0
 abbrev pub rings_only : List ℕ
 rings_only = set section_one 7 0 ++ sections ([] ∷ [] ∷ [] ∷ zeros 64 ∷ zeros 64 ∷ zeros 64 ∷ zeros 256 ∷ zeros 256 ∷ zeros 64 ∷ zeros 64 ∷ [])
 

@@ -100,7 +100,7 @@ module _ (X : Public) (s : ℕ → ℕ → Element) where
       (constant_weighted 256 (omega k) (projected X s)
       ∙ sum_ext ZqOps 256 (λ j. residue (omega k j) *Q constant (projected X s j)) (λ j. residue (omega k j) *Q residue (p X s j)) (λ j h. ap (◌*Q◌ (residue (omega k j))) (constant_projected j)))
 
-  -- the canonical value of a constant_term constraint's error
+  -- the canonical value of a constant-term constraint's error
   pub residue_error : (x : ℕ) → residue (constant_error X s x) ≡ constant (left P (a' x) (φ' x) s) +Q ZqOps.neg (residue (b₀ x))
   unfolding constant_error constant
   residue_error x = residue-zsub (coeff (words (left P (a' x) (φ' x) s)) 0) (b₀ x)

@@ -28,11 +28,11 @@ module _ (X : Public) (s : ℕ → ℕ → Element) where
   unfoldable pub p_norm : ℕ
   p_norm = Σ 256 (λ j. square (p X s j))
 
-  -- "of a constant_term one only coefficient 0 of that; its right side is b or b0. The error is left less right": of constant_term constraint x
+  -- "of a constant-term one only coefficient 0 of that; its right side is b or b0. The error is left less right": of constant-term constraint x
   unfoldable pub constant_error : ℕ → ℕ
   constant_error x = zsub (coeff (words (left P (a' x) (φ' x) s)) 0) (b₀ x)
 
-  -- "Σ psi[k][l]·error_l over the constant_term constraints"
+  -- "Σ psi[k][l]·error_l over the constant-term constraints"
   unfoldable pub psi_error : ℕ → ℕ
   psi_error k = Σ l (λ x. psi k x * constant_error x) % Q
 
@@ -75,7 +75,7 @@ module _ (X : Public) (s : ℕ → ℕ → Element) where
       then require (List-discrete ℕ_discrete (words alpha_error) rzero) (failed 27 [])
       then accepted cells_left
 
-  -- "It accepts exactly when: the projection's norm is within its limit; for each psi row the weighted errors of the constant_term constraints sum to zero; the
+  -- "It accepts exactly when: the projection's norm is within its limit; for each psi row the weighted errors of the constant-term constraints sum to zero; the
   -- digit norms together are within their limit; the alpha-weighted errors of the ring constraints sum to zero."
   pub record Held : Type 0 where
     pub projection : p_norm ≤ 128 * beta_sq

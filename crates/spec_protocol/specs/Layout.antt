@@ -67,7 +67,7 @@ ranged number words place (s ∷ ss) =
     in_range s.range number (place + 1) (part words (place + 1) s.count)
     then ranged number words (place + 1 + s.count) ss
 
--- "constant_term constraints: l triangles a', then l·r·n elements φ', then l words b0; ring constraints: K triangles a, K·r·n elements φ, K elements b;
+-- "constant-term constraints: l triangles a', then l·r·n elements φ', then l words b0; ring constraints: K triangles a, K·r·n elements φ, K elements b;
 -- matrices A (κ rows of n), B (κ1 rows of r·κ·t1), C (κ1 rows of T·t2), D (κ2 rows of T·t1)"
 abbrev pub job_sections : Parameters → List Section
 job_sections P =

@@ -61,7 +61,7 @@ module _ (X : Public) (M : Message) (s : ℕ → ℕ → Element) where
   abbrev sent_projections : ℕ → Residue
   sent_projections k = Ops.sum ZqOps 256 (λ j. residue (omega k j) *Q residue (M.p j))
 
-  -- where row k of b'' is that of s and check 22 passes, psi's sum of the constant_term constraints' errors and omega's of p's vanish together
+  -- where row k of b'' is that of s and check 22 passes, psi's sum of the constant-term constraints' errors and omega's of p's vanish together
   pub constant_errors : check_22 X M ≡ fine → (k : ℕ) → k < L → F.b'' X s k ≡ M.b'' k
       → Ops.dot ZqOps l (λ x. residue (psi k x)) (λ x. residue (constant_error X s x)) +Q Ops.dot ZqOps 256 (λ j. residue (omega k j)) projection_error ≡ ZqOps.nil
   unfolding projection_error constant Ops.dot

@@ -1,4 +1,4 @@
--- Which part of all psi lets check 22's condition hold: the errors are those of the constant_term constraints, the modulus is Q.
+-- Which part of all psi lets check 22's condition hold: the errors are those of the constant-term constraints, the modulus is Q.
 use mathlib.Core.Path.{sym, ◌∙◌}
 use Prim.Native.Nat.{ℕ, ◌/◌}
 use native.Mathlib.Nat.{mod-eq_of_lt}

@@ -164,7 +164,7 @@ module _ (J R W scratch output : List ℕ) (lent : ℕ) (proved : prove whole J 
       one_equation_of-words J R W scratch output lent proved enough (ε S X m) (slot_corrects S X m s multiples)
       ∙ ap (λ x. norms X s then x then accepted (cells_left X s)) (equation_is S X m s multiples met)
 
-  -- the equation met and both norms within their limits, the transcript is accepted, whatever multiples of Q/p the constant_term errors are
+  -- the equation met and both norms within their limits, the transcript is accepted, whatever multiples of Q/p the constant-term errors are
   pub accepted_in-one_slot : (S : Slot) (m : ℕ → ℕ) → RingsMet X s → Multiples S X m s
       → p_norm X s ≤ 128 * X.P.beta_sq → digit_sum X s ≤ X.P.beta_prime_sq → weighed_at_ζ S X m X.beta ≡ 0
       → verify J R (altered_words (parameters J) (ε S X m) (made_transcript J R W scratch output)) lent ≡ accepted (cells_left X s)

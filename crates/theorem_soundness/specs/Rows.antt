@@ -1,4 +1,4 @@
--- What a row of psi lets through (the paper's first aggregation): errors e_0 … e_{l−1} of l constant_term constraints, weighed by a row ψ.
+-- What a row of psi lets through (the paper's first aggregation): errors e_0 … e_{l−1} of l constant-term constraints, weighed by a row ψ.
 use Rattle.std.specs.Prelude.{◌≡◌, ◌⊎◌, ℕ, ◌+◌, ◌*◌, ◌%◌, ◌≤◌, ◌<◌}
 use Rattle.std.specs.Int.{◌∣◌}
 use Rattle.math.specs.lists.Sum.{Σ}
@@ -66,11 +66,11 @@ abbrev pub with_psi : Public → (ℕ → ℕ → ℕ) → Public
 with_psi X ψ = with_weights X ψ X.alpha
 
 module _ (X : Public) (s : ℕ → ℕ → Element) where
-  -- some constant_term constraint is not met
+  -- some constant-term constraint is not met
   abbrev pub SomeError : Type 0
   SomeError = ((x : ℕ) → x < X.P.l → constant_error X s x ≡ 0) → ⊥
 
-  -- d = gcd(Q, errors of the constant_term constraints)
+  -- d = gcd(Q, errors of the constant-term constraints)
   abbrev pub GcdOfErrors : ℕ → Type 0
   GcdOfErrors = Gcd Q X.P.l (constant_error X s)
 

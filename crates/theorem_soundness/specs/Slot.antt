@@ -41,7 +41,7 @@ module _ (S : Slot) where
   at_ζ α = Σ 64 (λ i. coeff (words α) i * ζ ^ i)
 
   module _ (X : Public) (m : ℕ → ℕ) where
-    -- the error of each constant_term constraint x is m_x·Q/p
+    -- the error of each constant-term constraint x is m_x·Q/p
     abbrev pub Multiples : (ℕ → ℕ → Element) → Type 0
     Multiples s = (x : ℕ) → x < X.P.l → constant_error X s x ≡ Q/p * m x
 

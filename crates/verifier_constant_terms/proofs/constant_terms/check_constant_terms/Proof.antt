@@ -1,4 +1,4 @@
--- `check_constant_terms` meets its contract. The invariant: the first k rows pass the test.
+-- `check_constant-terms` meets its contract. The invariant: the first k rows pass the test.
 use mathlib.Core.Path.{◌≡◌, refl, sym, ap, ◌∙◌}
 use mathlib.Core.List.{[], ◌∷◌}
 use Prim.Native.Nat.{ℕ, ◌+◌, ◌-◌, ◌*◌, ◌≤◌, ◌<◌}
