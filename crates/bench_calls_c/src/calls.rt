@@ -69,5 +69,7 @@ pub extern "C" fn slice_u1(
     ensures value { result ≡ u1_fits (length matrices.now) (length from.now) (length out.old) rows t_cells t_parts g_cells g_parts base }
     ensures out_after { out.new ≡ left result out.old (u1_made matrices.now from.now rows t_cells t_parts g_cells g_parts base) }
 {
-    bench_calls::calls::slice_u1(matrices, from, rows, t_cells, t_parts, g_cells, g_parts, base, out)
+    bench_calls::calls::slice_u1(
+        matrices, from, rows, t_cells, t_parts, g_cells, g_parts, base, out,
+    )
 }

@@ -5,7 +5,6 @@ ghost use Rattle.spec_protocol.specs.Prover.{prove_refusal, whole};
 
 use bench_calls::judged::Judged;
 
-
 #[unsafe(no_mangle)]
 pub extern "C" fn slice_judged(
     job: &[u32],

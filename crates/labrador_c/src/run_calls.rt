@@ -18,7 +18,9 @@ pub extern "C" fn labrador_shed_projection(
 ) -> LabradorAnswer
     ensures { PCall job.now first end projection.now vectors.now scratch.old output.old scratch.new output.new result }
 {
-    labrador::run_calls::labrador_shed_projection(job, first, end, projection, vectors, scratch, output)
+    labrador::run_calls::labrador_shed_projection(
+        job, first, end, projection, vectors, scratch, output,
+    )
 }
 
 // The rows of t of the witness vectors from `first` up to `end`.
