@@ -1,5 +1,5 @@
 //! Links the archive of proved calls: the one that LABRADOR_ARCHIVE names; else `target/staticlib/liblabrador.a`, if it is
-//! newer than every file of `crates/`; else the one that `rt staticlib labrador` proves and builds, which takes minutes. The
+//! newer than what `crates/` proves; else the one that `rt lib` proves and builds in `crates/labrador_c`, which takes minutes. The
 //! archive is asked for its modulus, by a C program that is linked with it: -1 is Q - 1. Its SHA-256 is handed on too.
 
 use std::env;
@@ -24,10 +24,25 @@ fn altered(path: &Path) -> io::Result<SystemTime> {
     Ok(last)
 }
 
+/// What is proved: the list of crates, and each one's folders but for what the kit puts into `out`.
+fn sources(root: &Path) -> io::Result<Vec<PathBuf>> {
+    let mut found = vec![root.join("crates.txt")];
+    for entry in fs::read_dir(root.join("crates"))? {
+        let folder = entry?.path();
+        found.extend(["src", "specs", "proofs"].map(|part| folder.join(part)).into_iter().filter(|part| part.exists()));
+    }
+    Ok(found)
+}
+
 /// Whether an archive is of the crates as they stand.
 fn is_of(archive: &Path, root: &Path) -> io::Result<bool> {
-    let sources = altered(&root.join("crates"))?.max(altered(&root.join("crates.txt"))?);
-    Ok(fs::metadata(archive)?.modified()? >= sources)
+    let made = fs::metadata(archive)?.modified()?;
+    for source in sources(root)? {
+        if altered(&source)? > made {
+            return Ok(false);
+        }
+    }
+    Ok(true)
 }
 
 /// Says what takes long: cargo shows a warning when the build is over, so a terminal is told at once.
@@ -40,17 +55,26 @@ fn say(line: &str) {
 
 /// The archive that the kit builds from this repository.
 fn built(root: &Path) -> PathBuf {
-    println!("cargo:rerun-if-changed={}", root.join("crates").display());
+    for source in sources(root).expect("the crates can be listed") {
+        println!("cargo:rerun-if-changed={}", source.display());
+    }
     let archive = root.join("target/staticlib/liblabrador.a");
     if is_of(&archive, root).unwrap_or(false) {
         return archive;
     }
-    say("no archive of the crates as they stand: rt staticlib labrador proves and builds it, which takes minutes; LABRADOR_ARCHIVE can name one");
-    let made = Command::new("rt").args(["staticlib", "labrador"]).current_dir(root).stdin(Stdio::null()).output();
+    say("no archive of the crates as they stand: the kit proves and builds it, which takes minutes; LABRADOR_ARCHIVE can name one");
+    let calls = root.join("crates/labrador_c");
+    let made = Command::new("rt").arg("lib").current_dir(&calls).stdin(Stdio::null()).output();
     match made {
-        Ok(said) if said.status.success() => archive,
+        Ok(said) if said.status.success() => {
+            let folder = archive.parent().expect("an archive stands in a folder");
+            fs::create_dir_all(folder)
+                .and_then(|()| fs::copy(calls.join("out/liblabrador_c.a"), &archive))
+                .expect("the archive that the kit has built can be copied");
+            archive
+        }
         Ok(said) => panic!(
-            "rt staticlib labrador failed:\n{}{}",
+            "rt lib failed in crates/labrador_c:\n{}{}",
             String::from_utf8_lossy(&said.stdout),
             String::from_utf8_lossy(&said.stderr)
         ),

@@ -25,7 +25,7 @@
 //!
 //! What is linked is `liblabrador.a`, the archive of proved calls, for x86-64: the one that the variable `LABRADOR_ARCHIVE` names when cargo
 //! builds (a relative path counts from the crate's folder); else the repository's `target/staticlib/liblabrador.a`, which `./run` makes, if it
-//! is newer than every file of `crates/`; else the one that cargo has the Rattle kit prove and build, which takes minutes and is said. [`Q`] is
+//! is newer than what `crates/` proves; else the one that cargo has the Rattle kit prove and build, which takes minutes and is said. [`Q`] is
 //! the archive's.
 #![deny(unsafe_code)]
 

@@ -6,8 +6,6 @@ use std::path::{Path, PathBuf};
 use std::process::{Command, Output};
 use std::time::{Duration, SystemTime};
 
-const ARCHIVE: &str = "target/staticlib/liblabrador.a";
-
 /// Stands for the archive: the one call that the script makes, modulo 1001.
 const CALL: &str = "#include \"labrador.h\"\n\
     labrador_word_answer labrador_zq_neg(uint32_t a) { labrador_word_answer made = {0, 0, 1001 - a}; return made; }\n";
@@ -29,7 +27,7 @@ impl Tree {
     fn new() -> Tree {
         let root = Path::new(env!("CARGO_TARGET_TMPDIR")).join("linked");
         let _ = fs::remove_dir_all(&root);
-        for folder in ["crates/a/src", "bindings/rust", "target/staticlib", "kit", "out"] {
+        for folder in ["crates/a/src", "crates/labrador_c/src", "bindings/rust", "kit", "out"] {
             fs::create_dir_all(root.join(folder)).unwrap();
         }
         let package = Path::new(env!("CARGO_MANIFEST_DIR"));
@@ -41,7 +39,8 @@ impl Tree {
         done(tree.command("rustc").args(["--edition", "2021", "-o", "script"]).arg(package.join("build.rs")));
         done(tree.command("cc").args(["-Ibindings", "-c", "call.c", "-o", "made.a"]));
         let kit = tree.root.join("kit/rt");
-        fs::write(&kit, format!("#!/bin/sh\nset -e\necho \"$@\" >>called\ncp made.a {ARCHIVE}\n")).unwrap();
+        let text = "#!/bin/sh\nset -e\necho \"$@\" >>../../called\nmkdir -p out\ncp ../../made.a out/liblabrador_c.a\n";
+        fs::write(&kit, text).unwrap();
         fs::set_permissions(&kit, fs::Permissions::from_mode(0o755)).unwrap();
         tree
     }
