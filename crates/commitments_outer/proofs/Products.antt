@@ -33,7 +33,8 @@ times-append M v w k =
     ∙ sum_split RqOps rq_ring (length v) (length w) (λ m. M k m ⊗ get_or (v ++ w) m nil)
     ∙ ap₂ ◌⊕◌
     (sum_ext RqOps (length v) (λ m. M k m ⊗ get_or (v ++ w) m nil) (λ m. M k m ⊗ get_or v m nil) (λ m h. ap (◌⊗◌ (M k m)) (get_or-append v w nil m h)))
-    (sum_ext RqOps (length w) (λ m. M k (length v + m) ⊗ get_or (v ++ w) (length v + m) nil) (λ m. M k (length v + m) ⊗ get_or w m nil) (λ m h. ap (◌⊗◌ (M k (length v + m))) (get_or-append-add v w m nil)))
+    (sum_ext RqOps (length w) (λ m. M k (length v + m) ⊗ get_or (v ++ w) (length v + m) nil) (λ m. M k (length v + m) ⊗ get_or w m nil)
+    (λ m h. ap (◌⊗◌ (M k (length v + m))) (get_or-append-add v w m nil)))
 
 -- the digits of cells f 0, f 1, … in base b and so many parts
 module _ (b parts : ℕ) (f : ℕ → Element) where

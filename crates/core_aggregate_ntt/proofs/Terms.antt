@@ -56,7 +56,8 @@ module _ (sums weights : List ℕ) (weights-at : ℕ) (from : List ℕ) (at step
 
   -- sum k
   pub term_at : (m k : ℕ) → k < 192
-      → get_or (terms_added sums weights weights-at from at step m) k 0 ≡ get_or sums k 0 + Σ m (λ o. get_or weights (weights-at + 192 * o + k) 0 * get_or (ntt_form (part from (at + step * o) 64)) k 0)
+      → get_or (terms_added sums weights weights-at from at step m) k 0 ≡ get_or sums k 0 + Σ m
+      (λ o. get_or weights (weights-at + 192 * o + k) 0 * get_or (ntt_form (part from (at + step * o) 64)) k 0)
   unfolding terms_added
   term_at m k l = get_or-table 192 (λ k. get_or sums k 0 + Σ m (term k)) k 0 l
 

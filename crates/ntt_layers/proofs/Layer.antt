@@ -191,7 +191,8 @@ module _ (d neginv : ℕ) (w : List ℕ) (at : ℕ) (y : List ℕ) (fits : Inver
             ∙ ap (λ x. pow (ModOps (prime d) pos) g (exponent j (31 - (k - 32)) / 2) ⊗ x)
             (res_sub (prime d) pos (get_or y (2 * (k - 32) + 1) 0) (get_or y (2 * (k - 32)) 0) (get_or y (2 * (k - 32) + 1) 0 + (3 * prime d - get_or y (2 * (k - 32)) 0)) 3
             (whole (get_or y (2 * (k - 32)) 0) (get_or y (2 * (k - 32) + 1) 0) (fits.room (2 * (k - 32)) (omega arith)) small))
-            ∙ inverse-high (ModOps (prime d) pos) (mod_ring (prime d) pos) g root j (k - 32) c (res (prime d) pos (get_or y (2 * (k - 32)) 0)) (res (prime d) pos (get_or y (2 * (k - 32) + 1) 0)) f six ht
+            ∙ inverse-high (ModOps (prime d) pos) (mod_ring (prime d) pos) g root j (k - 32) c (res (prime d) pos (get_or y (2 * (k - 32)) 0))
+            (res (prime d) pos (get_or y (2 * (k - 32) + 1) 0)) f six ht
             (before (2 * (k - 32)) (omega arith)) (before (2 * (k - 32) + 1) (omega arith))
             ∙ ap (λ i. (c ⊕ c) ⊗ f i) back
 

@@ -84,7 +84,12 @@ module _ (n : ℕ) (hn : n ≤ most_products) (a b : ℕ → List ℕ) (wa : (m 
   -- for which there is room
   pub sums-room : (i : ℕ) → i < 3 → ProductsFit (sums_of i n a b) (ntt_of i (a n)) (ntt_of i (b n))
   sums-room i hi k h =
-      omega (arith, sums-bound i hi n hn a b wa wb k h, product_small (get_or (ntt_of i (a n)) k 0) (get_or (ntt_of i (b n)) k 0) (value-bound i hi (a n) (wa n) k h) (value-bound i hi (b n) (wb n) k h))
+      omega (
+        arith,
+        sums-bound i hi n hn a b wa wb k h,
+        product_small (get_or (ntt_of i (a n)) k 0) (get_or (ntt_of i (b n)) k 0) (value-bound i hi (a n) (wa n) k h)
+            (value-bound i hi (b n) (wb n) k h),
+      )
 
 -- no products
 pub no_sums : (i : ℕ) (a b : ℕ → List ℕ) → replicate 64 0 ≡ sums_of i 0 a b

@@ -133,7 +133,8 @@ module _ (i : ℕ) (hi : i < 3) (n : ℕ) (hn : n ≤ most_products) (a b : ℕ 
           res_mul (prime_of i) (positive i) (get_or (ntt_of i (a m)) k 0) (get_or (ntt_of i (b m)) k 0)
           ∙ ap₂ ◌⊗◌ (value_is (a m) (wa m) k h) (value_is (b m) (wb m) k h)
           ∙ sym (eval_mul O (mod_ring (prime_of i) (positive i)) 64 (P k) (point_hom O (mod_ring (prime_of i) (positive i)) (root_in i) (root_half i hi) k)
-          (point_anti O (mod_ring (prime_of i) (positive i)) (root_in i) (root_half i hi) k h) (A m) (B m) (extend_anti O (mod_ring (prime_of i) (positive i)) 64 (omega arith) (λ j. r (coeff (b m) j))))
+          (point_anti O (mod_ring (prime_of i) (positive i)) (root_in i) (root_half i hi) k h) (A m) (B m)
+          (extend_anti O (mod_ring (prime_of i) (positive i)) 64 (omega arith) (λ j. r (coeff (b m) j))))
 
   -- a coefficient of one product
   product_at : (m k : ℕ) → k < 64 → mul_f O 64 (A m) (B m) k ≡ r (low (a m) (b m) k) ⊕ neg (r (high (a m) (b m) k))

@@ -85,7 +85,8 @@ module _ (d neginv : ℕ) (w : List ℕ) (at : ℕ) (tw : Twiddles d neginv w at
     res_layers a words zero h k l = ap (res (prime d) pos) (get_or-table 64 (λ k. fold d (get_or a k 0)) k 0 l) ∙ res_fold d tw.small pos (get_or a k 0)
     res_layers a words (suc j) h k l =
         res_layer d neginv w (at + 32 * j) (layers_of d neginv w at (folded_of d a) j) (layer_fits a words j (omega arith)) pos g root j (λ t m. powers j t (omega arith) m) k l
-        ∙ layer_ext (ModOps (prime d) pos) g j (λ i. res (prime d) pos (get_or (layers_of d neginv w at (folded_of d a) j) i 0)) (layers (ModOps (prime d) pos) g j (λ i. res (prime d) pos (get_or a i 0)))
+        ∙ layer_ext (ModOps (prime d) pos) g j (λ i. res (prime d) pos (get_or (layers_of d neginv w at (folded_of d a) j) i 0))
+        (layers (ModOps (prime d) pos) g j (λ i. res (prime d) pos (get_or a i 0)))
         (res_layers a words j (omega arith)) k l
 
     -- entry k of the transform is the value at the power `exponent 6 k` of the root

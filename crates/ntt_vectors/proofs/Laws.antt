@@ -176,7 +176,8 @@ module _ (x : List ℕ) (x-at : ℕ) (xs : List ℕ) (xs-at : ℕ) (y : List ℕ
   unfolding value_sums sums_of
   sums_are i p q h e f =
       ap₂ (λ p q. table 64 (λ k. Σ n (λ m. get_or x (p + 192 * m + k) 0 * get_or y (q + 192 * m + k) 0))) e f
-      ∙ table_ext 64 (λ k. Σ n (λ m. get_or x (x-at + 64 * i + 192 * m + k) 0 * get_or y (y-at + 64 * i + 192 * m + k) 0)) (λ k. Σ n (λ m. get_or (ntt_of i (a m)) k 0 * get_or (ntt_of i (b m)) k 0)) (λ k l.
+      ∙ table_ext 64 (λ k. Σ n (λ m. get_or x (x-at + 64 * i + 192 * m + k) 0 * get_or y (y-at + 64 * i + 192 * m + k) 0))
+      (λ k. Σ n (λ m. get_or (ntt_of i (a m)) k 0 * get_or (ntt_of i (b m)) k 0)) (λ k l.
       Σ_ext n (λ m. get_or x (x-at + 64 * i + 192 * m + k) 0 * get_or y (y-at + 64 * i + 192 * m + k) 0) (λ m. get_or (ntt_of i (a m)) k 0 * get_or (ntt_of i (b m)) k 0) (λ m c.
       ap₂ ◌*◌ (sym (get_d_part 0 x (x-at + 64 * i + 192 * m) 64 k l) ∙ ap (λ w. get_or w k 0) (kx.ntt i m h c))
       (sym (get_d_part 0 y (y-at + 64 * i + 192 * m) 64 k l) ∙ ap (λ w. get_or w k 0) (ky.ntt i m h c))))

@@ -28,7 +28,8 @@ value_at a i k h l = sym (get_d_part 0 (ntt_form a) (64 * i) 64 k l) ∙ ap (λ 
 pub values-small : (a : List ℕ) → Words a → (k : ℕ) → k < 192 → get_or (ntt_form a) k 0 ≤ 134285152
 values-small a w k h =
     let there : k ≡ 64 * (k / 64) + k % 64 = omega arith in
-    subst (λ x. x ≤ 134285152) (sym (ap (λ j. get_or (ntt_form a) j 0) there ∙ value_at a (k / 64) (k % 64) (omega arith) (omega arith))) (value-bound (k / 64) (omega arith) a w (k % 64) (omega arith))
+    subst (λ x. x ≤ 134285152) (sym (ap (λ j. get_or (ntt_form a) j 0) there
+    ∙ value_at a (k / 64) (k % 64) (omega arith) (omega arith))) (value-bound (k / 64) (omega arith) a w (k % 64) (omega arith))
 
 -- words read from a slice of words
 pub part-words : (xs : List ℕ) → ((j : ℕ) → get_or xs j 0 ≤ 4294967295) → (p : ℕ) → Words (part xs p 64)

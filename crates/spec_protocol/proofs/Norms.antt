@@ -34,7 +34,8 @@ norm_additive = record { empty = refl; joined = joined }
 -- the norm of a table
 pub norm-table : (n : ℕ) (f : ℕ → ℕ) → norm (table n f) ≡ Σ n (λ i. square (f i))
 unfolding norm
-norm-table n f = ap (λ k. Σ k (λ i. square (get_or (table n f) i 0))) (length-table n f) ∙ Σ_ext n (λ i. square (get_or (table n f) i 0)) (λ i. square (f i)) (λ i h. ap square (get_or-table n f i 0 h))
+norm-table n f = ap (λ k. Σ k (λ i. square (get_or (table n f) i 0))) (length-table n f)
+    ∙ Σ_ext n (λ i. square (get_or (table n f) i 0)) (λ i. square (f i)) (λ i h. ap square (get_or-table n f i 0 h))
 
 -- the norm of elements adds up
 pub norm_of_additive : Additive Element norm_of

@@ -107,7 +107,8 @@ module _ {m : ℕ} {J R W : List ℕ} (fit : Fit m J R W) (x : Run) (some : x.fi
   lent-fine : (made : List Section) (scratch output : ℕ) → scratch_need P ≤ scratch → span made ≤ output → lent_refusal P x (vectors_of J W x) scratch made output ≡ fine
   unfolding lent_refusal
   lent-fine made scratch output a b =
-      then_both_fine (then_both_fine vectors-fine (require-holds (dec_le (scratch_need P) scratch) (refused 1 (scratch_need P)) a)) (require-holds (dec_le (span made) output) (refused 2 (span made)) b)
+      then_both_fine (then_both_fine vectors-fine (require-holds (dec_le (scratch_need P) scratch) (refused 1 (scratch_need P)) a))
+      (require-holds (dec_le (span made) output) (refused 2 (span made)) b)
 
   -- the call that gives a run's p is refused nothing
   pub project_fine : (scratch output : ℕ) → scratch_need (parameters J) ≤ scratch → span p_section ≤ output → project_refusal J x (projection_of J R x) (vectors_of J W x) scratch output ≡ fine

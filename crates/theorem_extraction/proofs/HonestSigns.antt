@@ -26,7 +26,6 @@ module _ (O : Ops) (R : CRing O) where
 
   infixl 60 ◌⊕'◌
   infixl 70 ◌⊗'◌
-
   -- c + (e + e) − c = 2·e
   added_less : (c e : Carrier) → c ⊕' (e ⊕' e) ⊕' minus c ≡ (one ⊕' one) ⊗' e
   added_less c e = R.add_comm (c ⊕' (e ⊕' e)) (minus c) ∙ neg_add_cancel O R c (e ⊕' e) ∙ sym (two-mul O R e)
@@ -48,7 +47,8 @@ module _ (signs shuffles : List ℕ) (j : ℕ) (size-one : j < 31) (within : j <
       ∙ ap (λ e. (RqOps.one ⊕ RqOps.one) ⊗ e) (single_shift signs shuffles j size-one within)
 
   flipped-unit : IsUnit RqOps (element (challenge (flipped j signs) shuffles) ⊖ element (challenge signs shuffles))
-  flipped-unit = subst (IsUnit RqOps) (sym flipped-difference) (unit-mul RqOps rq_ring (RqOps.one ⊕ RqOps.one) (shift (suc number_here)) two-unit (shift-unit number_here (number-below signs shuffles j size-one within)))
+  flipped-unit = subst (IsUnit RqOps) (sym flipped-difference) (unit-mul RqOps rq_ring (RqOps.one ⊕ RqOps.one) (shift (suc number_here)) two-unit
+      (shift-unit number_here (number-below signs shuffles j size-one within)))
 
 -- sign words at two places below 31, each flipped: all three differences are units
 pub flipped-sign_units : (signs shuffles : List ℕ) (j j' : ℕ) → j < 31 → j' < 31 → j ≢ j' → length signs ≡ 41

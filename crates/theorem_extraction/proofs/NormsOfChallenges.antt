@@ -29,7 +29,8 @@ sizes_of_difference x y =
     let d : ℕ → ℕ = λ k. zsub (coeff (words x) k) (coeff (words y) k) in
     let u : ℕ → ℕ = λ k. size (coeff (words x) k) in
     let v : ℕ → ℕ = λ k. size (coeff (words y) k) in
-    let of-table = ap (λ n. Σ n (λ k. size (get_or (table 64 d) k 0))) (length-table 64 d) ∙ Σ_ext 64 (λ k. size (get_or (table 64 d) k 0)) (λ k. size (d k)) (λ k l. ap size (get_or-table 64 d k 0 l)) in
+    let of-table = ap (λ n. Σ n (λ k. size (get_or (table 64 d) k 0))) (length-table 64 d)
+    ∙ Σ_ext 64 (λ k. size (get_or (table 64 d) k 0)) (λ k. size (d k)) (λ k l. ap size (get_or-table 64 d k 0 l)) in
     omega (
       arith,
       ap (total size) (words-sub x y) ∙ of-table,

@@ -23,7 +23,8 @@ module _ {J : List ℕ} (X Y : Branch J) where
   same-φ'' same_Π k same_psi same_omega i m h e =
       ap₂ ◌⊕◌
       (sum_ext RqOps l (λ x. scale (φ' x i m) ((values X).psi k x)) (λ x. scale (φ' x i m) ((values Y).psi k x)) (λ x l. ap (scale (φ' x i m)) (same_psi x l)))
-      (sum_ext RqOps 256 (λ j. scale (conj (row X j)) ((values X).omega k j)) (λ j. scale (conj (row Y j)) ((values Y).omega k j)) (λ j l. ap₂ (λ a b. scale (conj a) b) (same_row j l) (same_omega j l)))
+      (sum_ext RqOps 256 (λ j. scale (conj (row X j)) ((values X).omega k j)) (λ j. scale (conj (row Y j)) ((values Y).omega k j))
+      (λ j l. ap₂ (λ a b. scale (conj a) b) (same_row j l) (same_omega j l)))
     where
       row : Branch J → ℕ → Element
       row Z j = element (table 64 (λ q. (values Z).Π i j (64 * m + q)))

@@ -11,7 +11,8 @@ use Rattle.core_aggregate_psi.proofs.add_weighed.Given as goal
 
 abbrev pub invariant-loop-c : goal.invariant-loop-c
 invariant-loop-c l =
-    let c = l.c in (c ≤ l.width) × (l.out ≡ splice l.initial.out l.to (flat (table c (λ c. run l.initial.out l.to 64 c ⊕ weighed l.job l.at l.width l.count l.numbers l.row c)))) × (length l.out ≡ length l.initial.out)
+    let c = l.c in (c ≤ l.width) × (l.out ≡ splice l.initial.out l.to (flat (table c (λ c. run l.initial.out l.to 64 c ⊕ weighed l.job l.at l.width l.count l.numbers l.row c)))) ×
+    (length l.out ≡ length l.initial.out)
 
 abbrev pub decreases-loop-c : goal.decreases-loop-c
 decreases-loop-c l = l.width - l.c

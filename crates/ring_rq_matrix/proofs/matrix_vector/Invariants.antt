@@ -17,7 +17,8 @@ entry_of m m-at cols v v-at k = dot cols (vector m m-at cols k) (run v v-at 64)
 
 abbrev pub invariant-loop-k : goal.invariant-loop-k
 invariant-loop-k l =
-    (l.k ≤ l.rows) × (l.row_at ≡ l.m_at + 64 * (l.k * l.cols)) × (l.place ≡ l.out_at + 64 * l.k) × (l.out ≡ splice l.initial.out l.out_at (flat (table l.k (entry_of l.m l.m_at l.cols l.v l.v_at)))) × (length l.out ≡ length l.initial.out)
+    (l.k ≤ l.rows) × (l.row_at ≡ l.m_at + 64 * (l.k * l.cols)) × (l.place ≡ l.out_at + 64 * l.k) ×
+    (l.out ≡ splice l.initial.out l.out_at (flat (table l.k (entry_of l.m l.m_at l.cols l.v l.v_at)))) × (length l.out ≡ length l.initial.out)
 
 abbrev pub decreases-loop-k : goal.decreases-loop-k
 decreases-loop-k l = l.rows - l.k

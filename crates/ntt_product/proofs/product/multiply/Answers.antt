@@ -20,7 +20,13 @@ pub add_product-sums-requires : goal.add_product-sums-requires
 add_product-sums-requires c =
     let s = c.args in
     let wa : Words s.a = λ k l. let f : Fits w32 (get_or s.a k 0) = search rules in omega arith in
-    let wb : Words s.b = λ k l. let f : Fits w32 (get_or s.b k 0) = search rules in omega arith in record { first = first-room 0 (omega arith) s.a s.b _ _ _ wa wb c.no_sums.ensures.0 c.transform-x.ensures.one c.transform-y.ensures.one; second = first-room 1 (omega arith) s.a s.b _ _ _ wa wb c.no_sums.ensures.1 c.transform-x.ensures.two c.transform-y.ensures.two; third = first-room 2 (omega arith) s.a s.b _ _ _ wa wb c.no_sums.ensures.2 c.transform-x.ensures.three c.transform-y.ensures.three }
+    let wb : Words s.b = λ k l. let f : Fits w32 (get_or s.b k 0) = search rules in omega arith in record {
+      first = first-room 0 (omega arith) s.a s.b _ _ _ wa wb c.no_sums.ensures.0 c.transform-x.ensures.one c.transform-y.ensures.one;
+      second = first-room 1 (omega arith) s.a s.b _ _ _
+          wa wb c.no_sums.ensures.1 c.transform-x.ensures.two c.transform-y.ensures.two;
+      third = first-room 2 (omega arith) s.a s.b _ _ _ wa wb c.no_sums.ensures.2 c.transform-x.ensures.three
+          c.transform-y.ensures.three;
+    }
 
 pub inverse-requires : goal.inverse-requires
 inverse-requires c = c.twiddles-w.ensures

@@ -91,21 +91,24 @@ pub layer-x5-requires : goal.layer-x5-requires
 layer-x5-requires c =
     let s = c.args in
     let words : (k : ℕ) → k < 64 → get_or s.a k 0 < 4294967296 = λ k l. let f : Fits w32 (get_or s.a k 0) = search rules in omega arith in
-    subst (LayerFits s.d s.neginv s.w.now (s.at + 128)) (sym (after4 s.d s.neginv s.w.now s.at (folded_of s.d s.a) c.fold_words-x0.ensures c.layer-x1.ensures c.layer-x2.ensures c.layer-x3.ensures c.layer-x4.ensures))
+    subst (LayerFits s.d s.neginv s.w.now (s.at + 128)) (sym (after4 s.d s.neginv s.w.now s.at (folded_of s.d s.a) c.fold_words-x0.ensures c.layer-x1.ensures c.layer-x2.ensures
+    c.layer-x3.ensures c.layer-x4.ensures))
     (layer_fits s.d s.neginv s.w.now s.at c.requires s.a words 4 (omega arith))
 
 pub layer-x6-requires : goal.layer-x6-requires
 layer-x6-requires c =
     let s = c.args in
     let words : (k : ℕ) → k < 64 → get_or s.a k 0 < 4294967296 = λ k l. let f : Fits w32 (get_or s.a k 0) = search rules in omega arith in
-    subst (LayerFits s.d s.neginv s.w.now (s.at + 160)) (sym (after5 s.d s.neginv s.w.now s.at (folded_of s.d s.a) c.fold_words-x0.ensures c.layer-x1.ensures c.layer-x2.ensures c.layer-x3.ensures c.layer-x4.ensures c.layer-x5.ensures))
+    subst (LayerFits s.d s.neginv s.w.now (s.at + 160)) (sym (after5 s.d s.neginv s.w.now s.at (folded_of s.d s.a) c.fold_words-x0.ensures c.layer-x1.ensures c.layer-x2.ensures
+    c.layer-x3.ensures c.layer-x4.ensures c.layer-x5.ensures))
     (layer_fits s.d s.neginv s.w.now s.at c.requires s.a words 5 (omega arith))
 
 pub returns : goal.returns
 unfolding forward_of
 returns c =
     let s = c.args in
-    c.fold_words.ensures ∙ ap (folded_of s.d) (after6 s.d s.neginv s.w.now s.at (folded_of s.d s.a) c.fold_words-x0.ensures c.layer-x1.ensures c.layer-x2.ensures c.layer-x3.ensures c.layer-x4.ensures c.layer-x5.ensures c.layer-x6.ensures)
+    c.fold_words.ensures ∙ ap (folded_of s.d) (after6 s.d s.neginv s.w.now s.at (folded_of s.d s.a) c.fold_words-x0.ensures c.layer-x1.ensures c.layer-x2.ensures c.layer-x3.ensures
+    c.layer-x4.ensures c.layer-x5.ensures c.layer-x6.ensures)
 
 pub fold_words-x0-requires : goal.fold_words-x0-requires
 fold_words-x0-requires c = c.requires.small

@@ -77,35 +77,41 @@ pub inverse_layer-y3-requires : goal.inverse_layer-y3-requires
 inverse_layer-y3-requires c =
     let s = c.args in
     let words : (k : ℕ) → k < 64 → get_or s.s k 0 < 2 ^ 64 = λ k l. let f : Fits w64 (get_or s.s k 0) = search rules in omega arith in
-    subst (InverseLayerFits s.d s.neginv s.w.now (s.at + 96)) (sym (after2 s.d s.neginv s.w.now s.at (reduced_of s.d s.s) c.reduce_sums-y0.ensures c.inverse_layer-y1.ensures c.inverse_layer-y2.ensures))
+    subst (InverseLayerFits s.d s.neginv s.w.now (s.at + 96)) (sym
+    (after2 s.d s.neginv s.w.now s.at (reduced_of s.d s.s) c.reduce_sums-y0.ensures c.inverse_layer-y1.ensures c.inverse_layer-y2.ensures))
     (inverse-layer_fits s.d s.neginv s.w.now s.at c.requires s.s words 2 (omega arith))
 
 pub inverse_layer-y4-requires : goal.inverse_layer-y4-requires
 inverse_layer-y4-requires c =
     let s = c.args in
     let words : (k : ℕ) → k < 64 → get_or s.s k 0 < 2 ^ 64 = λ k l. let f : Fits w64 (get_or s.s k 0) = search rules in omega arith in
-    subst (InverseLayerFits s.d s.neginv s.w.now (s.at + 64)) (sym (after3 s.d s.neginv s.w.now s.at (reduced_of s.d s.s) c.reduce_sums-y0.ensures c.inverse_layer-y1.ensures c.inverse_layer-y2.ensures c.inverse_layer-y3.ensures))
+    subst (InverseLayerFits s.d s.neginv s.w.now (s.at + 64)) (sym
+    (after3 s.d s.neginv s.w.now s.at (reduced_of s.d s.s) c.reduce_sums-y0.ensures c.inverse_layer-y1.ensures c.inverse_layer-y2.ensures c.inverse_layer-y3.ensures))
     (inverse-layer_fits s.d s.neginv s.w.now s.at c.requires s.s words 3 (omega arith))
 
 pub inverse_layer-y5-requires : goal.inverse_layer-y5-requires
 inverse_layer-y5-requires c =
     let s = c.args in
     let words : (k : ℕ) → k < 64 → get_or s.s k 0 < 2 ^ 64 = λ k l. let f : Fits w64 (get_or s.s k 0) = search rules in omega arith in
-    subst (InverseLayerFits s.d s.neginv s.w.now (s.at + 32)) (sym (after4 s.d s.neginv s.w.now s.at (reduced_of s.d s.s) c.reduce_sums-y0.ensures c.inverse_layer-y1.ensures c.inverse_layer-y2.ensures c.inverse_layer-y3.ensures c.inverse_layer-y4.ensures))
+    subst (InverseLayerFits s.d s.neginv s.w.now (s.at + 32)) (sym
+    (after4 s.d s.neginv s.w.now s.at (reduced_of s.d s.s) c.reduce_sums-y0.ensures c.inverse_layer-y1.ensures c.inverse_layer-y2.ensures c.inverse_layer-y3.ensures c.inverse_layer-y4.ensures))
     (inverse-layer_fits s.d s.neginv s.w.now s.at c.requires s.s words 4 (omega arith))
 
 pub inverse_layer-requires : goal.inverse_layer-requires
 inverse_layer-requires c =
     let s = c.args in
     let words : (k : ℕ) → k < 64 → get_or s.s k 0 < 2 ^ 64 = λ k l. let f : Fits w64 (get_or s.s k 0) = search rules in omega arith in
-    subst (InverseLayerFits s.d s.neginv s.w.now (s.at + 0)) (sym (after5 s.d s.neginv s.w.now s.at (reduced_of s.d s.s) c.reduce_sums-y0.ensures c.inverse_layer-y1.ensures c.inverse_layer-y2.ensures c.inverse_layer-y3.ensures c.inverse_layer-y4.ensures c.inverse_layer-y5.ensures))
+    subst (InverseLayerFits s.d s.neginv s.w.now (s.at + 0)) (sym
+    (after5 s.d s.neginv s.w.now s.at (reduced_of s.d s.s) c.reduce_sums-y0.ensures c.inverse_layer-y1.ensures c.inverse_layer-y2.ensures c.inverse_layer-y3.ensures
+    c.inverse_layer-y4.ensures c.inverse_layer-y5.ensures))
     (inverse-layer_fits s.d s.neginv s.w.now s.at c.requires s.s words 5 (omega arith))
 
 pub returns : goal.returns
 unfolding inverse_transform_of
 returns c =
     let s = c.args in
-    after6 s.d s.neginv s.w.now s.at (reduced_of s.d s.s) c.reduce_sums-y0.ensures c.inverse_layer-y1.ensures c.inverse_layer-y2.ensures c.inverse_layer-y3.ensures c.inverse_layer-y4.ensures c.inverse_layer-y5.ensures c.inverse_layer.ensures
+    after6 s.d s.neginv s.w.now s.at (reduced_of s.d s.s) c.reduce_sums-y0.ensures c.inverse_layer-y1.ensures c.inverse_layer-y2.ensures c.inverse_layer-y3.ensures
+    c.inverse_layer-y4.ensures c.inverse_layer-y5.ensures c.inverse_layer.ensures
 
 pub reduce_sums-y0-requires : goal.reduce_sums-y0-requires
 reduce_sums-y0-requires c = c.requires.small

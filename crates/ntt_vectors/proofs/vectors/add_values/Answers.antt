@@ -63,7 +63,8 @@ loop-k-preserved c =
     let f : ℕ → ℕ = grown s.sums.now s.x.now s.x_at s.y.now s.y_at in
     let v = get_or l.sums l.k 0 + c.wide.result * c.wide-in-loop-k.result in (
       omega arith,
-      ap₂ (λ w i. set w i v) l.invariant.1 (sym (zero-add l.k)) ∙ splice-table-next s.sums.now 0 l.k f v (ap₂ ◌+◌ (sum_at (goal.at.loop-k-preserved c).After-slice_known-in-loop-k-1) (product_at (goal.at.loop-k-preserved c).After-wide-in-loop-k)),
+      ap₂ (λ w i. set w i v) l.invariant.1 (sym (zero-add l.k)) ∙ splice-table-next s.sums.now 0 l.k f v
+          (ap₂ ◌+◌ (sum_at (goal.at.loop-k-preserved c).After-slice_known-in-loop-k-1) (product_at (goal.at.loop-k-preserved c).After-wide-in-loop-k)),
       simp length-set l.invariant.2,
     )
 

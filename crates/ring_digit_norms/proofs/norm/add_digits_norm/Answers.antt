@@ -52,18 +52,40 @@ returns-then-is_zero c =
     let l = c.loop-k in
     let zero = sym c.is_zero.ensures ∙ c.if-is_zero.true in
     let row : (q : ℕ) → l.k ≤ q → norm (digit_row s.base s.a q) ≡ 0 = λ q h. ap norm (rows_zero s.base s.a l.sizes l.k l.invariant.1 zero q h) ∙ norm_zero in
-    let left = left_zero s.base s.a l.sizes l.k l.invariant.1 zero s.parts l.invariant.0 in record { norm_value = (l.invariant.2 ∙ ap (λ x. value128 s.sum.norm + x) (Σ_used l.k s.parts (λ q. norm (digit_row s.base s.a q)) l.invariant.0 row), omega arith); cells_left_value = sym (ap (λ t. s.sum.cells_left + cond t 0 1) left ∙ add-zero s.sum.cells_left) }
+    let left = left_zero s.base s.a l.sizes l.k l.invariant.1 zero s.parts l.invariant.0 in record {
+      norm_value = (
+        l.invariant.2
+            ∙ ap (λ x. value128 s.sum.norm + x) (Σ_used l.k s.parts (λ q. norm (digit_row s.base s.a q)) l.invariant.0 row),
+        omega arith,
+      );
+      cells_left_value = sym (ap (λ t. s.sum.cells_left + cond t 0 1) left ∙ add-zero s.sum.cells_left);
+    }
 
 pub returns-then-is_zero-2 : goal.returns-then-is_zero-2
 returns-then-is_zero-2 c =
     let s = c.args in
     let l = c.loop-k in
     let n : l.k ≡ s.parts = omega arith in
-    let left = nothing_left s.base s.parts l.k s.a l.sizes n l.invariant.1 c.is_zero-2.ensures in record { norm_value = (l.invariant.2 ∙ ap (λ k. value128 s.sum.norm + Σ k (λ q. norm (digit_row s.base s.a q))) n, omega arith); cells_left_value = sym (ap (λ t. s.sum.cells_left + cond t 0 1) (left ∙ c.if-is_zero-2.true) ∙ add-zero s.sum.cells_left) }
+    let left = nothing_left s.base s.parts l.k s.a l.sizes n l.invariant.1 c.is_zero-2.ensures in record {
+      norm_value = (
+        l.invariant.2
+            ∙ ap (λ k. value128 s.sum.norm + Σ k (λ q. norm (digit_row s.base s.a q))) n,
+        omega arith,
+      );
+      cells_left_value = sym (ap (λ t. s.sum.cells_left + cond t 0 1) (left
+          ∙ c.if-is_zero-2.true) ∙ add-zero s.sum.cells_left);
+    }
 
 pub returns-else-is_zero-2 : goal.returns-else-is_zero-2
 returns-else-is_zero-2 c =
     let s = c.args in
     let l = c.loop-k in
     let n : l.k ≡ s.parts = omega arith in
-    let left = nothing_left s.base s.parts l.k s.a l.sizes n l.invariant.1 c.is_zero-2.ensures in record { norm_value = (l.invariant.2 ∙ ap (λ k. value128 s.sum.norm + Σ k (λ q. norm (digit_row s.base s.a q))) n, omega arith); cells_left_value = sym (ap (λ t. s.sum.cells_left + cond t 0 1) (left ∙ c.if-is_zero-2.false)) }
+    let left = nothing_left s.base s.parts l.k s.a l.sizes n l.invariant.1 c.is_zero-2.ensures in record {
+      norm_value = (
+        l.invariant.2
+            ∙ ap (λ k. value128 s.sum.norm + Σ k (λ q. norm (digit_row s.base s.a q))) n,
+        omega arith,
+      );
+      cells_left_value = sym (ap (λ t. s.sum.cells_left + cond t 0 1) (left ∙ c.if-is_zero-2.false));
+    }

@@ -78,4 +78,12 @@ returns c =
     let n : l.i ≡ 64 = omega arith in
     let all : (at sum : ℕ) → begun s.x.now s.y.now at s.start l.i sum → sum ≡ s.start + Σ 64 (term s.x.now s.y.now at) = λ at sum h. h.0
     ∙ ap (λ m. s.start + Σ m (term s.x.now s.y.now at)) n in
-    let most : (at sum : ℕ) → begun s.x.now s.y.now at s.start l.i sum → sum ≤ 2 ^ 55 = λ at sum h. omega (arith, h.1, start) in record { a_value = (all s.at l.a l.invariant.1, all (s.at + 1) l.b l.invariant.2); c_value = (all (s.at + 2) l.c l.invariant.3, all (s.at + 3) l.d l.invariant.4); a_bound = (most s.at l.a l.invariant.1, most (s.at + 1) l.b l.invariant.2, most (s.at + 2) l.c l.invariant.3, most (s.at + 3) l.d l.invariant.4) }
+    let most : (at sum : ℕ) → begun s.x.now s.y.now at s.start l.i sum
+    → sum ≤ 2 ^ 55 = λ at sum h. omega (arith, h.1, start) in record {
+      a_value = (all s.at l.a l.invariant.1, all (s.at + 1) l.b l.invariant.2);
+      c_value = (
+        all (s.at + 2) l.c l.invariant.3,
+        all (s.at + 3) l.d l.invariant.4,
+      );
+      a_bound = (most s.at l.a l.invariant.1, most (s.at + 1) l.b l.invariant.2, most (s.at + 2) l.c l.invariant.3, most (s.at + 3) l.d l.invariant.4);
+    }

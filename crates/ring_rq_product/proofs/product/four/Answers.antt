@@ -61,7 +61,7 @@ returns c =
     let b = all (s.at + 1) _ _ _ l.invariant.2 c.join-2.ensures in
     let t = all (s.at + 2) _ _ _ l.invariant.3 c.join-3.ensures in
     let d = all (s.at + 3) _ _ _ l.invariant.4 c.join-4.ensures in
-    record { a_value = (a, b); c_value = (t, d); a_le_growth = (most _ _ a (omega arith), most _ _ b (omega arith), most _ _ t (omega arith), most _ _ d (omega arith)); }
+    record { a_value = (a, b); c_value = (t, d); a_le_growth = (most _ _ a (omega arith), most _ _ b (omega arith), most _ _ t (omega arith), most _ _ d (omega arith)) }
 
 pub loop-i-init : goal.loop-i-init
 loop-i-init c = (omega arith, begun_none _ _ _, begun_none _ _ _, begun_none _ _ _, begun_none _ _ _)

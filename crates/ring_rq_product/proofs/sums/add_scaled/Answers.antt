@@ -15,7 +15,8 @@ use Rattle.ring_rq_product.proofs.sums.add_scaled.Invariants.{folded, halves}
 use Rattle.ring_rq_product.proofs.sums.add_scaled.Goals as goal
 
 -- sums with the halves of an element's products added have the scaled element added
-added : (sums words result : List ℕ) (at c : ℕ) → length sums ≡ 64 → result ≡ splice sums 0 (table 64 (folded sums words at c)) → ((k : ℕ) → k < 64 → get_or words (at + k) 0 * c ≤ 18446744065119617025)
+added : (sums words result : List ℕ) (at c : ℕ) → length sums ≡ 64 → result ≡ splice sums 0 (table 64 (folded sums words at c))
+    → ((k : ℕ) → k < 64 → get_or words (at + k) 0 * c ≤ 18446744065119617025)
     → Added growth sums (rscale (part words at 64) c) result
 unfolding halves rscale
 added sums words result at c n e b =
@@ -53,7 +54,13 @@ loop-k-init c = (omega arith, sym (splice-nil _ _), refl)
 
 pub overflow_add-sums-in-loop-k : goal.overflow_add-sums-in-loop-k
 overflow_add-sums-in-loop-k c =
-    omega (arith, growth-small, product_at (goal.at.overflow_add-sums-in-loop-k c).After-wide, sum_at (goal.at.overflow_add-sums-in-loop-k c).After-slice_known-in-loop-k-1, c.requires.2 c.loop-k.k (omega arith))
+    omega (
+      arith,
+      growth-small,
+      product_at (goal.at.overflow_add-sums-in-loop-k c).After-wide,
+      sum_at (goal.at.overflow_add-sums-in-loop-k c).After-slice_known-in-loop-k-1,
+      c.requires.2 c.loop-k.k (omega arith),
+    )
 
 pub loop-k-preserved : goal.loop-k-preserved
 unfolding halves

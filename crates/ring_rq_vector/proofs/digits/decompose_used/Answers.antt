@@ -50,4 +50,11 @@ returns c =
     let l = c.loop-k in
     let settled = c.settled in
     let a = settled.result.coeffs in
-    let cell = settled.ensures.0 ∙ ap element c.load.ensures in record { upper_bound = (l.invariant.0, l.invariant.3 ∙ ap (λ e. splice s.to.now s.to_at (flat (table l.k (digit_element s.base e)))) cell); by_index = λ k h m. absurd (let done : l.k ≡ s.parts = omega arith in omega arith) }
+    let cell = settled.ensures.0 ∙ ap element c.load.ensures in record {
+      upper_bound = (
+        l.invariant.0,
+        l.invariant.3
+            ∙ ap (λ e. splice s.to.now s.to_at (flat (table l.k (digit_element s.base e)))) cell,
+      );
+      by_index = λ k h m. absurd (let done : l.k ≡ s.parts = omega arith in omega arith);
+    }
