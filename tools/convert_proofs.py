@@ -115,6 +115,7 @@ class Function:
         self.e = entry
         self.own = list(own)
         self.last_params = []
+        self.answers, self.busy = {}, set()
         self.parent, self.step, self.new_place, self.callee = {}, {}, {}, {}
         for (old, par, field, callee, extra), new in zip(entry["places"], entry["places_by_name"]):
             self.parent[old] = par
@@ -148,6 +149,8 @@ class Function:
                 rest.pop(0)
             if rest:
                 r = self.resolve_at(place, rest)
+            else:
+                r = ("place", "Start")
         if r and r[0] == "path":
             return ("path", [norm(x) if "-" in x and (norm(x) in self.own or norm(x) in self.loop_vars) else x for x in r[1]])
         return r
@@ -165,6 +168,8 @@ class Function:
         s = segs[0]
         if s.endswith("_lem") and not any(norm(s) in (norm(o), norm(n)) for o, n in self.step.values() if o):
             s = s[:-4]
+        if s == "pre":
+            s = segs[0] = "requires"
         if s in ROOT:
             pre = self.pre_fields()
             if s == "requires" and pre and len(segs) > 1 and len(pre) > 1:
@@ -206,7 +211,7 @@ class Function:
                         rest[1:1] = fields
                 self.last_params = self.e["params"].get(self.callee[p]) or []
                 rest = lent(self.last_params, rest)
-                if rest and rest[0] == "taken":
+                if rest and rest[0] in ("taken", "left") and re.match(r"(Then|Else|In-loop|After-loop)", p):
                     rest[0] = "false" if p.startswith("Else") or p.startswith("After-loop") else "true"
                 return ("path", [new] + rest)
             p = self.parent[p]
@@ -217,6 +222,17 @@ def convert_body(fn, text, env, goal, problems, record_vars=()):
     """Rewrites paths from context variables. env: variable -> place."""
     env = dict(env)
     aliases, wanted = {}, []
+    text = re.sub(r"\.«([^»\s]+)»", r".\1", text)
+    # another goal's answer, cited: its own text
+    for name, (params, expr, place) in fn.answers.items():
+        if re.search(r"(?<![^\s(){};,\[\]|@])" + re.escape(name) + r" " + SEG, text):
+            own = expr.strip()
+            if params and params[0] in env or params:
+                sub_text = convert_body(fn, own, {params[0]: place}, goal, problems) if name not in fn.busy else own
+                m = re.fullmatch(r"\s*let " + SEG + r" = " + re.escape(name) + r" " + SEG + r"(?:\." + SEG + r")* in\s+omega \(?arith\)?\s*", text)
+                if m:
+                    return " " + sub_text if not sub_text.startswith("\n") else sub_text
+                text = re.sub(r"(?<![^\s(){};,\[\]|@])" + re.escape(name) + r" " + SEG + r"(?:\." + SEG + r")*", lambda q: "(" + " ".join(sub_text.split()) + ")", text)
     # lets that name a context
     changed = True
     while changed:
@@ -286,7 +302,10 @@ def convert_body(fn, text, env, goal, problems, record_vars=()):
                 base = record_vars[0]
             return base + "." + ".".join(r[1])
         if record_vars:
-            return m[0]
+            depth, p = 0, env[var]
+            while fn.parent.get(p) is not None:
+                depth, p = depth + 1, fn.parent[p]
+            return m[0] if len(segs) <= depth else var + ".before" * depth
         if not segs and var in aliases:
             fn.named.add(fn.new_place[r[1]])
             if var not in wanted:
@@ -352,6 +371,16 @@ def convert(path, base, fn, inv_names):
         else:
             inline[i] = a
     inv_out, ans_out, helpers, late = [], [], [], []
+    for comment, lines in decls:
+        body = "\n".join(lines)
+        m = re.match(r"(" + SEG + r") :\s+tie\.Need-", body)
+        if m and m[1] in by_decl:
+            rest = body.split("\n", 1)[1] if "\n" in body else ""
+            while rest.startswith("unfolding"):
+                rest = rest.split("\n", 1)[1]
+            mm = re.match(re.escape(m[1]) + r"((?:\s+" + SEG + r")*?)\s+=(?=\s)", rest)
+            if mm and mm[1].split():
+                fn.answers[m[1]] = (mm[1].split(), rest[mm.end():], e["asked_at"][by_decl[m[1]][0]][0])
     local_inv_helpers = set()
     old_of_new = {}
     done = set()

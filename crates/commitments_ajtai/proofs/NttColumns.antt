@@ -1,12 +1,11 @@
 -- The cells of t from vectors in NTT form.
-use mathlib.Core.Path.{◌≡◌, refl, sym, ap, ap₂, ◌∙◌}
+use mathlib.Core.Path.{◌≡◌, refl, ap, ◌∙◌}
 use mathlib.Core.List.{List}
 use Prim.Native.Nat.{ℕ, ◌+◌, ◌*◌, ◌≤◌, ◌<◌}
 use native.Mathlib.Omega.{arith}
 use lib.ListN.{length, get_or}
-use Rattle.math.specs.lists.Part.{part, splice}
+use Rattle.math.specs.lists.Part.{splice}
 use Rattle.math.proofs.lists.Splice.{get_d_part}
-use Rattle.spec_leaves.specs.Rq.{Element}
 use Rattle.spec_protocol.specs.Formulas.{dot, flat, rows}
 use Rattle.spec_protocol.proofs.Region.{rows_ext}
 use Rattle.ring_rq_matrix.specs.Region.{vector}

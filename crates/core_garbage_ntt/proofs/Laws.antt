@@ -2,18 +2,16 @@
 use mathlib.Core.Path.{◌≡◌, refl, sym, ap, subst, ◌∙◌}
 use mathlib.Core.List.{List}
 use Prim.Native.Nat.{ℕ, ◌+◌, ◌*◌, ◌≤◌, ◌<◌}
-use native.Mathlib.Nat.{zero-add, mul-le-mul_right}
+use native.Mathlib.Nat.{zero-add}
 use native.Mathlib.Omega.{arith}
 use lib.ListN.{length, get_or}
 use Rattle.math.specs.lists.Table.{table}
 use Rattle.math.specs.lists.Part.{part, splice}
 use Rattle.math.proofs.lists.Table.{table_ext}
 use Rattle.math.proofs.lists.Splice.{length-splice, length_part, get_d_part}
-use Rattle.spec_leaves.specs.Rq.{Element}
-use Rattle.spec_protocol.specs.Formulas.{dot, flat, triangle}
+use Rattle.spec_protocol.specs.Formulas.{flat, triangle}
 use Rattle.spec_protocol.proofs.Region.{triangle_ext}
-use Rattle.ring_inner_product.specs.Run.{run}
-use Rattle.ring_rq_matrix.specs.Region.{vector, gram}
+use Rattle.ring_rq_matrix.specs.Region.{gram}
 use Rattle.ring_rq_matrix.proofs.Place.{rows-within, dot-vectors}
 use Rattle.ntt_vectors.specs.NttForm.{NttForm, AllValues, ntt_dot, ntt_row}
 use Rattle.ntt_vectors.proofs.Laws.{dot-same, same-before, same_copied, ntt_form-vector, ntt_dot_is}

@@ -1,14 +1,14 @@
 -- The inner products of vectors of a slice, transformed one after the other, with the vectors in NTT form that the slice holds.
-use mathlib.Core.Path.{◌≡◌, refl, sym, ap, ap₂, ◌∙◌}
+use mathlib.Core.Path.{◌≡◌, refl, ap, ◌∙◌}
 use mathlib.Core.List.{List}
-use Prim.Native.Nat.{ℕ, ◌+◌, ◌*◌, ◌≤◌, ◌<◌}
+use Prim.Native.Nat.{ℕ, ◌+◌, ◌*◌, ◌≤◌}
 use native.Mathlib.Omega.{arith}
 use lib.ListN.{length, get_or}
 use Rattle.math.specs.lists.Table.{table}
-use Rattle.math.specs.lists.Part.{part, splice}
+use Rattle.math.specs.lists.Part.{splice}
 use Rattle.math.proofs.lists.Table.{table_ext}
 use Rattle.math.proofs.lists.Splice.{get_d_part}
-use Rattle.spec_protocol.specs.Formulas.{dot, flat, rows}
+use Rattle.spec_protocol.specs.Formulas.{dot, rows}
 use Rattle.spec_protocol.proofs.Region.{rows_ext}
 use Rattle.ring_rq_matrix.specs.Region.{vector}
 use Rattle.ring_rq_matrix.proofs.Place.{rows-within, dot-vectors}

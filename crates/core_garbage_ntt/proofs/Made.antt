@@ -1,5 +1,5 @@
 -- h from the square of all inner products.
-use mathlib.Core.Path.{◌≡◌, refl, ap, ap₂, ◌∙◌}
+use mathlib.Core.Path.{◌≡◌, ap, ap₂, ◌∙◌}
 use mathlib.Core.List.{List}
 use Prim.Native.Nat.{ℕ, ◌+◌, ◌*◌, ◌≤◌}
 use native.Mathlib.Omega.{arith}
@@ -7,7 +7,7 @@ use lib.ListN.{length, get_or}
 use Rattle.math.specs.lists.Part.{splice}
 use Rattle.math.proofs.lists.Splice.{length-splice}
 use Rattle.spec_leaves.specs.Rq.{Element}
-use Rattle.spec_protocol.specs.Formulas.{◌⊕◌, dot, flat, rows, triangle}
+use Rattle.spec_protocol.specs.Formulas.{dot, flat, rows, triangle}
 use Rattle.ring_rq_matrix.specs.Region.{vector}
 use Rattle.core_garbage_polynomials.specs.Garbage.{h_of}
 use Rattle.ntt_vectors.specs.NttForm.{ntt_words, NttForm}

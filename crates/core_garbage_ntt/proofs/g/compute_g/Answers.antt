@@ -1,12 +1,8 @@
-use mathlib.Core.Path.{◌≡◌, refl, sym, ap, ◌∙◌}
-use Prim.Native.Nat.{ℕ, ◌+◌, ◌-◌, ◌*◌, ◌≤◌}
+use mathlib.Core.Path.{◌≡◌, refl, ap, ◌∙◌}
+use Prim.Native.Nat.{ℕ, ◌+◌, ◌*◌, ◌≤◌}
 use native.Mathlib.Omega.{arith}
-use borrow.Author.Rules.{rules}
-use lib.ListN.{length, length-replicate}
-use Rattle.math.specs.lists.Table.{table}
-use Rattle.math.specs.lists.Part.{part, splice}
-use Rattle.math.proofs.lists.Splice.{length-splice}
-use Rattle.spec_protocol.specs.Parameters.{triangular}
+use lib.ListN.{length-replicate}
+use Rattle.math.specs.lists.Part.{splice}
 use Rattle.spec_protocol.specs.Formulas.{flat, triangle}
 use Rattle.ring_rq_matrix.proofs.Place.{rows-within, triangular-suc, triangle-within}
 use Rattle.ring_rq_matrix.proofs.Fill.{length_filled, triangle-none, triangle-next}

@@ -2,7 +2,6 @@
 use mathlib.Core.Path.{refl, ap, ◌∙◌}
 use Prim.Native.Nat.{◌+◌, ◌*◌, ◌≤◌}
 use native.Mathlib.Omega.{arith}
-use borrow.Author.Rules.{rules}
 use lib.ListN.{length}
 use Rattle.math.specs.lists.Part.{splice}
 use Rattle.spec_protocol.specs.Formulas.{flat}
@@ -13,35 +12,32 @@ use Rattle.core_garbage_ntt.proofs.g.g_row.Goals as goal
 
 pub copy-requires : goal.copy-requires
 copy-requires c =
-    let b = c.before.before.before.before.before in
-    let s = b.args in
-    (omega arith, omega (arith, b.requires.1.within, rows-within s.i (s.i + 1) s.n (omega arith)))
+    let s = c.args in
+    (omega arith, omega (arith, c.requires.1.within, rows-within s.i (s.i + 1) s.n (omega arith)))
 
 pub row-requires : goal.row-requires
 row-requires c =
-    let b = c.before.before.before.before.before.before.before.before.before.before in
-    let s = b.args in
-    let within : s.at + 192 * (s.i * s.n) + 192 * s.n ≤ length s.scratch.now = omega (arith, b.requires.1.within, rows-within s.i (s.i + 1) s.n (omega arith)) in (
-      b.requires.0,
+    let s = c.args in
+    let within : s.at + 192 * (s.i * s.n) + 192 * s.n ≤ length s.scratch.now = omega (arith, c.requires.1.within, rows-within s.i (s.i + 1) s.n (omega arith)) in (
+      c.requires.0,
       values_copied s.buffer.now _ s.scratch.now (s.at + 192 * (s.i * s.n)) s.n c.copy.ensures (omega arith) within
-          (vector-values s.scratch.now s.at (s.i + 1) s.n s.i (s.at + 192 * (s.i * s.n)) b.requires.1 (omega arith) refl),
-      b.requires.1,
+          (vector-values s.scratch.now s.at (s.i + 1) s.n s.i (s.at + 192 * (s.i * s.n)) c.requires.1 (omega arith) refl),
+      c.requires.1,
       omega arith,
       omega arith,
-      b.requires.2,
+      c.requires.2,
     )
 
 pub returns : goal.returns
 returns c =
-    let b = c.before.before.before.before.before.before.before.before.before.before.before.before.before in
-    let s = b.args in
-    let within : s.at + 192 * (s.i * s.n) + 192 * s.n ≤ length s.scratch.now = omega (arith, b.requires.1.within, rows-within s.i (s.i + 1) s.n (omega arith)) in
-    let copied = c.copy.ensures in (
-      c.row.ensures
+    let s = c.args in
+    let within : s.at + 192 * (s.i * s.n) + 192 * s.n ≤ length s.scratch.now = omega (arith, c.requires.1.within, rows-within s.i (s.i + 1) s.n (omega arith)) in
+    let copied = c.copy.ensures in record {
+      scratch_after = c.row.ensures
           ∙ ap (λ cells. splice s.scratch.now s.out_at (flat cells))
-          (row_copied s.buffer.now _ s.scratch.now (s.at + 192 * (s.i * s.n)) s.n copied (omega arith) within s.at s.i (s.i + 1) refl),
-      copied,
-    )
+          (row_copied s.buffer.now _ s.scratch.now (s.at + 192 * (s.i * s.n)) s.n copied (omega arith) within s.at s.i (s.i + 1) refl);
+      buffer_after = copied;
+    }
 
 pub overflow_mul-i : goal.overflow_mul-i
 overflow_mul-i c = omega (arith, product_bound c.args.i c.args.n (omega arith) (omega arith))

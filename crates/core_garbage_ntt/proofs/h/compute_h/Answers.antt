@@ -1,14 +1,14 @@
 -- `compute_h` meets its contract.
-use mathlib.Core.Path.{◌≡◌, refl, ap, ap₂, ◌∙◌}
-use mathlib.Core.List.{List}
-use Prim.Native.Nat.{ℕ, ◌+◌, ◌*◌, ◌≤◌}
+use Prim.Native.Nat.{◌*◌}
 use native.Mathlib.Omega.{arith}
 use borrow.Author.Rules.{rules}
-use lib.ListN.{length, get_or}
+use lib.ListN.{get_or}
 use Rattle.ring_rq_matrix.proofs.Place.{product_bound}
 use Rattle.ring_rq_matrix.proofs.Fill.{length_filled}
 use Rattle.ntt_vectors.proofs.Laws.{ntt_form-values}
 use Rattle.core_garbage_ntt.proofs.Made.{h-made}
+use mir.Val.{Fits}
+use mir.Syntax.{w32}
 use Rattle.core_garbage_ntt.proofs.h.compute_h.Goals as goal
 
 pub to_ntt_form-requires : goal.to_ntt_form-requires
@@ -37,7 +37,7 @@ returns c =
     let s = c.args in
     let k = c.to_ntt_form in
     h-made s.scratch.now _ _ _ s.phi_at s.s.now s.s_at s.r s.n s.at s.square s.out_at (omega arith) (omega arith) (omega arith) (omega arith)
-    (λ i. omega (arith, c.type_inv.scratch i))
+    (λ i. let f : Fits w32 (get_or s.scratch.now i 0) = search rules in omega arith)
     k.ensures.out_after k.ensures.ntt_form c.lines.ensures c.fold.ensures
 
 pub overflow_mul-r : goal.overflow_mul-r

@@ -1,7 +1,6 @@
 -- `line` meets its contract.
 use mathlib.Core.Path.{ap, ◌∙◌}
 use native.Mathlib.Omega.{arith}
-use borrow.Author.Rules.{rules}
 use Rattle.math.specs.lists.Part.{splice}
 use Rattle.spec_protocol.specs.Formulas.{flat}
 use Rattle.ntt_vectors.proofs.Laws.{ntt_form-values}
@@ -10,11 +9,10 @@ use Rattle.core_garbage_ntt.proofs.h.line.Goals as goal
 
 pub row-requires : goal.row-requires
 row-requires c =
-    let b = c.before.before.before.before.before.before.before.before.before.before in
-    let s = b.args in (
-      b.requires.0,
+    let s = c.args in (
+      c.requires.0,
       ntt_form-values _ 0 s.scratch.now s.phi_at s.n c.to_ntt_form.ensures.ntt_form,
-      b.requires.1,
+      c.requires.1,
       omega arith,
       omega arith,
       (omega arith, omega arith),

@@ -15,12 +15,12 @@ use Rattle.ranges.specs.declared.answers.RangesChecked.{RangesChecked}
 use Rattle.ranges.specs.Answers.{of_ranges_checked, lists_refusal, ranges_answer}
 use Rattle.ranges.proofs.Ready.{Ready, ready}
 use Rattle.ranges.proofs.Refused.{refusal_ranges, numbered_ranges}
-use Rattle.ranges.proofs.call.of_parameters.Goals.{After-check, After-vectors-arg-1, In-Fine, In-Fine-1, Start}
+use Rattle.ranges.proofs.call.of_parameters.Goals.{After-check, After-vectors-arg-1, In-Fine, Start}
 use Rattle.ranges.proofs.call.of_parameters.Goals as goal
 
 -- few numbers
 few : (c : Start) → c.args.params.multiplicity * c.args.params.rank ≤ 16 * 64
-few c = mul-le-mul c.pre.within.r.1 c.pre.within.n.1
+few c = mul-le-mul c.requires.within.r.1 c.requires.within.n.1
 
 -- what the tests found is the refusal
 found : (c : After-check) {x : RangesChecked} → c.check.result ≡ x
@@ -41,10 +41,10 @@ within i r n h = omega (arith, mul-le-mul_right n h)
 pub vectors-found-requires : goal.vectors-found-requires
 vectors-found-requires c =
     let s = c.args in
-    let e = all-ready (goal.at.vectors-found-requires c).After-vectors-arg-1 in
+    let e = all-ready (goal.at.vectors-found-requires c).In-Fine in
     let l = e.lows_count in
     let h = e.highs_count in
-    (e.centred, k.pre.within.r.1, omega arith, omega arith)
+    (e.centred, c.requires.within.r.1, omega arith, omega arith)
 
 pub returns-in-Refused : goal.returns-in-Refused
 returns-in-Refused c =
@@ -66,7 +66,7 @@ returns-in-Beyond c =
 
 pub returns-in-Fine : goal.returns-in-Fine
 returns-in-Fine c =
-    let k = (goal.at.returns-in-Fine c).In-Fine-1 in
+    let k = (goal.at.returns-in-Fine c).In-Fine in
     let s = c.args in
     let P = parameters_of s.params in
     let e = all-ready k in
@@ -78,7 +78,7 @@ returns-in-Fine c =
           let g = e.highs_count in
           let w = within i s.params.multiplicity s.params.rank h in
           worked-holds (value128 s.params.bound_a) s.lows.now s.highs.now (i * (64 * s.params.rank)) (64 * s.params.rank) (omega arith) (omega arith) e.ordered;
-      answer = (λ i. record { number = 0; place = 0; vectors = c.vectors-found.ensures i }) ∙ ap (λ a. ranges_answer a P.r v) (found (goal.at.returns-in-Fine c).In-Fine-1 c.in-Fine.is);
+      answer = (λ i. record { number = 0; place = 0; vectors = c.vectors-found.ensures i }) ∙ ap (λ a. ranges_answer a P.r v) (found (goal.at.returns-in-Fine c).In-Fine c.in-Fine.is);
     }
 
 pub overflow_mul-r : goal.overflow_mul-r

@@ -25,11 +25,11 @@ abbrev crossed : Start → Answer
 crossed c = crossed_refusal c.args.count c.args.lows.now c.args.highs.now
 
 -- as many lows as needed
-lows_fine : (c : In-Fine) → fine ≡ lows-answer c.before.before.before
+lows_fine : (c : In-Fine) → fine ≡ length_refusal c.args.count (length c.args.lows.now)
 lows_fine c = sym (ap of_slice_checked c.in-Fine.is) ∙ c.check_length.ensures
 
 -- as many highs as needed
-highs_fine : (c : In-Fine-check_length) → fine ≡ highs-answer c.before.before.before.before.before.before
+highs_fine : (c : In-Fine-check_length) → fine ≡ length_refusal c.args.count (length c.args.highs.now)
 highs_fine c = sym (ap of_slice_checked c.in-Fine-check_length.is) ∙ c.check_length-in-Fine.ensures
 
 pub check_pairs-requires : goal.check_pairs-requires

@@ -1,6 +1,5 @@
 -- `admit_projection` meets its contract.
 use native.Mathlib.Omega.{arith}
-use borrow.Author.Rules.{rules}
 use Rattle.spec_sheds.specs.Runs.{run}
 use Rattle.admission_slices.proofs.Found.{told}
 use Rattle.shed_admission.specs.Admitted.{InJob}

@@ -1,7 +1,6 @@
 -- `admit_run` meets its contract.
 use mathlib.Core.Path.{sym, ap, ◌∙◌}
 use native.Mathlib.Omega.{arith}
-use borrow.Author.Rules.{rules}
 use Rattle.admission_slices.specs.Admission.{of_admitted}
 use Rattle.admission_slices.proofs.Found.{fitted}
 use Rattle.shed_admission.proofs.Order.{job_refuses, run_empty, run_past, run_fits}
@@ -25,4 +24,5 @@ pub returns-else-params-end : goal.returns-else-params-end
 returns-else-params-end c =
     let f = fitted _ c.check.ensures.result_value c.check.ensures.at
     c.in-Fit.is in
-    run_fits _ _ _ f.1 f.0 (omega (arith, c.if-end-first.false)) (omega (arith, c.if-params-end.false))
+    let both = run_fits _ _ _ f.1 f.0 (omega (arith, c.if-end-first.false)) (omega (arith, c.if-params-end.false)) in
+    record { result_value = both.0; at = both.1 }

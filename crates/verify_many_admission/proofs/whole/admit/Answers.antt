@@ -1,6 +1,5 @@
 -- `admit` meets its contract.
 use mathlib.Core.Path.{sym, ap, subst, ◌∙◌}
-use borrow.Author.Rules.{rules}
 use Rattle.admission_slices.specs.Admission.{of_admitted, At}
 use Rattle.verify_many_admission.specs.Admitted.{ManyGiven}
 use Rattle.verify_many_admission.proofs.Refused.{none-handed, too_many, so_many}

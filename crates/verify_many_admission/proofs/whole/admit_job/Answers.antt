@@ -1,7 +1,6 @@
 -- `admit_job` meets its contract.
 use mathlib.Core.Path.{sym, ap, ◌∙◌}
 use native.Mathlib.Decide.{dec_le}
-use borrow.Author.Rules.{rules}
 use Rattle.spec_leaves.specs.Answer.{refused}
 use Rattle.spec_protocol.specs.Parameters.{parameters}
 use Rattle.spec_protocol.proofs.Fine.{required, refused_not-fine}

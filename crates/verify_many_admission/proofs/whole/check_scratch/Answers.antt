@@ -1,6 +1,5 @@
 -- `check_scratch` meets its contract.
 use native.Mathlib.Omega.{arith}
-use borrow.Author.Rules.{rules}
 use Rattle.admission_slices.proofs.Found.{too_short, long_enough}
 use Rattle.verify_many_admission.proofs.whole.check_scratch.Goals as goal
 
