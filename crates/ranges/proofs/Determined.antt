@@ -5,10 +5,10 @@ use mathlib.Core.List.{List}
 use Prim.Native.Nat.{ℕ, ◌≤◌, ◌<◌}
 use native.Mathlib.Decide.{dec_lt}
 use native.Mathlib.Omega.{arith}
-use borrow.Author.Tests.{lt-ltb, le-ltb}
+use borrow.Author.Tests.{le-ltb}
 use lib.Dec.{ltb}
 use lib.IntN.{ℤ}
-use Rattle.math.specs.lists.Table.{table, padded}
+use Rattle.math.specs.lists.Table.{padded}
 use Rattle.math.proofs.lists.Table.{table_ext}
 use Rattle.spec_leaves.specs.Answer.{Answer, fine, accepted, refused, failed}
 use Rattle.spec_protocol.specs.Parameters.{Parameters}

@@ -1,13 +1,13 @@
 -- "Where low equals high throughout, the answer agrees with refusal 13."
 use mathlib.Core.Path.{◌≡◌, refl, sym, ap, subst, ◌∙◌}
-use mathlib.Core.Bool.{Bool, true, false, cond}
+use mathlib.Core.Bool.{cond}
 use mathlib.Core.List.{List, [], ◌∷◌, map}
-use Prim.Native.Nat.{ℕ, zero, suc, ◌+◌, ◌-◌, ◌*◌, ◌≤◌, ◌<◌, ◌^◌}
+use Prim.Native.Nat.{ℕ, zero, suc, ◌+◌, ◌-◌, ◌*◌, ◌≤◌, ◌<◌}
 use native.Mathlib.Nat.{mul-le-mul_right, mul-le-mul}
 use native.Mathlib.Decide.{dec_le}
 use native.Mathlib.Omega.{arith}
 use borrow.Author.Tests.{lt-ltb, le-ltb}
-use lib.Dec.{eqb, ltb}
+use lib.Dec.{eqb}
 use lib.IntN.{ℤ, pos, negsuc, nat_abs}
 use lib.ListN.{length, get_or, length-map, get_or-map}
 use Rattle.math.specs.lists.Table.{table}
@@ -18,7 +18,7 @@ use Rattle.math.proofs.lists.Table.{table_ext}
 use Rattle.math.proofs.lists.Splice.{length_part, get_d_part}
 use Rattle.spec_leaves.specs.Zq.{Q, half_Q, size}
 use Rattle.spec_leaves.specs.Norm as Words
-use Rattle.spec_leaves.specs.Answer.{Answer, fine, refused, ◌then◌}
+use Rattle.spec_leaves.specs.Answer.{fine, refused}
 use Rattle.spec_leaves.specs.Ring.{element}
 use Rattle.spec_protocol.specs.Checks.{require, first}
 use Rattle.spec_protocol.specs.Parameters.{Parameters, parameters}

@@ -1,5 +1,5 @@
 -- What holds of lows and highs that are refused nothing.
-use mathlib.Core.Path.{◌≡◌, refl, sym, ap, subst, ◌∙◌}
+use mathlib.Core.Path.{◌≡◌, subst}
 use mathlib.Core.Bool.{Bool, true, false, cond}
 use mathlib.Core.List.{List}
 use Prim.Native.Nat.{ℕ, ◌≤◌, ◌<◌, min}
@@ -10,7 +10,6 @@ use lib.Signed.{le_z, ◌≤ℤ◌, le_z_yes}
 use lib.ListN.{length}
 use Rattle.spec_leaves.specs.Zq.{half_Q}
 use Rattle.spec_leaves.specs.Answer.{Answer, fine, refused, ◌then◌}
-use Rattle.spec_protocol.specs.Checks.{require, first}
 use Rattle.spec_protocol.specs.Ranges.{number_at, length_refusal, size_refusal, beyond_refusal, crossed_refusal}
 use Rattle.spec_protocol.proofs.Fine.{required, refused_not-fine, then_fine_left, then_fine_right}
 use Rattle.spec_protocol.proofs.First.{first-each}

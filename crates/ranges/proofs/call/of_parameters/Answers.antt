@@ -3,16 +3,13 @@ use mathlib.Core.Path.{◌≡◌, sym, ◌∙◌, ap}
 use Prim.Native.Nat.{ℕ, ◌+◌, ◌*◌, ◌≤◌, ◌<◌}
 use native.Mathlib.Nat.{mul-le-mul, mul-le-mul_right}
 use native.Mathlib.Omega.{arith}
-use borrow.Author.Rules.{rules}
-use lib.ListN.{length}
-use Rattle.spec_leaves.specs.Answer.{Answer, fine, value128}
-use Rattle.spec_protocol.specs.Parameters.{Parameters}
-use Rattle.spec_protocol.specs.Ranges.{pairs_refusal, ranges_count, Answered}
+use Rattle.spec_leaves.specs.Answer.{value128}
+use Rattle.spec_protocol.specs.Ranges.{pairs_refusal, Answered}
 use Rattle.relation_env_params.specs.Parameters.{parameters_of}
 use Rattle.ranges_vectors.specs.Vectors.{worked}
 use Rattle.ranges_vectors.proofs.Worked.{worked-holds}
 use Rattle.ranges.specs.declared.answers.RangesChecked.{RangesChecked}
-use Rattle.ranges.specs.Answers.{of_ranges_checked, lists_refusal, ranges_answer}
+use Rattle.ranges.specs.Answers.{of_ranges_checked, ranges_answer}
 use Rattle.ranges.proofs.Ready.{Ready, ready}
 use Rattle.ranges.proofs.Refused.{refusal_ranges, numbered_ranges}
 use Rattle.ranges.proofs.call.of_parameters.Goals.{After-check, After-vectors-arg-1, In-Fine, Start}
@@ -78,7 +75,7 @@ returns-in-Fine c =
           let g = e.highs_count in
           let w = within i s.params.multiplicity s.params.rank h in
           worked-holds (value128 s.params.bound_a) s.lows.now s.highs.now (i * (64 * s.params.rank)) (64 * s.params.rank) (omega arith) (omega arith) e.ordered;
-      answer = (λ i. record { number = 0; place = 0; vectors = c.vectors-found.ensures i }) ∙ ap (λ a. ranges_answer a P.r v) (found (goal.at.returns-in-Fine c).In-Fine c.in-Fine.is);
+      answer = (λ i. record { number = 0; place = 0; vectors = c.vectors-found.ensures i }) ∙ ap (λ a. ranges_answer a P.r v) (found (goal.at.returns-in-Fine c).After-check c.in-Fine.is);
     }
 
 pub overflow_mul-r : goal.overflow_mul-r

@@ -1,11 +1,9 @@
 -- `ranges` meets its contract.
 use mathlib.Core.Path.{◌≡◌, sym, ◌∙◌, ap, subst}
-use borrow.Author.Rules.{rules}
 use Rattle.spec_leaves.specs.Answer.{fine, ◌then◌}
 use Rattle.spec_protocol.specs.Parameters.{parameters}
 use Rattle.spec_protocol.specs.Layout.{job_refusal}
 use Rattle.spec_protocol.specs.Ranges.{pairs_refusal, ranges_refusal}
-use Rattle.relation_env_params.specs.Parameters.{parameters_of}
 use Rattle.admission_slices.specs.Admission.{of_admitted}
 use Rattle.admission_slices.proofs.Fit.{fit_same, fit-sized}
 use Rattle.admission_slices.proofs.Stages.{stops_at}

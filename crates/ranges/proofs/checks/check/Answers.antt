@@ -1,7 +1,6 @@
 -- `checks::check` meets its contract.
 use mathlib.Core.Path.{◌≡◌, sym, ◌∙◌, ap, ap₂}
 use native.Mathlib.Omega.{arith}
-use borrow.Author.Rules.{rules}
 use lib.ListN.{length}
 use Rattle.spec_leaves.specs.Answer.{Answer, fine, ◌then◌}
 use Rattle.spec_protocol.specs.Ranges.{length_refusal, beyond_refusal, crossed_refusal}
