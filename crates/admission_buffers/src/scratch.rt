@@ -10,6 +10,7 @@ use relation_env_params::env_params::EnvironmentParameters;
 use spec_leaves::answers::Refusal;
 
 // "Place is the length needed."
+#[tactic(auto, using(admission_slices::proofs::Found::too_short, admission_slices::proofs::Found::long_enough))]
 pub fn check(lent: usize, params: EnvironmentParameters) -> SliceChecked
     requires { Sized (parameters_of params) }
     ensures { of_slice_checked result ≡ scratch_refusal (parameters_of params) lent }

@@ -21,6 +21,7 @@ pub fn base_found(base: u32) -> Operands
 }
 
 // A number of digits outside its limits is refused with 31 at place 1, and they are not read; a digit that is not canonical with 6 at its place.
+#[tactic(auto, using(std::proofs::lemmas::Bool::Decides::nat_tests))]
 pub fn digits_found(digits: &[u32]) -> Operands
     ensures { of_operands result ≡ digits_found digits.now }
 {

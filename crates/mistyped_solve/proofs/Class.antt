@@ -125,3 +125,6 @@ module _ (c : Congruence) (r : Reduced c) where
 
         last : (g m x : ℕ) → g * m ≡ Q → 0 < g → x < m → Q - (m - x) ≡ (g - 1) * m + x
         last g m x e h k = let n : (g - 1) * m + m ≡ g * m = one_less g m h in omega arith
+
+-- what the solution of smallest size is told by
+pub ruleset smallest_steps = (G_positive, no_solution, below_step, least-found, greatest-found, div-le_self)

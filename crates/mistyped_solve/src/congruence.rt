@@ -52,6 +52,7 @@ pub fn combine(first: Congruence, second: Congruence) -> Combined
 }
 
 // The solution of smallest centred size: the least one, or the greatest one below Q.
+#[tactic(auto, using(crate::proofs::Class::smallest_steps))]
 pub fn smallest(c: Congruence) -> Solution
     requires { Reduced c }
     ensures { Found (Solves c) result }

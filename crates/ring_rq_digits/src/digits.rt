@@ -111,6 +111,7 @@ pub fn left_over(a: Rq, base: u32, parts: usize) -> [u32; 64]
 }
 
 // Whether nothing goes on: all sizes are zero.
+#[tactic(auto, using(spec_leaves::proofs::IsZero::not_zero))]
 pub fn is_zero(sizes: [u32; 64]) -> bool
     ensures { result ≡ is_zero sizes }
 {

@@ -1,32 +1,23 @@
 -- What two openings of one commitment give away (document 02, Item 13), over the structs that `labrador_verify` answers.
-use mathlib.Core.Path.{◌≡◌, sym, ap, ◌∙◌}
+use mathlib.Core.Path.{◌≡◌, ap, ◌∙◌}
 use mathlib.Core.List.{List}
 use Prim.Native.Nat.{ℕ}
 use lib.ListN.{length}
-use Rattle.spec_leaves.specs.Answer.{accepted, number}
-use Rattle.spec_protocol.specs.Verifier.{verify}
-use Rattle.spec_protocol.proofs.Acceptance.{zero_accepts}
+use Rattle.spec_leaves.specs.Answer.{accepted}
 use Rattle.api_answers.specs.declared.verdicts.LabradorVerdict.{LabradorVerdict}
-use Rattle.api_answers.specs.Calls.{labrador_verdict}
 use Rattle.api_answers.specs.Whole.{VerifyCall}
 use Rattle.spec_binding.specs.Openings.{opening_1, opening_2, EqualU1, EqualU2, GivenAway1, GivenAway2, Accepted, SameTG, SameH}
 use Rattle.spec_binding.proofs.Binding.{binding_1, binding_2}
 use Rattle.spec_binding.proofs.Bound.{bound_1, bound_2}
-use Rattle.api_answers.proofs.Number.{same_number}
+use Rattle.theorem_exports.proofs.Accepts.{accepts}
 
--- a verdict with the number 0 is an acceptance, with the number of cells that it states
+-- a verdict with the number 0 is an acceptance
 module _ (J R X scratch : List ℕ) {left : List ℕ} (v : LabradorVerdict) (judged : VerifyCall J R X scratch left v) (zero : v.number ≡ 0) where
-  accepts : verify J R X (length scratch) ≡ accepted v.cells_left
-  accepts =
-      let a = verify J R X (length scratch) in
-      let (cells, e) = zero_accepts J R X (length scratch) (sym (same_number a) ∙ sym (ap (λ (v : LabradorVerdict). v.number) judged.answer) ∙ zero) in
-      e ∙ ap accepted (sym (ap (λ (v : LabradorVerdict). v.cells_left) (judged.answer ∙ ap labrador_verdict e)))
-
   pub accepted-by_export : Accepted J X v.cells_left
-  accepted-by_export = record { randomness = R; scratch = length scratch; verdict = accepts }
+  accepted-by_export = record { randomness = R; scratch = length scratch; verdict = accepts J R X scratch v judged zero }
 
   pub none-left-by_export : v.cells_left ≡ 0 → Accepted J X 0
-  none-left-by_export none = record { randomness = R; scratch = length scratch; verdict = accepts ∙ ap accepted none }
+  none-left-by_export none = record { randomness = R; scratch = length scratch; verdict = accepts J R X scratch v judged zero ∙ ap accepted none }
 
 -- two calls with one job that answer 0
 module _ (J R R' X Y scratch scratch' : List ℕ) {left left' : List ℕ} (v v' : LabradorVerdict)

@@ -21,6 +21,7 @@ use Rattle.api_answers.specs.Calls.{labrador_verdict}
 use Rattle.api_answers.specs.Whole.{ProveCall, VerifyCall}
 use Rattle.theorem_prove_then_verify.proofs.Demand3Calls.{sent}
 use Rattle.theorem_exports.specs.Told.{Demand3Told}
+use Rattle.theorem_exports.proofs.Unrefused.{named_unrefused}
 use Rattle.spec_protocol.proofs.Refuses.{zero_well, of_prove}
 
 -- a prover that answers 0 is refused nothing
@@ -37,14 +38,6 @@ module _ {X : Public} {s : ℕ → ℕ → Element} where
   named_zero (by_22 k f l before bad) e = absurd (omega arith)
   named_zero (by_23 f zeros g) e = absurd (omega arith)
   named_zero (by_27 f zeros g bad) e = absurd (omega arith)
-
-  -- its number is no refusal's, and it has no place
-  named_unrefused : {a : Answer} → Named X s a → (0 < (labrador_verdict a).number → (labrador_verdict a).number < 21 → ⊥) × ((labrador_verdict a).place ≡ 0)
-  named_unrefused (all_hold h) = (λ l g. omega arith, refl)
-  named_unrefused (by_21 f) = (λ l g. omega arith, refl)
-  named_unrefused (by_22 k f l before bad) = (λ l g. omega arith, refl)
-  named_unrefused (by_23 f zeros g) = (λ l g. omega arith, refl)
-  named_unrefused (by_27 f zeros g bad) = (λ l g. omega arith, refl)
 
   -- a number of what is named is the struct's
   named_number : {a : Answer} → Named X s a → (labrador_verdict a).number ≡ number a

@@ -1,4 +1,6 @@
+pub mod Unrefused
 pub mod Demand3
+pub mod Accepts
 pub mod Binding
 pub mod Forks
 pub mod Load

@@ -7,6 +7,7 @@ use ring_rq::rq::Rq;
 use ring_zq::zq::Zq;
 
 // The size of coefficient k before the shuffle.
+#[tactic(auto, using(std::proofs::lemmas::Bool::Decides::nat_tests))]
 fn start_size(k: usize) -> u32
     ensures { result ≡ start_size k }
 {

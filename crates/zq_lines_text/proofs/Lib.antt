@@ -4,4 +4,5 @@ pub mod Laws
 pub mod Example
 pub mod Decimal
 pub mod Runs
+pub mod Ends
 pub mod Chunks

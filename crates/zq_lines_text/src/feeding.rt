@@ -53,6 +53,7 @@ pub fn feed(s: State, chunk: &[u8], out: &mut [u8]) -> Fed
 }
 
 // Ends the input: a line that has begun is answered.
+#[tactic(auto, using(crate::proofs::Ends::ended_fresh, crate::proofs::Ends::ended_begun))]
 pub fn finish(s: State, out: &mut [u8], at: usize) -> usize
     requires { at + 56 ≤ length out.old }
     ensures { Written out.old at (last s) out.new result }

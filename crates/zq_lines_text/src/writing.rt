@@ -55,6 +55,7 @@ fn put_word(out: &mut [u8], at: usize, n: u32) -> usize
 }
 
 // The centre of a canonical value.
+#[tactic(auto, using(crate::proofs::Ends::room_behind_sign, crate::proofs::Ends::few_digits, crate::proofs::Ends::centre_small))]
 fn put_centre(out: &mut [u8], at: usize, a: Zq) -> usize
     requires canonical { Canonical a.0 }
     requires at_in_bounds { at + 11 ≤ length out.old }

@@ -4,20 +4,14 @@ use native.Mathlib.Omega.{arith}
 use borrow.Author.Rules.{rules}
 use borrow.Author.Count.{below_more}
 use lib.ListN.{length}
-use Rattle.spec_leaves.proofs.IsZero.{all_zero, not_zero}
+use Rattle.spec_leaves.proofs.IsZero.{all_zero}
 use Rattle.ring_rq_digits.proofs.digits.is_zero.Goals as goal
 
 pub loop-j-init : goal.loop-j-init
 loop-j-init c = (omega arith, λ m h. absurd (let z : m < 0 = h in omega arith))
 
-pub returns-then-sizes-j-ne0 : goal.returns-then-sizes-j-ne0
-returns-then-sizes-j-ne0 c =
-    let s = c.args in
-    let l = c.loop-j in
-    sym (not_zero s.sizes l.j (omega arith) c.if-sizes-j-ne0.true)
-
 pub loop-j-preserved : goal.loop-j-preserved
-loop-j-preserved c = (omega arith, below_more _ _ c.loop-j.invariant.1 c.if-sizes-j-ne0.false)
+loop-j-preserved c = (omega arith, below_more _ _ c.loop-j.invariant.1 (omega arith))
 
 pub returns : goal.returns
 returns c =
