@@ -482,6 +482,12 @@ def convert(path, base, fn, inv_names):
                 if p:
                     for v in b[1].split():
                         env[v] = p
+            b = re.match(r"(?:(?:abbrev|unfoldable|pub)\s+)*" + SEG + r" : tie\.((?:After|At|In|Then|Else|Start)[^\s(){}.;,]*)(?: (?:invariant|decreases)[^\s]*)* →", body)
+            if b and fn.place(b[1]):
+                for l in body.split("\n")[1:]:
+                    mm = re.match(re.escape(name or "?") + r" (" + SEG + r")", l)
+                    if mm:
+                        env[mm[1]] = fn.place(b[1])
             # the clause's own names for these
             if env:
                 first = list(env)[0]

@@ -4,7 +4,6 @@ use mathlib.Core.List.{List, [], ◌++◌, flat_map}
 use Prim.Native.Nat.{ℕ, zero, suc, ◌+◌, ◌*◌, ◌<◌}
 use native.Mathlib.Nat.{mul-le-mul_right}
 use native.Mathlib.Omega.{arith}
-use lib.ListN.{length}
 use Rattle.math.specs.lists.Table.{table, cat}
 use Rattle.math.specs.lists.Part.{splice}
 use Rattle.math.proofs.lists.Table.{length-table}
