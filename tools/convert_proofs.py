@@ -183,7 +183,7 @@ class Function:
             return ("path", segs)
         # what the type of a slice says of its items
         for var, old in (self.typed.get(place) or []):
-            if norm(old) == norm(s) and segs[1:2] == ["given"]:
+            if norm(old) == norm(s) and segs[1:2] == ["given"] and norm(old).startswith("shared"):
                 return ("path", ["type_inv", var] + segs[2:])
         # an arm's names
         p = place
@@ -293,6 +293,8 @@ def convert_body(fn, text, env, goal, problems, record_vars=()):
             return m[0]
         segs = [s for s in rest.split(".") if s]
         r = fn.resolve(env[var], segs)
+        if r is None and segs:
+            r = fn.resolve(next(iter(env.values())), segs)
         if r is None:
             problems.append(f"path {var}{rest}")
             return m[0]

@@ -1,0 +1,40 @@
+use mathlib.Core.Path.{refl, ◌∙◌, ap}
+use native.Mathlib.Omega.{arith}
+use lib.ListN.{length}
+use Rattle.math.proofs.lists.Splice.{length-splice}
+use Rattle.spec_leaves.specs.Ring.{words}
+use Rattle.spec_protocol.proofs.Stored.{stored-none, stored_next, stored-all}
+use Rattle.ring_inner_product.specs.Run.{further}
+use Rattle.core_aggregate.proofs.Grid.{rows_run, rows_same, row_ends}
+use Rattle.core_aggregate_ntt.proofs.Mixed.{ntt_mixed-before}
+use Rattle.core_aggregate_ntt.proofs.mix.mix_all.Goals as goal
+
+pub mix-e-requires : goal.mix-e-requires
+mix-e-requires c =
+    let s = c.args in
+    let h = c.requires in
+    let l = c.loop-c in (
+      h.0,
+      (
+        rows_run s.job.now s.constraints s.width l.c h.1.0 (omega arith) (omega arith),
+        rows_run l.scratch s.aggregated s.width l.c (rows_same _ _ _ _ l.invariant.2 h.1.1) (omega arith) (omega arith),
+        h.1.4,
+        h.1.5,
+      ),
+    )
+
+pub loop-c-preserved : goal.loop-c-preserved
+loop-c-preserved c =
+    let s = c.args in
+    let h = c.requires in
+    let l = c.loop-c in
+    let e = c.mix-e.ensures ∙ ap words (ntt_mixed-before _ _ _ _ (further s.aggregated l.c) _ s.to _ l.invariant.1
+    (λ m i. row_ends s.aggregated s.width s.to l.c m h.1.1.1 h.1.2 (omega arith) i)) in
+    let w = c.store.ensures ∙ stored_next _ _ _ l.c _ _ l.invariant.1 e in
+    (omega arith, w, ap length w ∙ length-splice _ _ _)
+
+pub returns : goal.returns
+returns c = stored-all _ _ _ _ _ _ c.loop-c.invariant.1 (omega arith)
+
+pub loop-c-init : goal.loop-c-init
+loop-c-init c = (omega arith, stored-none _ _ _, refl)
