@@ -25,7 +25,8 @@ fn done(command: &mut Command) {
 
 impl Tree {
     fn new() -> Tree {
-        let root = Path::new(env!("CARGO_TARGET_TMPDIR")).join("linked");
+        // outside the repository, in which the kit takes such files in its own crates alone
+        let root = std::env::temp_dir().join(format!("labrador-{}", std::process::id())).join("linked");
         let _ = fs::remove_dir_all(&root);
         for folder in ["crates/a/src", "crates/labrador_c/src", "bindings/rust", "kit", "out"] {
             fs::create_dir_all(root.join(folder)).unwrap();
@@ -65,6 +66,12 @@ impl Tree {
 
     fn calls_of_the_kit(&self) -> usize {
         fs::read_to_string(self.root.join("called")).map_or(0, |calls| calls.lines().count())
+    }
+}
+
+impl Drop for Tree {
+    fn drop(&mut self) {
+        let _ = fs::remove_dir_all(self.root.parent().unwrap());
     }
 }
 
