@@ -16,16 +16,16 @@ pub returns-then-len-at : goal.returns-then-len-at
 returns-then-len-at c =
     let l = c.loop-m in
     elim c.if-at-len.branch [
-      then-at-len+else-wide_usize-expected w ↦ record { by_index = reached_short _ _ _ _ _ l.invariant.1 (omega arith) (omega arith) (omega arith) (omega arith); ends_at = tt }
-    | else-at-len w ↦ record { by_index = reached_past _ _ _ _ _ l.invariant.1 (omega arith) (omega arith); ends_at = tt }
+      | then-at-len+else-wide_usize-expected w ↦ record { by_index = reached_short _ _ _ _ _ l.invariant.1 (omega arith) (omega arith) (omega arith) (omega arith); ends_at = tt }
+      | else-at-len w ↦ record { by_index = reached_past _ _ _ _ _ l.invariant.1 (omega arith) (omega arith); ends_at = tt }
     ]
 
 pub loop-m-preserved : goal.loop-m-preserved
 loop-m-preserved c =
     let l = c.loop-m in
     elim c.if-at-len.branch [
-      then-at-len+else-wide_usize-expected w ↦ (omega arith, reached_next _ _ _ _ _ l.invariant.1 (omega arith) (omega arith) (omega arith) (omega arith))
-    | else-at-len w ↦ absurd (omega arith)
+      | then-at-len+else-wide_usize-expected w ↦ (omega arith, reached_next _ _ _ _ _ l.invariant.1 (omega arith) (omega arith) (omega arith) (omega arith))
+      | else-at-len w ↦ absurd (omega arith)
     ]
 
 pub returns : goal.returns

@@ -16,13 +16,13 @@ loop-k-preserved c =
       omega arith,
       λ e.
           elim c.if-greatest-words.branch [
-            then-greatest-words w ↦ absurd (cc)
-          | else-greatest-words w ↦
-            below_more
-            (λ j. get_or s.words.now (s.at + j) 0 ≤ s.greatest)
-            l.k
-            (l.invariant.1 (sym w.fit-is ∙ e))
-            w.if-greatest-words.false
+            | then-greatest-words w ↦ absurd (cc)
+            | else-greatest-words w ↦
+                below_more
+                (λ j. get_or s.words.now (s.at + j) 0 ≤ s.greatest)
+                l.k
+                (l.invariant.1 (sym w.fit-is ∙ e))
+                w.if-greatest-words.false
           ],
     )
 
