@@ -31,7 +31,15 @@ def nested(fields, segs):
             break
         k += 1
         i += 1
-    return ([fields[k]] if k == len(fields) - 1 else ["?"]) + segs[i:]
+    return ([fields[k]] if k == len(fields) - 1 else ["?" + str(k)]) + segs[i:]
+
+
+def rest_of(base, fields, k):
+    """The clauses from k on, as the pairs that they were."""
+    text = f"{base}.{fields[-1]}"
+    for f in reversed(fields[k:-1]):
+        text = f"({base}.{f}, {text})"
+    return text
 
 
 def lent(params, segs):
@@ -115,6 +123,7 @@ class Function:
         self.e = entry
         self.own = list(own)
         self.last_params = []
+        self.opens = False
         self.answers, self.busy = {}, set()
         self.parent, self.step, self.new_place, self.callee = {}, {}, {}, {}
         for (old, par, field, callee, extra), new in zip(entry["places"], entry["places_by_name"]):
@@ -202,6 +211,8 @@ class Function:
             old, new = self.step[p]
             if old and (norm(old) == norm(s) or norm(new) == norm(s)):
                 rest = segs[1:]
+                if rest and re.fullmatch(r"keys\d*", rest[0]):
+                    rest = [new + "-own"] + rest
                 fields = (self.clauses.get(p) or {}).get("fields") or []
                 self.last_fields = fields
                 if rest[:1] == ["ensures"] and fields:
@@ -221,6 +232,7 @@ class Function:
 def convert_body(fn, text, env, goal, problems, record_vars=()):
     """Rewrites paths from context variables. env: variable -> place."""
     env = dict(env)
+    start_env = dict(env)
     aliases, wanted = {}, []
     text = re.sub(r"\.«([^»\s]+)»", r".\1", text)
     # another goal's answer, cited: its own text
@@ -247,7 +259,8 @@ def convert_body(fn, text, env, goal, problems, record_vars=()):
                     changed = True
                     break
 
-    args_names, clause_names, step_names = set(), {}, {}
+    args_names, clause_names, step_names, given_names = set(), {}, {}, {}
+    whole_answer = bool(re.fullmatch(r"\s*" + SEG + r"(?:\." + SEG + r")*\s*", text))
     bound = set(w for b in re.findall(r"λ ([^.]*)\.", text) for w in re.findall(SEG, b))
     for m in re.finditer(r"\blet (" + SEG + r") = (" + SEG + r"(?:\." + SEG + r")*) in[ \n]\s*", text):
         path = m[2].split(".")
@@ -256,6 +269,8 @@ def convert_body(fn, text, env, goal, problems, record_vars=()):
             if r and r[0] == "path" and r[1] == ["args"]:
                 args_names.add(m[1])
             names = None
+            if path[-1] == "given":
+                given_names[m[1]] = (env[path[0]], path[1:])
             if r and r[0] == "path" and r[1] == ["requires"]:
                 names = fn.pre_fields()
             elif r and r[0] == "path" and r[1][-1] == "ensures":
@@ -276,6 +291,11 @@ def convert_body(fn, text, env, goal, problems, record_vars=()):
             if segs and re.fullmatch(r"t\d+", segs[0]) and segs[0] not in fn.own and int(segs[0][1:]) <= len(fn.own):
                 segs[0] = fn.own[int(segs[0][1:]) - 1]
                 return ".".join([var] + segs)
+        if var in given_names and rest:
+            place, path = given_names[var]
+            r = fn.resolve(place, path + [s for s in rest.split(".") if s])
+            if r and r[0] == "path":
+                return ("c" if not record_vars else record_vars[0]) + "." + ".".join(r[1])
         if var in step_names and rest.startswith(".ensures.") and len(step_names[var][0]) > 1:
             return ".".join([var, "ensures"] + nested(step_names[var][0], [s for s in rest.split(".") if s][1:]))
         if var in step_names and rest.startswith(".new."):
@@ -285,13 +305,19 @@ def convert_body(fn, text, env, goal, problems, record_vars=()):
             if len(segs) > 1 and "-" in segs[1] and norm(segs[1]) in (fn.loop_vars | set(fn.own)):
                 segs[1] = norm(segs[1])
                 rest = ".".join(segs)
-        if var in clause_names and rest:
-            return ".".join([var] + nested(clause_names[var], [s for s in rest.split(".") if s]))
+        if var in clause_names:
+            got = nested(clause_names[var], [s for s in rest.split(".") if s]) if rest else ["?0"]
+            if got[-1].startswith("?"):
+                if m.string[max(0, m.start() - 4):m.start()].endswith("let "):
+                    return m[0]
+                return rest_of(".".join([var] + got[:-1]), clause_names[var], int(got[-1][1:]))
+            return ".".join([var] + got)
         if var not in env:
             return var + rest
         if not rest and var in bound:
             return m[0]
         segs = [s for s in rest.split(".") if s]
+        fn.last_fields = []
         r = fn.resolve(env[var], segs)
         if r is None and segs:
             r = fn.resolve(next(iter(env.values())), segs)
@@ -299,11 +325,24 @@ def convert_body(fn, text, env, goal, problems, record_vars=()):
             problems.append(f"path {var}{rest}")
             return m[0]
         base = var if var in record_vars else "c"
+        if r[0] == "path" and len(fn.last_fields) > 1 and r[1][-1] in ("ensures", "?1", "?2", "?3", "?4") and (r[1][-1] == "ensures" or r[1][-2] == "ensures") and not whole_answer and m.string[max(0, m.start() - 3):m.start()] != " = ":
+            k = 0 if r[1][-1] == "ensures" else int(r[1][-1][1:])
+            segs2 = r[1] if k == 0 else r[1][:-1]
+            return rest_of(base + "." + ".".join(segs2), fn.last_fields, k)
+        if r[0] == "path" and re.fullmatch(r"keys\d*", r[1][-1]):
+            fn.opens = True
+            return "(opened " + base + "." + ".".join(r[1]) + ")"
         if r[0] == "path":
             if base not in record_vars and record_vars:
                 base = record_vars[0]
             return base + "." + ".".join(r[1])
         if record_vars:
+            if var in aliases and not segs:
+                base_var = record_vars[0]
+                k, p = 0, start_env[base_var]
+                while p is not None and p != r[1]:
+                    k, p = k + 1, fn.parent.get(p)
+                return base_var + ".before" * k
             depth, p = 0, env[var]
             while fn.parent.get(p) is not None:
                 depth, p = depth + 1, fn.parent[p]
@@ -317,6 +356,11 @@ def convert_body(fn, text, env, goal, problems, record_vars=()):
         return f"(goal.at.{goal} c).{fn.new_place[r[1]]}"
 
     text = re.sub(r"(?<![^\s(){};,\[\]|@])(" + SEG + r")((?:\." + SEG + r")*)", sub, text)
+    # the test of `!x` says what x is
+    text = re.sub(r"\(not-(?:false|true) \S+\.result (c\.if-not-[^\s()]*\.(?:false|true))\)", r"\1", text)
+    for var in given_names:
+        if not re.search(r"(?<![^\s(){};,\[\]|@])" + re.escape(var) + r"(?![^\s(){};,\[\]|.])", re.sub(r"\blet " + re.escape(var) + r" = \S+ in", "", text)):
+            text = re.sub(r"\blet " + re.escape(var) + r" = \S+ in[ \n]\s*", "", text)
     for var in reversed(wanted):
         text = f"\n    let {var} = (goal.at.{goal} c).{fn.new_place[aliases[var]]} in" + (text if text.startswith("\n") else " " + text.lstrip())
     return text
@@ -492,9 +536,10 @@ def convert(path, base, fn, inv_names):
                         env[mm[1]] = fn.place(b[1])
             # the clause's own names for these
             if env:
-                first = list(env)[0]
-                sig, _, clause = body2.partition("\n")
-                body2 = convert_body(fn, body2, env, "?", problems, record_vars=tuple(env))
+                lines2 = body2.split("\n")
+                cut = next((k for k, l in enumerate(lines2) if k and re.match(r"\s*(unfolding |" + re.escape(name or "?") + r" )", l)), len(lines2))
+                parts = ["\n".join(lines2[:cut]), "\n".join(lines2[cut:])]
+                body2 = "\n".join(convert_body(fn, q, env, "?", problems, record_vars=tuple(env)) if q else q for q in parts)
             body = body2
         helpers.append((comment, name, body))
     # inline answers
@@ -545,6 +590,8 @@ def convert(path, base, fn, inv_names):
     if inv_parts:
         out["Invariants.antt"] = "\n".join(comments + uses + [f"use {base}.Given as goal"]) + "\n\n" + "\n\n".join(inv_parts) + "\n"
     if ans_out or (ans_parts and not inv_parts and ans_out):
+        if fn.opens:
+            uses = uses + ["use borrow.Enum.Refused.{opened}"]
         if fn.named:
             uses = uses + [f"use {base}.Goals.{{{', '.join(sorted(fn.named))}}}"]
         extra_use = [f"use {base}.Invariants.{{{', '.join(sorted(need_in_inv))}}}"] if need_in_inv else []

@@ -1,7 +1,7 @@
 -- Σ⟨φ_i,z⟩·c_i is what the constraints' lines come to, weighed.
-use mathlib.Core.Path.{◌≡◌, refl, sym, ap, ap₂, ◌∙◌}
+use mathlib.Core.Path.{◌≡◌, refl, ap, ap₂, ◌∙◌}
 use mathlib.Core.List.{List}
-use Prim.Native.Nat.{ℕ, ◌+◌, ◌*◌, ◌≤◌, ◌<◌}
+use Prim.Native.Nat.{ℕ, ◌+◌, ◌*◌, ◌≤◌}
 use native.Mathlib.Omega.{arith}
 use Rattle.math.specs.lists.Part.{part}
 use Rattle.math.proofs.algebra.Sum.{sum_ext}

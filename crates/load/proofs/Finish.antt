@@ -1,13 +1,13 @@
 -- The job with b0 and b worked out is the load's.
 use mathlib.Core.Path.{◌≡◌, refl, sym, ap, ap₂, ◌∙◌}
-use mathlib.Core.List.{List, [], ◌∷◌, ◌++◌}
+use mathlib.Core.List.{List, ◌∷◌}
 use Prim.Native.Nat.{ℕ, ◌+◌, ◌*◌, ◌%◌, ◌≤◌, ◌<◌, ◌^◌}
 use native.Mathlib.Nat.{mul-le-mul_right}
 use native.Mathlib.Omega.{arith}
-use lib.ListN.{length, get_or, set, replicate, length-replicate}
+use lib.ListN.{length, get_or, set, length-replicate}
 use Rattle.math.specs.lists.Table.{table}
 use Rattle.math.specs.lists.Part.{part, splice}
-use Rattle.math.proofs.lists.Table.{length-table, get_or-table, table_ext}
+use Rattle.math.proofs.lists.Table.{table_ext}
 use Rattle.math.proofs.lists.Splice.{length-splice, get_d_part}
 use Rattle.math.proofs.algebra.Form.{form_ext}
 use Rattle.math.proofs.algebra.Ring.{nil-add}
@@ -16,12 +16,12 @@ use Rattle.spec_leaves.specs.Rq.{Element, coeff, rzero}
 use Rattle.spec_leaves.specs.Ring.{RqOps, words, element}
 use Rattle.spec_leaves.proofs.RqRing.{rq_ring, words_path}
 use Rattle.spec_leaves.proofs.Bridge.{coeff-canonical, words-nil}
-use Rattle.spec_protocol.specs.Parameters.{Parameters, T, triangular}
-use Rattle.spec_protocol.specs.Layout.{canonical, span, start, sections, first_section, job_sections, witness_sections}
-use Rattle.spec_protocol.specs.Views.{public, witness, element_at, cell}
+use Rattle.spec_protocol.specs.Parameters.{Parameters, T}
+use Rattle.spec_protocol.specs.Layout.{canonical, span, start, sections, job_sections, witness_sections}
+use Rattle.spec_protocol.specs.Views.{witness, element_at, cell}
 use Rattle.spec_protocol.specs.Formulas.{◌⊕◌, left, flat}
-use Rattle.spec_protocol.specs.Load.{Given, section_one, load_parameters, load_job_sections, job_drawn, drawn, after_job, witness_rules, load_witness, load_vectors}
-use Rattle.spec_protocol.specs.Load.{blank_job, blank, b₀_words, b_words, load_job}
+use Rattle.spec_protocol.specs.Load.{Given, section_one, load_parameters, load_job_sections, job_drawn, drawn, load_witness, load_vectors}
+use Rattle.spec_protocol.specs.Load.{blank_job, b₀_words, b_words, load_job}
 use Rattle.spec_protocol.proofs.Sections.{Filled, length-sections, section_word}
 use Rattle.spec_protocol.proofs.LoadSections.{get_or_zeros}
 use Rattle.spec_protocol.proofs.LoadJob.{whole_filled, job_drawn_filled, witness_filled, job_half_filled, length-b₀, length-b, cell-inside, line_inside}

@@ -1,11 +1,10 @@
 -- Where the sections of a job stand for the sums, and the sections of a table drawn.
-use mathlib.Core.Path.{◌≡◌, refl, sym, ap, ap₂, subst, ◌∙◌}
-use mathlib.Core.List.{List, ◌∷◌, ◌++◌}
-use Prim.Native.Nat.{ℕ, ◌+◌, ◌*◌, ◌≤◌, ◌<◌, ◌^◌}
+use mathlib.Core.Path.{◌≡◌, sym, ap, ap₂, subst, ◌∙◌}
+use mathlib.Core.List.{List}
+use Prim.Native.Nat.{ℕ, ◌+◌, ◌*◌, ◌≤◌, ◌<◌}
 use native.Mathlib.Nat.{mul-le-mul}
 use native.Mathlib.Omega.{arith}
 use lib.ListN.{length, get_or}
-use Rattle.math.specs.lists.Table.{table}
 use Rattle.math.specs.lists.Part.{part, splice}
 use Rattle.math.proofs.lists.Splice.{splice-append}
 use Rattle.spec_leaves.specs.Zq.{Q}
@@ -15,7 +14,6 @@ use Rattle.spec_protocol.specs.Load as S
 use Rattle.spec_protocol.specs.Load.{Given, load_parameters, drawn, after, job_rules, blank_job, after_job}
 use Rattle.layout_sections.specs.declared.sections.Sections.{Sections}
 use Rattle.layout_sections.specs.Sections.{listed}
-use Rattle.relation_env_params.specs.SectionOne.{Within}
 use Rattle.layout_sizes.specs.Sizes.{Sized, IsTable}
 use Rattle.load_draw.specs.declared.Rule.{Rule}
 use Rattle.load_draw.specs.Rules.{rules_of}

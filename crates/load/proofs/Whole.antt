@@ -1,13 +1,13 @@
 -- What is drawn and worked out, put together: the words of a load.
 use mathlib.Core.Path.{◌≡◌, sym, ap, ap₂, subst, ◌∙◌}
-use mathlib.Core.List.{List, ◌∷◌}
+use mathlib.Core.List.{List}
 use Prim.Native.Nat.{ℕ, ◌≤◌, ◌<◌, ◌^◌}
 use lib.ListN.{length}
 use Rattle.math.specs.lists.Part.{splice}
 use Rattle.math.proofs.lists.Splice.{length-splice}
 use Rattle.spec_protocol.specs.Parameters.{Parameters}
 use Rattle.spec_protocol.specs.Layout.{span, sections, witness_sections, randomness_sections}
-use Rattle.spec_protocol.specs.Load.{Given, section_one, load_parameters, load_job_sections, drawn, after, witness_rules, randomness_rules, after_job, load_job}
+use Rattle.spec_protocol.specs.Load.{Given, load_parameters, drawn, after, witness_rules, randomness_rules, after_job, load_job}
 use Rattle.spec_protocol.specs.Load.{load_witness, load_randomness, blank_job, job_need, witness_need, randomness_need}
 use Rattle.spec_protocol.proofs.Sections.{length-sections}
 use Rattle.spec_protocol.proofs.LoadJob.{whole_filled, job-made, job-made_filled, witness_filled, randomness_filled}

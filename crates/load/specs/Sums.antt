@@ -5,7 +5,7 @@ use Rattle.math.specs.lists.Part.{splice}
 use Rattle.spec_leaves.specs.Rq.{coeff}
 use Rattle.spec_leaves.specs.Ring.{words}
 use Rattle.spec_protocol.specs.Parameters.{Parameters, T}
-use Rattle.spec_protocol.specs.Layout.{span, start, first_section, job_sections}
+use Rattle.spec_protocol.specs.Layout.{span, start, job_sections}
 use Rattle.spec_protocol.specs.Views.{element_at, cell, witness}
 use Rattle.spec_protocol.specs.Formulas.{left, flat}
 

@@ -1,23 +1,23 @@
 -- Blocks of products added one after the other.
 use mathlib.Core.Path.{◌≡◌, refl, sym, ap, ap₂, ◌∙◌}
 use mathlib.Core.List.{List}
-use Prim.Native.Nat.{ℕ, ◌+◌, ◌*◌, ◌≤◌, ◌<◌}
+use Prim.Native.Nat.{ℕ, ◌+◌, ◌*◌, ◌≤◌}
 use native.Mathlib.Nat.{zero-add}
 use native.Mathlib.Omega.{arith}
 use lib.ListN.{length}
 use Rattle.math.specs.lists.Table.{table}
-use Rattle.math.specs.lists.Part.{part, splice}
+use Rattle.math.specs.lists.Part.{splice}
 use Rattle.math.specs.algebra.Ops as Ops
 use Rattle.math.proofs.algebra.Sum.{sum_ext, sum_split}
 use Rattle.spec_leaves.specs.Rq.{Element}
-use Rattle.spec_leaves.specs.Ring.{RqOps, element}
+use Rattle.spec_leaves.specs.Ring.{RqOps}
 use Rattle.spec_leaves.proofs.RqRing.{rq_ring}
 use Rattle.ring_inner_product.specs.Run.{run}
 use Rattle.spec_protocol.specs.Views.{element_at}
-use Rattle.spec_protocol.specs.Formulas.{◌⊕◌, ◌⊗◌, sum, flat}
+use Rattle.spec_protocol.specs.Formulas.{◌⊕◌, ◌⊗◌, flat}
 use Rattle.ring_rq_matrix.proofs.Place.{rows-within, run-from}
 use Rattle.load_constraints.specs.declared.sums.Target.{Target}
-use Rattle.load_constraints.specs.Sums.{terms, plus, Placed, Reduced}
+use Rattle.load_constraints.specs.Sums.{terms, plus, Placed}
 use Rattle.load_constraints.proofs.Plus.{plus-plus, plus_ext, plus_none, read_between}
 use Rattle.load_constraints.specs.Products.{Before, Canonical, with_terms}
 

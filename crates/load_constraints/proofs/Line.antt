@@ -1,7 +1,7 @@
 -- b0's terms of a line, and then b's, are both.
-use mathlib.Core.Path.{◌≡◌, refl, sym, ap, ap₂, subst, ◌∙◌}
+use mathlib.Core.Path.{◌≡◌, sym, ap, ap₂, subst, ◌∙◌}
 use mathlib.Core.List.{List, flat_map}
-use Prim.Native.Nat.{ℕ, ◌+◌, ◌*◌, ◌≤◌, ◌<◌}
+use Prim.Native.Nat.{ℕ, ◌+◌, ◌*◌, ◌<◌}
 use native.Mathlib.Omega.{arith}
 use lib.ListN.{length, get_or}
 use Rattle.math.specs.lists.Table.{table}
@@ -14,7 +14,6 @@ use Rattle.spec_leaves.specs.Rq.{Element, coeff}
 use Rattle.spec_leaves.specs.Ring.{RqOps, words, element}
 use Rattle.spec_protocol.specs.Views.{element_at}
 use Rattle.spec_protocol.specs.Formulas.{◌⊕◌, ◌⊗◌, flat}
-use Rattle.ring_rq_matrix.proofs.Place.{rows-within}
 use Rattle.load_constraints.specs.declared.sums.Target.{Target}
 use Rattle.load_constraints.specs.Sums.{terms, plus, Placed, Reduced}
 use Rattle.load_constraints.specs.Products.{Before, Canonical, with_terms}

@@ -30,7 +30,6 @@ use Rattle.ntt_vectors.specs.Sums.{inverse_from, HoldsSums}
 use Rattle.ntt_vectors.proofs.SumsLaws.{part-words, ntt_form-value, inverse-holds, inverse_from-element}
 use Rattle.core_aggregate_ntt.specs.Terms.{terms_added}
 use Rattle.core_aggregate_ntt.proofs.Terms.{length-terms, term_at}
-use Rattle.load_constraints.specs.Sums.{terms}
 use Rattle.load_constraints.specs.Products.{ntt_line, Before, with_line, with_terms}
 
 -- the words of the sums and the inverse NTT

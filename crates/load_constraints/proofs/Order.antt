@@ -1,9 +1,8 @@
 -- The terms added one after the other are the left sides.
-use mathlib.Core.Path.{◌≡◌, refl, sym, ap, ap₂, ◌∙◌}
-use mathlib.Core.Bool.{true, false, cond}
+use mathlib.Core.Path.{◌≡◌, sym, ap, ap₂, ◌∙◌}
+use mathlib.Core.Bool.{cond}
 use mathlib.Core.List.{List}
 use Prim.Native.Nat.{ℕ, ◌+◌, ◌*◌, ◌≤◌, ◌<◌}
-use native.Mathlib.Nat.{zero-add}
 use native.Mathlib.Omega.{arith}
 use borrow.Author.Tests.{lt-ltb, le-ltb}
 use lib.Dec.{ltb}
@@ -17,7 +16,7 @@ use Rattle.spec_protocol.specs.Parameters.{triangular}
 use Rattle.spec_protocol.specs.Views.{element_at, cell}
 use Rattle.spec_protocol.specs.Formulas.{◌⊕◌, ◌⊗◌, sum, dot, pairs}
 use Rattle.ring_rq_matrix.specs.Region.{vector, gram}
-use Rattle.ring_rq_matrix.proofs.Place.{rows-within, triangle-within}
+use Rattle.ring_rq_matrix.proofs.Place.{rows-within}
 use Rattle.ring_rq_matrix.proofs.Mirror.{triangle-by-rows}
 use Rattle.load_constraints.specs.declared.sums.Target.{Target}
 use Rattle.load_constraints.specs.Sums.{term, terms, plus, Placed, Reduced}

@@ -1,14 +1,13 @@
 -- Laws of sums that are added up where they stand.
 use mathlib.Core.Path.{◌≡◌, refl, sym, ap, ap₂, ◌∙◌}
 use mathlib.Core.List.{List, [], ◌∷◌, ◌++◌, flat_map}
-use Prim.Native.Nat.{ℕ, zero, suc, ◌+◌, ◌*◌, ◌%◌, ◌≤◌, ◌<◌}
-use native.Mathlib.Nat.{mod-eq_of_lt}
+use Prim.Native.Nat.{ℕ, zero, suc, ◌+◌, ◌*◌, ◌≤◌, ◌<◌}
 use native.Mathlib.Omega.{arith}
 use lib.ListN.{length, get_or, take, drop}
 use lib.Seq.{take-add, drop-drop}
 use Rattle.math.specs.lists.Table.{table}
 use Rattle.math.specs.lists.Part.{part, splice}
-use Rattle.math.proofs.lists.Table.{length-table, get_or-table, table_ext, table-suc}
+use Rattle.math.proofs.lists.Table.{length-table, get_or-table, table_ext}
 use Rattle.math.proofs.lists.Fill.{get_or-splice-table, splice-table-same}
 use Rattle.math.proofs.lists.Splice.{length-splice, splice-swap, splice_again, get_or-splice-before, get_or-splice-within, part-splice-before, part-splice-after}
 use Rattle.math.proofs.lists.Splice.{part-splice-same, part-table, length_part, get_d_part}

@@ -49,7 +49,7 @@ module _ (J R W : List ℕ) where
   with_h call e = ap (λ b. first_refusal J W then cond b (h_refusal J R W) fine) (sym e) ∙ work_is call
 
   -- calls that work out h refuse the same, and so do calls that do not
-  pub same-work : (c d : Call) → c.has-h ≡ d.has_h → work J R W c then fine ≡ work J R W d
+  pub same-work : (c d : Call) → c.has_h ≡ d.has_h → work J R W c then fine ≡ work J R W d
   same-work c d e = then_fine (work J R W c) ∙ sym (work_is c) ∙ ap (λ b. first_refusal J W then cond b (h_refusal J R W) fine) e ∙ work_is d
 
 -- what the filling of the scratch for a call answers and leaves

@@ -12,7 +12,7 @@ use Rattle.spec_protocol.specs.Parameters.{Parameters, parameters, T, triangular
 use Rattle.spec_protocol.specs.Layout.{start, job_sections, randomness_sections}
 use Rattle.spec_protocol.specs.Views.{Public, Message, public, message}
 use Rattle.spec_protocol.specs.Formulas.{◌⊕◌, ◌⊗◌, sum, pairs, a_sum, b_sum}
-use Rattle.spec_protocol.specs.Verifier.{same, twice, check_27}
+use Rattle.spec_protocol.specs.Verifier.{twice, check_27}
 use Rattle.ring_rq_matrix.specs.Region.{triangle_at}
 use Rattle.ring_rq_matrix.proofs.Word.{stands_for, words_of-sum}
 use Rattle.ring_rq_matrix.proofs.Formula.{sum_of-a}

@@ -5,7 +5,7 @@ use Rattle.spec_leaves.specs.Rq.{Element}
 use Rattle.ring_inner_product.specs.Run.{run}
 use Rattle.spec_protocol.specs.Checks.{require}
 use Rattle.spec_protocol.specs.Parameters.{Parameters, parameters}
-use Rattle.spec_protocol.specs.Views.{Public, Message, public, message}
+use Rattle.spec_protocol.specs.Views.{Public, public, message}
 use Rattle.spec_protocol.specs.Formulas.{◌⊗◌, sum, dot, pairs, φ_sum}
 use Rattle.spec_protocol.specs.Verifier.{same, twice, check_24, check_25}
 use Rattle.layout_regions.specs.declared.Regions.{Regions}

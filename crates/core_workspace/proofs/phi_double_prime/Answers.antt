@@ -1,0 +1,32 @@
+-- `phi_double_prime` meets its contract.
+use mathlib.Core.Path.{◌∙◌, ap}
+use native.Mathlib.Omega.{arith}
+use Rattle.math.specs.lists.Part.{splice}
+use Rattle.core_workspace.proofs.Ready.{ready-sized}
+use Rattle.core_workspace.proofs.Steps.{φ''_requires, φ''-made}
+use Rattle.core_workspace.proofs.phi_double_prime.Goals as goal
+
+pub of_job-requires : goal.of_job-requires
+of_job-requires c = (ready-sized _ _ _ _ c.requires.0, omega arith)
+
+pub of_randomness-requires : goal.of_randomness-requires
+of_randomness-requires c = (ready-sized _ _ _ _ c.requires.0, omega arith)
+
+pub of_randomness-requires-2 : goal.of_randomness-requires-2
+of_randomness-requires-2 c = (ready-sized _ _ _ _ c.requires.0, omega arith)
+
+pub of_randomness-requires-3 : goal.of_randomness-requires-3
+of_randomness-requires-3 c = (ready-sized _ _ _ _ c.requires.0, omega arith)
+
+pub phi_double_prime-requires : goal.phi_double_prime-requires
+phi_double_prime-requires c =
+    φ''_requires c.args.job.now c.args.randomness.now c.args.scratch.now c.args.params c.args.regions c.requires.0 _ _ _ _ c.requires.1
+    c.of_job.ensures c.of_randomness.ensures c.of_randomness-2.ensures c.of_randomness-3.ensures
+
+pub returns : goal.returns
+returns c =
+    c.phi_double_prime.ensures
+    ∙ ap (splice c.args.scratch.now c.args.regions.phi2)
+    (φ''-made c.args.job.now c.args.randomness.now c.args.scratch.now c.args.params c.args.regions c.requires.0 _ _ _ _
+    c.of_job.ensures c.of_randomness.ensures
+    c.of_randomness-2.ensures c.of_randomness-3.ensures)

@@ -1,0 +1,31 @@
+-- `store_digits` meets its contract.
+use mathlib.Core.Path.{refl, ap, ◌∙◌}
+use native.Mathlib.Omega.{arith}
+use borrow.Author.Rules.{rules}
+use Rattle.math.specs.lists.Part.{splice}
+use Rattle.spec_leaves.specs.Ring.{words}
+use Rattle.verify_many_windows.proofs.DigitLaws.{stored-small, stored_product}
+use Rattle.verify_many_windows.proofs.Products.{stored_row}
+use Rattle.verify_many_windows.proofs.row.store_digits.Goals as goal
+
+pub row_product-product-requires : goal.row_product-product-requires
+row_product-product-requires c =
+    let h = c.requires.digits_held c.if-stored.true in (
+      omega (arith, c.requires.room.0),
+      h.room,
+      stored-small c.args.scratch.now c.args.transcript.now c.args.at c.args.base c.args.d h.held _ c.wide-half.ensures.0 c.requires.room.2
+          (omega arith) c.requires.room.1.few_cells c.requires.room.1.few_parts,
+    )
+
+pub returns-then-stored : goal.returns-then-stored
+returns-then-stored c =
+    let h = c.requires.digits_held c.if-stored.true in
+    c.store.ensures
+    ∙ ap (splice c.args.scratch.now c.args.place)
+    (c.row_product-product.ensures
+    ∙ ap words (stored_product c.args.scratch.now c.args.transcript.now c.args.at c.args.base c.args.d h.held c.args.job.now c.args.m_at _ c.args.k refl))
+
+pub returns-else-stored : goal.returns-else-stored
+returns-else-stored c =
+    let s = c.args in
+    stored_row s.job.now s.transcript.now s.m_at _ s.k s.d s.base s.scratch.now _ s.place refl c.compute_u2.ensures
