@@ -79,7 +79,8 @@ module _ (b parts : ℕ) (e : Element) where
   unfolding flat digit_row
   word_at m j h k =
       sym (get_d_part 0 (flat (table parts row)) (64 * m) 64 j k)
-      ∙ ap (λ w. get_or w j 0) (part_flat_map words 64 length-words (table parts row) m (row 0) (omega (arith, length-table parts row)) ∙ ap words (get_or-table parts row m (row 0) h) ∙ words-digit b e m)
+      ∙ ap (λ w. get_or w j 0) (part_flat_map words 64 length-words (table parts row) m (row 0) (omega (arith, length-table parts row)) ∙ ap words (get_or-table parts row m (row 0) h)
+      ∙ words-digit b e m)
       ∙ get_or-table 64 (λ j. digit b (coeff (words e) j) m) j 0 k
 
   word_is : (i : ℕ) → i < 64 * parts → get_or (flat (table parts row)) i 0 ≡ digit b (coeff (words e) (i % 64)) (i / 64)

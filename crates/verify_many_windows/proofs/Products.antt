@@ -14,7 +14,6 @@ use Rattle.math.specs.lists.Table.{table}
 use Rattle.math.specs.lists.Part.{splice}
 use Rattle.ring_inner_product.specs.Run.{Run, run}
 use Rattle.spec_protocol.specs.Parameters.{Parameters, parameters, triangular}
-use Rattle.spec_protocol.specs.Layout.{start, job_sections}
 use Rattle.spec_protocol.specs.Views.{public, message}
 use Rattle.spec_protocol.specs.Formulas.{◌⊗◌, sum, dot, flat, times, digits_of}
 use Rattle.spec_protocol.specs.Many.{row_product}

@@ -1,6 +1,6 @@
 -- The digits at the start of a window: stored, read, and kept while others are stored.
 use mathlib.Core.Path.{◌≡◌, refl, sym, ap, ap₂, subst, ◌∙◌}
-use mathlib.Core.Bool.{Bool, true, false, cond}
+use mathlib.Core.Bool.{Bool, true, false}
 use mathlib.Core.List.{List, ◌++◌, append_assoc}
 use Prim.Native.Nat.{ℕ, ◌+◌, ◌-◌, ◌*◌, ◌≤◌, ◌<◌}
 use native.Mathlib.Nat.{mul-le-mul_right}
@@ -20,15 +20,15 @@ use Rattle.spec_protocol.specs.Formulas.{flat, rows, triangle, digit_element, di
 use Rattle.spec_protocol.proofs.Flat.{length-flat, length-rows, length-triangle}
 use Rattle.spec_protocol.specs.Many.{many_need, transcript_part, products_at, AllRowsDone}
 use Rattle.ring_rq_matrix.proofs.Place.{rows-within}
-use Rattle.commitments_outer.specs.Cells.{Room, digits_at}
+use Rattle.commitments_outer.specs.Cells.{digits_at}
 use Rattle.commitments_outer.proofs.Formula.{digits, vectors_cells, triangle_cells}
 use Rattle.core_workspace.specs.Holds.{Holds, Unchanged}
-use Rattle.core_workspace.proofs.Holds.{holds-stored, holds-before, holds_after, holds-first, holds-second}
+use Rattle.core_workspace.proofs.Holds.{holds-stored, holds-before, holds-first, holds-second}
 use Rattle.core_workspace.proofs.Unchanged.{unchanged_stored}
 use Rattle.verifier_common.proofs.Sent.{transcript_at}
 use Rattle.verify_many_windows.specs.declared.row.Held.{Held}
 use Rattle.verify_many_windows.specs.Held.{digits_t, digits_g, digits_h, AllHeld}
-use Rattle.verify_many_windows.specs.Digits.{digit_count, Fitting, window_digits, digits_for, Places, AllDigits}
+use Rattle.verify_many_windows.specs.Digits.{digit_count, Fitting, window_digits, digits_for, Places}
 use Rattle.verify_many_windows.proofs.WindowLaws.{done_of, of_done}
 
 -- the words of the digits of so many cells

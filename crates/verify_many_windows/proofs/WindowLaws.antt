@@ -1,5 +1,5 @@
 -- The windows of the scratch and the products in them.
-use mathlib.Core.Path.{◌≡◌, refl, sym, ap, subst, ◌∙◌}
+use mathlib.Core.Path.{◌≡◌, sym, ap, subst, ◌∙◌}
 use mathlib.Core.Bool.{Bool, true}
 use mathlib.Core.List.{List, ◌++◌}
 use Prim.Native.Nat.{ℕ, ◌+◌, ◌-◌, ◌*◌, ◌≤◌, ◌<◌}
@@ -13,7 +13,7 @@ use Rattle.spec_leaves.specs.Rq.{Element}
 use Rattle.spec_protocol.specs.Parameters.{Parameters, parameters}
 use Rattle.spec_protocol.specs.Layout.{scratch_need}
 use Rattle.spec_protocol.specs.Formulas.{flat}
-use Rattle.spec_protocol.specs.Many.{many_need, transcript_part, row_count, row_product, products_at, RowsDone, window}
+use Rattle.spec_protocol.specs.Many.{transcript_part, row_count, row_product, RowsDone, window}
 use Rattle.ring_rq_matrix.proofs.Place.{rows-within}
 use Rattle.relation_env_params.specs.declared.env_params.EnvironmentParameters.{EnvironmentParameters}
 use Rattle.relation_env_params.specs.Parameters.{parameters_of}

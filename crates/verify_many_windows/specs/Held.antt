@@ -1,5 +1,5 @@
 -- The digits of t, g and h of a transcript that are stored in the scratch.
-use Rattle.std.specs.Prelude.{List, [], ℕ, ◌*◌}
+use Rattle.std.specs.Prelude.{List, ℕ, ◌*◌}
 use Rattle.spec_leaves.specs.Rq.{Element}
 use Rattle.spec_protocol.specs.Parameters.{Parameters, parameters, T}
 use Rattle.spec_protocol.specs.Views.{message}

@@ -29,7 +29,13 @@ returns-in-Refused c =
     let a = load_refusal G (length s.job.now) (length s.witness.now) (length s.randomness.now) in
     let r = c.in-Refused.refusal in
     let e = sym (ap of_admitted c.in-Refused.is) ∙ c.admit.ensures.result_value in
-    record { result_value = e; job_after = untouched r a (load_job G s.seed) s.job.now e; witness_after = untouched r a (load_witness G s.seed) s.witness.now e; randomness_after = untouched r a (load_randomness G s.seed) s.randomness.now e }
+    record {
+      result_value = e;
+      job_after = untouched r a (load_job G s.seed) s.job.now e;
+      witness_after = untouched r a (load_witness G s.seed) s.witness.now e;
+      randomness_after = untouched
+          r a (load_randomness G s.seed) s.randomness.now e;
+    }
 
 pub returns-in-Fit : goal.returns-in-Fit
 unfolding job_exit witness_exit randomness_exit
@@ -42,4 +48,11 @@ returns-in-Fit c =
     let e = sym (ap of_admitted c.in-Fit.is)
     ∙ c.admit.ensures.result_value in
     let w = c.work.ensures in
-    let r = room G (length s.job.now) (length s.witness.now) (length s.randomness.now) (sym e) in record { result_value = e; job_after = written a (load_job G s.seed) s.job.now _ e (omega (arith, job-length G s.seed fits, r.job_fits)) w.job_after; witness_after = written a (load_witness G s.seed) s.witness.now _ e (omega (arith, witness-length G s.seed fits, r.witness_fits)) w.witness_after; randomness_after = written a (load_randomness G s.seed) s.randomness.now _ e (omega (arith, randomness-length G s.seed fits, r.randomness_fits)) w.randomness_after }
+    let r = room G (length s.job.now) (length s.witness.now) (length s.randomness.now) (sym e) in record {
+      result_value = e;
+      job_after = written a (load_job G s.seed) s.job.now _ e (omega (arith, job-length G s.seed fits, r.job_fits)) w.job_after;
+      witness_after = written a
+          (load_witness G s.seed) s.witness.now _ e (omega (arith, witness-length G s.seed fits, r.witness_fits)) w.witness_after;
+      randomness_after = written a (load_randomness G s.seed)
+          s.randomness.now _ e (omega (arith, randomness-length G s.seed fits, r.randomness_fits)) w.randomness_after;
+    }

@@ -40,7 +40,14 @@ om_room : (c : After-of_transcript-at)
 om_room c = (found c).om_room c.args.k c.requires.1
 
 pub constant_term-computed-requires : goal.constant_term-computed-requires
-constant_term-computed-requires c = let m = found (goal.at.constant_term-computed-requires c).After-of_transcript-at in record { l_in_bounds = (m.b0_room, psi-room (goal.at.constant_term-computed-requires c).After-of_transcript-at, om_room (goal.at.constant_term-computed-requires c).After-of_transcript-at); projection_in_bounds = (m.projection-room, m.short) }
+constant_term-computed-requires c = let m = found (goal.at.constant_term-computed-requires c).After-of_transcript-at in record {
+  l_in_bounds = (
+    m.b0_room,
+    psi-room (goal.at.constant_term-computed-requires c).After-of_transcript-at,
+    om_room (goal.at.constant_term-computed-requires c).After-of_transcript-at,
+  );
+  projection_in_bounds = (m.projection-room, m.short);
+}
 
 pub returns : goal.returns
 returns c =

@@ -33,7 +33,13 @@ returns-in-Made c =
     let k = weighed _ R W _ _ _ c.requires.0 c.requires.1 _ m.ensures.unchanged _ d _ refl m.result told m.ensures.where_made in
     let g = weighed-given _ R W _ _ _ c.requires.0 _ unchanged k in
     let e = b''-made _ _ _ _ _ g R _ k.phi2 k.a2 k.committed.g refl in
-    let h = c.weigh in record { result_value = gone_on m.result h.result told m.ensures.result_value (h.ensures.result_value ∙ all_answered _ R W _ _ _ c.requires.0 _ unchanged k _ e _ h.ensures.unchanged) (with_h c.args.job.now R W round₄ refl); unchanged = all_unchanged _ R W _ _ _ c.requires.0 _ unchanged k _ e _ h.ensures.unchanged; where_made = where_made h.result (all_made _ R W _ _ _ c.requires.0 _ unchanged k _ e _ h.ensures.unchanged) }
+    let h = c.weigh in record {
+      result_value = gone_on m.result h.result told m.ensures.result_value (h.ensures.result_value
+          ∙ all_answered _ R W _ _ _ c.requires.0 _ unchanged k _ e _ h.ensures.unchanged) (with_h c.args.job.now R W round₄ refl);
+      unchanged = all_unchanged _ R W _ _ _ c.requires.0 _
+          unchanged k _ e _ h.ensures.unchanged;
+      where_made = where_made h.result (all_made _ R W _ _ _ c.requires.0 _ unchanged k _ e _ h.ensures.unchanged);
+    }
 
 pub commit-requires : goal.commit-requires
 commit-requires c = c.requires.0

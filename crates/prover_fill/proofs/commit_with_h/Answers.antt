@@ -31,7 +31,13 @@ returns-in-Made c =
     let W = c.args.witness.now in
     let unchanged = unchanged_φ _ R W _ _ _ c.requires.0 c.requires.1 _ m.ensures.unchanged _ d _ refl in
     let k = weighed _ R W _ _ _ c.requires.0 c.requires.1 _ m.ensures.unchanged _ d _ refl m.result told m.ensures.where_made in
-    let h = c.weigh in record { result_value = gone_on m.result h.result told m.ensures.result_value (h.ensures.result_value ∙ h_answered _ R W _ _ _ c.requires.0 _ unchanged k _ h.ensures.unchanged) (with_h c.args.job.now R W round₄ refl); unchanged = h_unchanged _ R W _ _ _ c.requires.0 _ unchanged k _ h.ensures.unchanged; where_made = where_made h.result (h-aggregated _ R W _ _ _ c.requires.0 _ unchanged k _ h.ensures.unchanged) }
+    let h = c.weigh in record {
+      result_value = gone_on m.result h.result told m.ensures.result_value (h.ensures.result_value
+          ∙ h_answered _ R W _ _ _ c.requires.0 _ unchanged k _ h.ensures.unchanged) (with_h c.args.job.now R W round₄ refl);
+      unchanged = h_unchanged _ R W _ _ _ c.requires.0 _ unchanged k _
+          h.ensures.unchanged;
+      where_made = where_made h.result (h-aggregated _ R W _ _ _ c.requires.0 _ unchanged k _ h.ensures.unchanged);
+    }
 
 pub commit-requires : goal.commit-requires
 commit-requires c = c.requires.0

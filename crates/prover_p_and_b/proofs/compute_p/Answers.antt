@@ -38,7 +38,8 @@ stored : (c : After-project_run)
 stored c =
     section_stored c.args.output.now c.project_run.new.out c.args.at 256
     (p_in (parameters_of c.args.params) c.args.randomness.now c.args.witness.now) _ c.project_run.ensures
-    (ap (λ a. Jl.run c.args.randomness.now a c.args.witness.now 1 c.args.params.rank 0 c.args.params.multiplicity) c.of_randomness-pi_at.ensures) (size c.before.before.before.before.before.before.before)
+    (ap (λ a. Jl.run c.args.randomness.now a c.args.witness.now 1 c.args.params.rank 0 c.args.params.multiplicity) c.of_randomness-pi_at.ensures)
+    (size c.before.before.before.before.before.before.before)
 
 -- the place after the section
 last : (at n : ℕ) → at + 1 + 256 ≤ n → n < 2 ^ 64 → at + 257 < 2 ^ 64

@@ -177,7 +177,8 @@ pub add-requires-2 : goal.add-requires-2
 add-requires-2 c = small c.add.result.hi c.digits_norm-g.result.norm.hi 1048577 524288 (add_hi (goal.at.add-requires-2 c).After-add) (g_hi (goal.at.add-requires-2 c).After-digits_norm-h) (omega arith)
 
 pub add-sum-requires : goal.add-sum-requires
-add-sum-requires c = small c.add-2.result.hi c.digits_norm-h.result.norm.hi 1572866 524288 (add2_hi (goal.at.add-sum-requires c).After-add-2) (h_hi (goal.at.add-sum-requires c).After-digits_norm-h) (omega arith)
+add-sum-requires c = small c.add-2.result.hi c.digits_norm-h.result.norm.hi 1572866 524288 (add2_hi (goal.at.add-sum-requires c).After-add-2)
+    (h_hi (goal.at.add-sum-requires c).After-digits_norm-h) (omega arith)
 
 pub overflow_add-result : goal.overflow_add-result
 overflow_add-result c =

@@ -71,10 +71,18 @@ same_words-requires c =
     )
 
 pub returns-then-same_words : goal.returns-then-same_words
-returns-then-same_words c = record { result_value = ap (λ t. cond t fine (failed 29 [])) (sym c.if-same_words.true) ∙ answer (goal.at.returns-then-same_words c).After-same_words; unchanged = unchanged (goal.at.returns-then-same_words c).After-compute_u2 }
+returns-then-same_words c = record {
+  result_value = ap (λ t. cond t fine (failed 29 [])) (sym c.if-same_words.true)
+      ∙ answer (goal.at.returns-then-same_words c).After-same_words;
+  unchanged = unchanged (goal.at.returns-then-same_words c).After-compute_u2;
+}
 
 pub returns-else-same_words : goal.returns-else-same_words
-returns-else-same_words c = record { result_value = ap (λ t. cond t fine (failed 29 [])) (sym c.if-same_words.false) ∙ answer (goal.at.returns-else-same_words c).After-same_words; unchanged = unchanged (goal.at.returns-else-same_words c).After-compute_u2 }
+returns-else-same_words c = record {
+  result_value = ap (λ t. cond t fine (failed 29 [])) (sym c.if-same_words.false)
+      ∙ answer (goal.at.returns-else-same_words c).After-same_words;
+  unchanged = unchanged (goal.at.returns-else-same_words c).After-compute_u2;
+}
 
 pub shape_of-scratch-then-same_words : goal.shape_of-scratch-then-same_words
 shape_of-scratch-then-same_words c = size (goal.at.shape_of-scratch-then-same_words c).After-compute_u2

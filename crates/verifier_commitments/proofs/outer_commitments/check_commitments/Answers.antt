@@ -10,7 +10,11 @@ use Rattle.verifier_commitments.proofs.outer_commitments.check_commitments.Goals
 pub returns-in_default : goal.returns-in_default
 returns-in_default c =
     let s = c.args in
-    record { result_value = stops c.check_first_commitment-first.result c.check_first_commitment-first.ensures.result_value (opened c.in_default.in_default-own.keys2) (second_commitment s.job.now s.transcript.now); unchanged = c.check_first_commitment-first.ensures.unchanged }
+    record {
+      result_value = stops c.check_first_commitment-first.result c.check_first_commitment-first.ensures.result_value (opened c.in_default.in_default-own.keys2)
+          (second_commitment s.job.now s.transcript.now);
+      unchanged = c.check_first_commitment-first.ensures.unchanged;
+    }
 
 pub check_second_commitment-requires : goal.check_second_commitment-requires
 check_second_commitment-requires c =
@@ -20,7 +24,12 @@ pub returns : goal.returns
 returns c =
     let s = c.args in
     let e = c.check_second_commitment.ensures in
-    let g = c.check_first_commitment-first.ensures in record { result_value = e.result_value ∙ goes_on c.check_first_commitment-first.result g.result_value c.in-Passed.is (second_commitment s.job.now s.transcript.now); unchanged = unchanged_trans _ s.scratch.now _ _ g.unchanged e.unchanged }
+    let g = c.check_first_commitment-first.ensures in record {
+      result_value = e.result_value
+          ∙ goes_on c.check_first_commitment-first.result g.result_value c.in-Passed.is (second_commitment s.job.now s.transcript.now);
+      unchanged = unchanged_trans _ s.scratch.now _ _
+          g.unchanged e.unchanged;
+    }
 
 pub check_first_commitment-first-requires : goal.check_first_commitment-first-requires
 check_first_commitment-first-requires c = c.requires

@@ -22,7 +22,11 @@ bounded c =
 pub returns-in_default : goal.returns-in_default
 returns-in_default c =
     let s = c.args in
-    record { result_value = stops c.check_t_and_g-bounds.result (bounded (goal.at.returns-in_default c).After-check_t_and_g-bounds) (opened c.in_default.in_default-own.keys2) (u1_differs s.job.now s.transcript.now); unchanged = unchanged_refl _ _ }
+    record {
+      result_value = stops c.check_t_and_g-bounds.result (bounded (goal.at.returns-in_default c).After-check_t_and_g-bounds) (opened c.in_default.in_default-own.keys2)
+          (u1_differs s.job.now s.transcript.now);
+      unchanged = unchanged_refl _ _;
+    }
 
 pub returns : goal.returns
 returns c =

@@ -49,7 +49,14 @@ loop-k-init c =
 pub constant_term-computed-requires : goal.constant_term-computed-requires
 constant_term-computed-requires c =
     let m = c.loop-k.invariant.2 in
-    record { l_in_bounds = (m.b0_room, psi-room (goal.at.constant_term-computed-requires c).In-loop-k, om_room (goal.at.constant_term-computed-requires c).In-loop-k); projection_in_bounds = (m.projection-room, m.short) }
+    record {
+      l_in_bounds = (
+        m.b0_room,
+        psi-room (goal.at.constant_term-computed-requires c).In-loop-k,
+        om_room (goal.at.constant_term-computed-requires c).In-loop-k,
+      );
+      projection_in_bounds = (m.projection-room, m.short);
+    }
 
 pub returns-then-sent-computed : goal.returns-then-sent-computed
 returns-then-sent-computed c =

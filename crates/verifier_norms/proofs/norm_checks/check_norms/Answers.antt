@@ -24,7 +24,8 @@ answer_22 : (c : After-check_constant_terms-second)
     of_checked c.check_constant_terms-second.result ≡ projection_norm (parameters s.job.now) s.transcript.now then constant_terms s.job.now s.randomness.now s.transcript.now
 answer_22 c =
     let s = c.args in
-    c.check_constant_terms-second.ensures ∙ goes_on c.check_projection_norm-first.result (c.check_projection_norm-first.ensures ∙ ap (λ (P : Parameters). projection_norm P s.transcript.now) c.requires.posed.same) c.in-Passed.is
+    c.check_constant_terms-second.ensures ∙ goes_on c.check_projection_norm-first.result (c.check_projection_norm-first.ensures
+    ∙ ap (λ (P : Parameters). projection_norm P s.transcript.now) c.requires.posed.same) c.in-Passed.is
     (constant_terms s.job.now s.randomness.now s.transcript.now)
 
 pub returns-in_default : goal.returns-in_default
@@ -45,7 +46,11 @@ returns-in_default-second c =
     let v = c.check_constant_terms-second.result in
     let k = (opened c.in_default-second.in_default-second-own.keys2) in
     let e = c.before_digits-in_default-second.ensures in
-    record { checked_value = ap of_checked e ∙ stops v (answer_22 (goal.at.returns-in_default-second c).After-check_constant_terms-second) k (norm_sum (parameters s.job.now) s.transcript.now); taken_if = λ passed. never_passed v k (sym e ∙ passed) }
+    record {
+      checked_value = ap of_checked e ∙ stops v (answer_22 (goal.at.returns-in_default-second c).After-check_constant_terms-second) k
+          (norm_sum (parameters s.job.now) s.transcript.now);
+      taken_if = λ passed. never_passed v k (sym e ∙ passed);
+    }
 
 pub returns : goal.returns
 returns c =

@@ -53,7 +53,12 @@ returns-in_default c =
     let a = (goal.at.returns-in_default c).After-check_az-first in
     let m = drawn (goal.at.returns-in_default c).After-generate_challenges in
     let s = c.args in
-    record { result_value = stops c.check_az-first.result (az_is a) (opened c.in_default.in_default-own.keys2) (z_inner s.job.now s.randomness.now s.transcript.now); unchanged = m.unchanged; challenged = m.holds }
+    record {
+      result_value = stops c.check_az-first.result (az_is a) (opened c.in_default.in_default-own.keys2) (z_inner s.job.now s.randomness.now s.transcript.now);
+      unchanged =
+          m.unchanged;
+      challenged = m.holds;
+    }
 
 pub returns : goal.returns
 returns c =

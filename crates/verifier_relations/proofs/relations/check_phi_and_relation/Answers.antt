@@ -42,7 +42,11 @@ a-requires c =
 pub returns-in_default : goal.returns-in_default
 returns-in_default c =
     let s = c.args in
-    record { result_value = stops c.check_phi-first.result (phi_is (goal.at.returns-in_default c).After-check_phi-first) (opened c.in_default.in_default-own.keys2) (relation s.job.now s.randomness.now s.transcript.now); unchanged = unchanged_refl _ _ }
+    record {
+      result_value = stops c.check_phi-first.result (phi_is (goal.at.returns-in_default c).After-check_phi-first) (opened c.in_default.in_default-own.keys2)
+          (relation s.job.now s.randomness.now s.transcript.now);
+      unchanged = unchanged_refl _ _;
+    }
 
 pub returns : goal.returns
 returns c =

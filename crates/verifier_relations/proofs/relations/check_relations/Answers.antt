@@ -12,7 +12,11 @@ use Rattle.verifier_relations.proofs.relations.check_relations.Goals as goal
 pub returns-in_default : goal.returns-in_default
 returns-in_default c =
     let s = c.args in
-    record { result_value = stops c.check_openings-first.result c.check_openings-first.ensures.result_value (opened c.in_default.in_default-own.keys2) (aggregated s.job.now s.randomness.now s.transcript.now); unchanged = c.check_openings-first.ensures.unchanged }
+    record {
+      result_value = stops c.check_openings-first.result c.check_openings-first.ensures.result_value (opened c.in_default.in_default-own.keys2)
+          (aggregated s.job.now s.randomness.now s.transcript.now);
+      unchanged = c.check_openings-first.ensures.unchanged;
+    }
 
 pub check_aggregated-requires : goal.check_aggregated-requires
 check_aggregated-requires c =

@@ -1,20 +1,10 @@
 -- `product_by_forms` meets its contract. The invariant: the total is the product with the digits of the first c cells.
-use mathlib.Core.Path.{◌≡◌, refl, sym, ap, ap₂, subst, ◌∙◌}
-use mathlib.Core.List.{List}
-use Prim.Native.Nat.{ℕ, ◌+◌, ◌-◌, ◌*◌, ◌≤◌, ◌<◌, ◌^◌}
-use native.Mathlib.Omega.{arith}
-use borrow.Author.Rules.{rules}
+use mathlib.Core.Path.{◌≡◌}
+use Prim.Native.Nat.{◌+◌, ◌-◌, ◌*◌, ◌≤◌}
 use lib.ListN.{length}
-use Rattle.math.specs.lists.Part.{part, splice}
-use Rattle.math.proofs.lists.Splice.{length-splice, length_part}
 use Rattle.spec_leaves.specs.Ring.{words}
 use Rattle.ring_inner_product.specs.Run.{run}
 use Rattle.spec_protocol.specs.Formulas.{dot}
-use Rattle.ring_rq_matrix.proofs.Place.{rows-within}
-use Rattle.core_aggregate.proofs.Grid.{row-run}
-use Rattle.ring_digit_products.specs.Forms.{SmallDigits, DigitForms}
-use Rattle.ring_digit_products.proofs.Shifted.{formed}
-use Rattle.verify_many_windows.proofs.DigitLaws.{product_none, product_next}
 use Rattle.verify_many_windows.proofs.digits.product_by_forms.Given as goal
 
 abbrev pub invariant-loop-c : goal.invariant-loop-c

@@ -1,6 +1,5 @@
 -- `row_product` meets its contract: the forms have room in what is lent.
 use native.Mathlib.Omega.{arith}
-use borrow.Author.Rules.{rules}
 use Rattle.verify_many_windows.proofs.digits.row_product.Goals as goal
 
 pub product_by_forms-requires : goal.product_by_forms-requires

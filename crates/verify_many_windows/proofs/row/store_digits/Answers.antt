@@ -1,7 +1,6 @@
 -- `store_digits` meets its contract.
 use mathlib.Core.Path.{refl, ap, ◌∙◌}
 use native.Mathlib.Omega.{arith}
-use borrow.Author.Rules.{rules}
 use Rattle.math.specs.lists.Part.{splice}
 use Rattle.spec_leaves.specs.Ring.{words}
 use Rattle.verify_many_windows.proofs.DigitLaws.{stored-small, stored_product}

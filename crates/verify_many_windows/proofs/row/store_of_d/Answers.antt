@@ -1,7 +1,6 @@
 -- `store_of_d` meets its contract.
 use mathlib.Core.Path.{ap, ◌∙◌}
 use native.Mathlib.Omega.{arith}
-use borrow.Author.Rules.{rules}
 use Rattle.math.specs.lists.Part.{splice}
 use Rattle.spec_leaves.specs.Ring.{words}
 use Rattle.verifier_common.proofs.Sent.{reckoned, received}

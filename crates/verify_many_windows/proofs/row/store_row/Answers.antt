@@ -1,7 +1,6 @@
 -- `store_row` meets its contract: the row is one of A, of B, of C or of D.
 use mathlib.Core.Path.{ap, ◌∙◌}
 use native.Mathlib.Omega.{arith}
-use borrow.Author.Rules.{rules}
 use Rattle.math.specs.lists.Part.{splice}
 use Rattle.spec_leaves.specs.Ring.{words}
 use Rattle.verifier_common.proofs.Sent.{reckoned}

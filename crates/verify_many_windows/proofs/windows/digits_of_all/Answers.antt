@@ -28,7 +28,11 @@ loop-m-init c =
 pub digits_of_one-requires : goal.digits_of_one-requires
 digits_of_one-requires c =
     let l = c.loop-m in
-    let b = bounds (goal.at.digits_of_one-requires c).In-loop-m in record { m_lt_count = (c.loop-m-test.true, b.2, omega (arith, b, l.invariant.1, l.invariant.3.size, c.scratch_length-need.ensures, c.requires.rowable.1)); received = λ t. part_received _ _ _ _ _ _ c.requires.rowable.0 _ c.loop-m-test.true t }
+    let b = bounds (goal.at.digits_of_one-requires c).In-loop-m in record {
+      m_lt_count = (c.loop-m-test.true, b.2, omega (arith, b, l.invariant.1, l.invariant.3.size, c.scratch_length-need.ensures, c.requires.rowable.1));
+      received = λ t. part_received _ _
+          _ _ _ _ c.requires.rowable.0 _ c.loop-m-test.true t;
+    }
 
 pub loop-m-preserved : goal.loop-m-preserved
 loop-m-preserved c =

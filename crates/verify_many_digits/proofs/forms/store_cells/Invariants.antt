@@ -1,0 +1,27 @@
+-- `store_cells` meets its contract. The invariant: the digits of the first c cells are stored in NTT form.
+use mathlib.Core.Path.{◌≡◌}
+use mathlib.Core.List.{List}
+use Prim.Native.Nat.{ℕ, ◌+◌, ◌-◌, ◌*◌, ◌≤◌}
+use lib.ListN.{length}
+use Rattle.math.specs.lists.Table.{table, cat}
+use Rattle.math.specs.lists.Part.{splice}
+use Rattle.spec_leaves.specs.Rq.{Element}
+use Rattle.ring_inner_product.specs.Run.{run}
+use Rattle.spec_protocol.specs.Formulas.{flat, digit_element}
+use Rattle.ntt_vectors.specs.NttForm.{ntt_words}
+use Rattle.verify_many_digits.proofs.forms.store_cells.Given as goal
+
+-- the digits of cell i
+abbrev pub cell-digits : (base parts : ℕ) → List ℕ → ℕ → ℕ → List Element
+cell-digits base parts from at i = table parts (digit_element base (run from at 64 i))
+
+abbrev pub invariant-loop-c : goal.invariant-loop-c
+invariant-loop-c l =
+    (l.c ≤ l.cells)
+    × (l.at ≡ l.initial.at + 64 * l.c)
+    × (l.place ≡ l.to_at + 192 * (l.c * l.parts))
+    × (l.to ≡ splice l.initial.to l.to_at (ntt_words (flat (cat l.c (cell-digits l.base l.parts l.from l.initial.at))) 0 (l.c * l.parts)))
+    × (length l.to ≡ length l.initial.to)
+
+abbrev pub decreases-loop-c : goal.decreases-loop-c
+decreases-loop-c l = l.cells - l.c
