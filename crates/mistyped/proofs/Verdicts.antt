@@ -1,18 +1,18 @@
 -- What a verdict comes to: 14 to 16 stay, 22 asks for the list, and any other is a 32.
 use mathlib.Core.Path.{◌≡◌, refl, sym, ap, ◌∙◌}
 use mathlib.Core.Logic.{inl, inr}
-use mathlib.Core.List.{List, [], ◌∷◌}
+use mathlib.Core.List.{[], ◌∷◌}
 use Prim.Native.Nat.{ℕ, ◌<◌}
 use native.Mathlib.Omega.{arith}
 use denote.Enum.Declared.{tag_of}
 use types.Run.{OneOf}
 use Rattle.spec_leaves.specs.contracts.answers.FailedCheck.{the_type}
-use Rattle.spec_leaves.specs.Answer.{Answer, accepted, refused, failed, number, result_of, of_refusal, of_failed}
+use Rattle.spec_leaves.specs.Answer.{Answer, accepted, refused, number, of_refusal, of_failed}
 use Rattle.spec_leaves.specs.declared.answers.Refusal.{Refusal}
 use Rattle.spec_leaves.specs.declared.answers.Refusal.TheVariants as R
 use Rattle.spec_leaves.specs.declared.answers.FailedCheck.{FailedCheck}
 use Rattle.spec_leaves.specs.declared.answers.FailedCheck.TheVariants as F
-use Rattle.spec_protocol.specs.Mistyped.{Entry, judged}
+use Rattle.spec_protocol.specs.Mistyped.{judged}
 
 -- a refusal's number and place
 pub record Numbered (r : Refusal) : Type 0 where

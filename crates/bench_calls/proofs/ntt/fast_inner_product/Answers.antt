@@ -1,0 +1,10 @@
+-- `fast_inner_product` meets its contract.
+use mathlib.Core.Path.{◌∙◌, ap}
+use Rattle.bench_calls.specs.Repeated.{repeated}
+use Rattle.bench_calls.proofs.ntt.fast_inner_product.Goals as goal
+
+pub returns : goal.returns
+returns c = c.without_ntt_form.ensures ∙ ap (λ m. repeated m c.args.a.coeffs c.args.b.coeffs) c.terms.ensures.0
+
+pub without_ntt_form-requires : goal.without_ntt_form-requires
+without_ntt_form-requires c = c.terms.ensures.1

@@ -1,0 +1,72 @@
+use mathlib.Core.Path.{refl, sym, ap, subst, ◌∙◌}
+use mathlib.Core.Bool.{false}
+use Prim.Native.Nat.{◌+◌, ◌*◌, ◌≤◌}
+use native.Mathlib.Omega.{arith}
+use lib.ListN.{length, get_or}
+use Rattle.spec_protocol.specs.Parameters.{parameters}
+use Rattle.spec_protocol.specs.Many.{many_need, transcript_part}
+use Rattle.relation_env_params.specs.Parameters.{parameters_of}
+use Rattle.core_workspace.proofs.Unchanged.{unchanged_refl}
+use Rattle.verify_many_windows.proofs.WindowLaws.{rowable_sized, part_received, need_is, need_large, window-within}
+use Rattle.verify_many_digits.proofs.FormLaws.{begun_none, begun_next}
+use Rattle.verify_many_rows.specs.NttForm.{z_at, z_for, NttFormZ}
+use Rattle.verify_many_rows.proofs.ARowLaws.{z_fits}
+use Rattle.verify_many_rows.proofs.a_rows.all_to_ntt_form.Goals.{In-loop-m}
+use Rattle.verify_many_rows.proofs.a_rows.all_to_ntt_form.Goals as goal
+
+-- window m lies within the scratch
+bounds : (c : In-loop-m)
+    → let s = c.args in
+    (4096 ≤ c.scratch_length-need.result)
+    × (c.loop-m.m * c.scratch_length-need.result + c.scratch_length-need.result ≤ length s.scratch.now) × (s.count ≤ 8)
+bounds c =
+    let n = c.scratch_length-need in
+    (need_large _ _ _ _ _ _ c.requires.w_value.1 _ n.ensures, window-within _ _ _ _ _ _ c.requires.w_value.1 _ n.ensures _ c.loop-m-test.true, c.requires.w_value.1.few)
+
+pub loop-m-init : goal.loop-m-init
+loop-m-init c =
+    (omega arith, omega arith, begun_none _ _ _ _ _ _ _ _ c.args.scratch.now c.requires.all_rows_done, unchanged_refl _ _)
+
+pub one_to_ntt_form-requires : goal.one_to_ntt_form-requires
+one_to_ntt_form-requires c =
+    let l = c.loop-m in
+    let b = bounds (goal.at.one_to_ntt_form-requires c).In-loop-m in
+    let fits = z_fits (parameters_of c.args.params) (rowable_sized _ _ _ _ _ _ c.requires.w_value.1).within in record { w_value = (c.requires.w_value.0, c.loop-m-test.true, b.2, omega (arith, b, fits, l.invariant.1, l.invariant.3.size, c.scratch_length-need.ensures)); received = λ t. part_received _ _ _ _ _ _ c.requires.w_value.1 _ c.loop-m-test.true t }
+
+pub loop-m-preserved : goal.loop-m-preserved
+loop-m-preserved c =
+    let l = c.loop-m in
+    let n = c.scratch_length-need in
+    let h = c.loop-m-test.true in
+    let at = l.invariant.1 ∙ ap (λ k. l.m * k) (need_is _ _ _ _ _ _ c.requires.w_value.1 _ n.ensures) in
+    let room = subst (λ k. many_need (parameters c.args.job.now) c.args.count ≤ k) (sym l.invariant.3.size) c.requires.w_value.1.room in
+    let e = c.one_to_ntt_form.ensures in
+    let J = c.args.job.now in
+    let T = c.args.transcripts.now in
+    let next =
+    begun_next J T c.args.count _ 0 (transcript_part (parameters J) c.args.count T) (z_at (parameters J)) (parameters J).n (z_fits (parameters J) c.requires.w_value.1.sound.within)
+    c.args.scratch.now l.scratch _ l.m l.start room h at _ refl
+    (e.scratch_after ∙ ap (λ P. z_for P T c.args.count l.m l.start (get_or c.args.passes l.m false) l.scratch) c.requires.w_value.1.same)
+    (λ t. subst (λ P. NttFormZ P T c.args.count l.m l.start c.one_to_ntt_form.new.scratch) c.requires.w_value.1.same (e.ntt_form_z t)) (l.invariant.2, l.invariant.3) in
+    (omega arith, omega (arith, l.invariant.1), next.0, next.1)
+
+pub returns : goal.returns
+returns c =
+    let l = c.loop-m in
+    let b = l.invariant.2 in
+    record { all_rows_done_2 = b.done; all_z = λ i h t. b.forms i (omega arith) h t; unchanged = l.invariant.3 }
+
+pub scratch_length-need-requires : goal.scratch_length-need-requires
+scratch_length-need-requires c = rowable_sized _ _ _ _ _ _ c.requires.w_value.1
+
+pub bounds-passes-m : goal.bounds-passes-m
+bounds-passes-m c = omega (arith, bounds (goal.at.bounds-passes-m c).In-loop-m)
+
+pub overflow_add-start : goal.overflow_add-start
+overflow_add-start c = omega (arith, bounds (goal.at.overflow_add-start c).In-loop-m, c.loop-m.invariant.1)
+
+pub overflow_add-m : goal.overflow_add-m
+overflow_add-m c = omega (arith, bounds (goal.at.overflow_add-m c).In-loop-m)
+
+pub shape_of-scratch : goal.shape_of-scratch
+shape_of-scratch c = c.loop-m.invariant.3.size
