@@ -26,7 +26,7 @@ first_is s = ap (λ (Q : Parameters). Q.κ) (sym s.requires.rowable.same)
 
 -- the digits have room where `fits` says so
 fitting : (c : Then-fits) → Fitting (parameters_of c.args.params)
-fitting c = leb-true _ _ (sym c.before.fits2.ensures ∙ c.if-fits.true)
+fitting c = leb-true _ _ (sym c.fits.ensures ∙ c.if-fits.true)
 
 pub digits_of_all-requires : goal.digits_of_all-requires
 digits_of_all-requires c =

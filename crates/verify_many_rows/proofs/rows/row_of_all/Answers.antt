@@ -1,20 +1,17 @@
-use mathlib.Core.Path.{◌≡◌, refl, sym, ap, subst, ◌∙◌}
-use mathlib.Core.Bool.{false}
-use Prim.Native.Nat.{◌+◌, ◌-◌, ◌*◌, ◌≤◌, ◌<◌}
+use mathlib.Core.Path.{refl, sym, ap, subst, ◌∙◌}
+use Prim.Native.Nat.{◌+◌, ◌*◌, ◌≤◌, ◌<◌}
 use native.Mathlib.Omega.{arith}
-use borrow.Author.Rules.{rules}
-use lib.ListN.{length, get_or}
+use lib.ListN.{length}
 use mir.Syntax.{w64}
 use mir.Val.{Fits}
 use Rattle.spec_protocol.specs.Parameters.{parameters}
-use Rattle.spec_protocol.specs.Unchanged.{Unchanged}
 use Rattle.spec_protocol.specs.Many.{many_need, transcript_part}
 use Rattle.core_workspace.specs.Holds.{Holds}
 use Rattle.core_workspace.proofs.Unchanged.{unchanged_refl}
-use Rattle.verify_many_windows.specs.Digits.{Places, StoredDigits, window_digits}
+use Rattle.verify_many_windows.specs.Digits.{Places, window_digits}
 use Rattle.verify_many_windows.proofs.WindowLaws.{rowable_sized, posed, few-rows, need_is, need_large, window-within, place_is}
 use Rattle.verify_many_windows.proofs.WindowDigits.{held_all}
-use Rattle.verify_many_windows.proofs.Progress.{Progress, progress_none, progress_all, progress_next}
+use Rattle.verify_many_windows.proofs.Progress.{progress_none, progress_all, progress_next}
 use Rattle.verify_many_rows.proofs.Windows.{digits_stay}
 use Rattle.verify_many_rows.proofs.rows.row_of_all.Goals.{In-loop-m}
 use Rattle.verify_many_rows.proofs.rows.row_of_all.Goals as goal

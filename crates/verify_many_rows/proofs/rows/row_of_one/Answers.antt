@@ -1,9 +1,7 @@
 -- `row_of_one` meets its contract: the words between the part's bounds are the transcript.
 use mathlib.Core.Path.{◌≡◌, sym, ap, subst, ◌∙◌}
-use mathlib.Core.List.{List}
-use Prim.Native.Nat.{ℕ, ◌-◌, ◌≤◌}
+use Prim.Native.Nat.{◌-◌, ◌≤◌}
 use native.Mathlib.Omega.{arith}
-use borrow.Author.Rules.{rules}
 use lib.ListN.{length}
 use Rattle.math.specs.lists.Part.{part, splice}
 use Rattle.spec_leaves.specs.Ring.{words}
@@ -40,7 +38,7 @@ lent : (c : After-transcript_bounds-b)
 lent c =
     let s = c.args in
     between s.transcripts.now (span (transcript_sections (parameters_of s.params))) s.count s.m c.transcript_bounds-b.result c.transcript_bounds-b.ensures
-    ∙ ap (λ P. transcript_part P s.count s.transcripts.now s.m) (posed c.before).same
+    ∙ ap (λ P. transcript_part P s.count s.transcripts.now s.m) (c.requires.posed c.if-pass.true).same
 
 pub transcript_bounds-b-requires : goal.transcript_bounds-b-requires
 transcript_bounds-b-requires c =

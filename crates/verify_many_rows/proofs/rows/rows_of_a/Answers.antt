@@ -1,7 +1,6 @@
 -- `rows_of_a` meets its contract.
 use mathlib.Core.Path.{ap}
 use native.Mathlib.Omega.{arith}
-use borrow.Author.Rules.{rules}
 use Rattle.spec_protocol.specs.Parameters.{Parameters}
 use Rattle.verify_many_rows.proofs.Windows.{rows_to, none-stored}
 use Rattle.verify_many_rows.proofs.rows.rows_of_a.Goals as goal

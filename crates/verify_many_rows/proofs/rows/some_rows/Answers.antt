@@ -1,13 +1,9 @@
 use mathlib.Core.Path.{sym, subst}
 use mathlib.Core.Bool.{false}
-use Prim.Native.Nat.{◌-◌, ◌≤◌}
+use Prim.Native.Nat.{◌≤◌}
 use native.Mathlib.Omega.{arith}
 use lib.ListN.{get_or}
-use Rattle.spec_protocol.specs.Parameters.{parameters}
-use Rattle.spec_protocol.specs.Unchanged.{Unchanged}
-use Rattle.spec_protocol.specs.Many.{many_need, AllRowsDone}
 use Rattle.core_workspace.proofs.Unchanged.{unchanged_refl, unchanged_trans}
-use Rattle.verify_many_windows.specs.Digits.{StoredDigits}
 use Rattle.verify_many_windows.proofs.WindowLaws.{few-rows}
 use Rattle.verify_many_rows.specs.Rows.{Rowable}
 use Rattle.verify_many_rows.proofs.Windows.{rows_to}

@@ -1,17 +1,11 @@
 -- `some_rows` meets its contract. The invariant: the products of the rows so far are done for every transcript that passes, and those of later rows are zero.
-use mathlib.Core.Path.{sym, subst}
 use mathlib.Core.Bool.{false}
 use Prim.Native.Nat.{◌-◌, ◌≤◌}
-use native.Mathlib.Omega.{arith}
 use lib.ListN.{get_or}
 use Rattle.spec_protocol.specs.Parameters.{parameters}
 use Rattle.spec_protocol.specs.Unchanged.{Unchanged}
 use Rattle.spec_protocol.specs.Many.{many_need, AllRowsDone}
-use Rattle.core_workspace.proofs.Unchanged.{unchanged_refl, unchanged_trans}
 use Rattle.verify_many_windows.specs.Digits.{StoredDigits}
-use Rattle.verify_many_windows.proofs.WindowLaws.{few-rows}
-use Rattle.verify_many_rows.specs.Rows.{Rowable}
-use Rattle.verify_many_rows.proofs.Windows.{rows_to}
 use Rattle.verify_many_rows.proofs.rows.some_rows.Given as goal
 
 abbrev pub invariant-loop-row : goal.invariant-loop-row
