@@ -9,11 +9,11 @@ use Rattle.spec_leaves.specs.declared.answers.Refusal.{Refusal}
 use Rattle.spec_leaves.specs.declared.answers.Proved.{Proved}
 use Rattle.spec_leaves.specs.declared.answers.Proved.TheVariants as P
 use Rattle.spec_leaves.specs.declared.answers.Verdict.{Verdict}
-use Rattle.spec_leaves.specs.Answer.{Answer, fine, refused, result_of, ◌then◌, of_refusal, of_proved, of_verdict}
+use Rattle.spec_leaves.specs.Answer.{fine, refused, result_of, ◌then◌, of_refusal, of_proved, of_verdict}
 use Rattle.spec_protocol.specs.Parameters.{parameters}
-use Rattle.spec_protocol.specs.Layout.{span, sections, transcript_sections, job_refusal, scratch_need}
+use Rattle.spec_protocol.specs.Layout.{span, transcript_sections, job_refusal, scratch_need}
 use Rattle.spec_protocol.specs.Views.{public, witness}
-use Rattle.spec_protocol.specs.Prover.{whole, transcript, zeroed, prove, prove_refusal, prove_output, prove_scratch}
+use Rattle.spec_protocol.specs.Prover.{whole, zeroed, prove, prove_output, prove_scratch}
 use Rattle.spec_protocol.specs.Verifier.{verify, verify_refusal, verify_scratch}
 use Rattle.spec_protocol.specs.Conditions.{conditions, Demand3}
 use Rattle.spec_protocol.proofs.Fine.{require-holds, then_both_fine}

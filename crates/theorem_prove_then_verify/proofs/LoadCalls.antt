@@ -1,5 +1,5 @@
 -- A test load, then the prover, then the verifier, from what the three calls' contracts ensure alone: a transcript is made, and it is accepted.
-use mathlib.Core.Path.{◌≡◌, sym, ap, subst, ◌∙◌}
+use mathlib.Core.Path.{◌≡◌, sym, ap, ◌∙◌}
 use mathlib.Core.List.{List}
 use Prim.Native.Nat.{ℕ, ◌≤◌, ◌<◌, ◌^◌}
 use lib.ListN.{length, take, drop}
@@ -8,7 +8,6 @@ use Rattle.spec_leaves.specs.declared.answers.Proved.{Proved}
 use Rattle.spec_leaves.specs.declared.answers.Proved.TheVariants as P
 use Rattle.spec_leaves.specs.declared.answers.Verdict.{Verdict}
 use Rattle.spec_leaves.specs.Answer.{fine, accepted, of_proved, of_verdict}
-use Rattle.spec_protocol.specs.Parameters.{parameters}
 use Rattle.spec_protocol.specs.Layout.{span, transcript_sections, scratch_need}
 use Rattle.spec_protocol.specs.Prover.{whole, prove, prove_output}
 use Rattle.spec_protocol.specs.Views.{public}
@@ -16,7 +15,6 @@ use Rattle.spec_protocol.specs.Verifier.{verify}
 use Rattle.spec_protocol.specs.Conditions.{cells_left}
 use Rattle.spec_protocol.specs.Load.{Given, load_parameters, needs_refusal, load_refusal, load_job, load_witness, load_randomness, load_vectors, loaded, job_need, witness_need, randomness_need}
 use Rattle.spec_protocol.proofs.Fine.{then_fine_left}
-use Rattle.spec_protocol.proofs.LoadJob.{load_job-parameters}
 use Rattle.spec_protocol.proofs.Load.{load_proved, load_accepted}
 use Rattle.load_needs.specs.Given.{fits_refusal}
 use Rattle.load_needs.proofs.Refusals.{all_refusals}
