@@ -47,4 +47,4 @@ returns-in-Fit c =
 -- the scratch keeps its length
 pub shape_of-scratch : goal.shape_of-scratch
 shape_of-scratch c = let a = c.args in length-zeroed _ a.scratch.now _
-    c.work-found.ensures.scratch_after ((let a = c.args in subst (λ x. AtMany x (ManyGiven a.job.now a.count (length a.scratch.now))) c.in-Fit.is c.admit.ensures.at_many) c.lifetimes).room
+    c.work-found.ensures.scratch_after ((let a = c.args in subst (λ x. AtMany x (ManyGiven a.job.now a.count (length a.scratch.now))) c.in-Fit.is c.admit.ensures.at_many)).room

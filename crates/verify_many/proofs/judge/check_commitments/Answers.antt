@@ -20,7 +20,7 @@ third c =
 passed : (c : In-Passed-u1) (b : Answer)
     → let s = c.args in
     b ≡ (t_and_g_found s.digits then of_checked s.u1) then b
-passed c b = goes_on c.args.u1 (third c.before.before) c.in-Passed-u1.is b
+passed c b = goes_on c.args.u1 (goes_on c.check_t_and_g-bounds.result c.check_t_and_g-bounds.ensures c.in-Passed.is (of_checked c.args.u1)) c.in-Passed-u1.is b
 
 pub returns-in_default : goal.returns-in_default
 returns-in_default c =

@@ -34,7 +34,7 @@ module _ (c : After-randomness_bounds-r) where
       ≡ randomness_part (parameters s.args.job.now) s.args.count s.args.randomness.now s.args.m
   randomness_is =
       between s.args.randomness.now (span (randomness_sections (parameters_of s.args.params))) s.args.count s.args.m c.randomness_bounds-r.result c.randomness_bounds-r.ensures
-      ∙ ap (λ P. randomness_part P s.args.count s.args.randomness.now s.args.m) s.pre.0.0.same
+      ∙ ap (λ P. randomness_part P s.args.count s.args.randomness.now s.args.m) s.requires.many_given.0.same
 
 module _ (c : After-transcript_bounds-t) where
   abbrev s' : Start
@@ -48,7 +48,7 @@ module _ (c : After-transcript_bounds-t) where
       ≡ transcript_part (parameters s'.args.job.now) s'.args.count s'.args.transcripts.now s'.args.m
   transcript_is =
       between s'.args.transcripts.now (span (transcript_sections (parameters_of s'.args.params))) s'.args.count s'.args.m c.transcript_bounds-t.result c.transcript_bounds-t.ensures
-      ∙ ap (λ P. transcript_part P s'.args.count s'.args.transcripts.now s'.args.m) s'.pre.0.0.same
+      ∙ ap (λ P. transcript_part P s'.args.count s'.args.transcripts.now s'.args.m) s'.requires.many_given.0.same
 
 pub judge_window-requires : goal.judge_window-requires
 judge_window-requires c =
