@@ -1,5 +1,5 @@
 -- What the verdict on a transcript stands on, and the eight verdicts.
-use Rattle.std.specs.Prelude.{◌≡◌, Bool, true, List, ℕ}
+use Rattle.std.specs.Prelude.{◌≡◌, true, List, ℕ}
 use Rattle.math.specs.lists.Table.{padded}
 use Rattle.spec_protocol.specs.Parameters.{parameters}
 use Rattle.spec_protocol.specs.Many.{transcript_part, passes, part_verdict, row_count, RowsDone, window, AllRowsDone}

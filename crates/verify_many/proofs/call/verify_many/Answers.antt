@@ -1,6 +1,5 @@
 -- `verify_many` meets its contract.
 use mathlib.Core.Path.{sym, ap, subst, ◌∙◌}
-use borrow.Author.Rules.{rules}
 use lib.ListN.{length}
 use Rattle.verifier.proofs.Whole.{length-zeroed}
 use Rattle.verify_many_admission.specs.Admitted.{of_many_admitted, AtMany, ManyGiven}

@@ -1,6 +1,5 @@
 -- `check_commitments` meets its contract.
 use mathlib.Core.Path.{◌≡◌, ◌∙◌}
-use borrow.Author.Rules.{rules}
 use Rattle.spec_leaves.specs.Answer.{Answer, of_checked, ◌then◌}
 use Rattle.verifier_common.proofs.Verdicts.{goes_on, stops}
 use Rattle.verifier_digits.specs.Taken.{t_and_g_found, h_found}

@@ -1,6 +1,5 @@
 -- `check_rest` meets its contract.
 use mathlib.Core.Path.{◌≡◌, ap, ◌∙◌}
-use borrow.Author.Rules.{rules}
 use Rattle.math.specs.lists.Part.{splice}
 use Rattle.spec_protocol.specs.Parameters.{parameters}
 use Rattle.spec_protocol.specs.Many.{row_count, RowsDone}

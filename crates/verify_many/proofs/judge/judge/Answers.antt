@@ -1,6 +1,5 @@
 -- `judge` meets its contract.
 use mathlib.Core.Path.{refl}
-use borrow.Author.Rules.{rules}
 use Rattle.verifier.proofs.Whole.{stopped_is, goes_on_is, sent_of, ready_of, few_regions}
 use borrow.Enum.Refused.{opened}
 use Rattle.verify_many.proofs.judge.judge.Goals as goal

@@ -1,20 +1,17 @@
 use mathlib.Core.Path.{◌≡◌, sym, ap, ap₂, subst, ◌∙◌}
 use mathlib.Core.List.{List}
-use Prim.Native.Nat.{ℕ, ◌+◌, ◌-◌, ◌*◌, ◌≤◌}
+use Prim.Native.Nat.{ℕ, ◌+◌, ◌*◌, ◌≤◌}
 use native.Mathlib.Nat.{mul-le-mul_right}
 use native.Mathlib.Omega.{arith}
-use borrow.Author.Rules.{rules}
 use Rattle.math.specs.lists.Table.{padded}
 use Rattle.math.proofs.lists.Padded.{padded-none, padded-next}
 use Rattle.spec_leaves.specs.Answer.{Answer, ◌then◌}
 use Rattle.spec_protocol.specs.Parameters.{Parameters, parameters}
 use Rattle.spec_protocol.specs.Layout.{scratch_need, randomness_refusal, transcript_refusal}
 use Rattle.spec_protocol.specs.Unchanged.{Unchanged}
-use Rattle.spec_protocol.specs.Many.{many_need, part_refusal, part_verdict, randomness_part, transcript_part, RowsDone, row_count}
+use Rattle.spec_protocol.specs.Many.{many_need, part_refusal, randomness_part, transcript_part, RowsDone, row_count}
 use Rattle.relation_env_params.specs.Parameters.{parameters_of}
 use Rattle.admission_slices.proofs.Ready.{job-sized}
-use Rattle.api_answers.specs.declared.verdicts.LabradorVerdict.{LabradorVerdict}
-use Rattle.api_answers.specs.Calls.{labrador_verdict}
 use Rattle.core_workspace.proofs.Unchanged.{unchanged_refl, unchanged_trans, unchanged_weaken}
 use Rattle.verify_many.specs.Windows.{unused_verdict}
 use Rattle.verify_many.proofs.Windows.{same-window}

@@ -1,6 +1,5 @@
 -- `verdict` meets its contract.
 use mathlib.Core.Path.{sym, ap, ◌∙◌}
-use borrow.Author.Rules.{rules}
 use Rattle.spec_leaves.specs.Answer.{is_fine}
 use Rattle.api_answers.specs.Calls.{labrador_verdict}
 use Rattle.admission_slices.specs.Admission.{of_slice_checked}
