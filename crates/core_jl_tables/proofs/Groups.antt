@@ -164,7 +164,7 @@ module _ (R : List ℕ) (h : (i : ℕ) → get_or R i 0 ≤ 4294967295) where
   tables_small om i l =
       let o : ℕ = om + 4 * (i / 1024) in
       rw (get_or-table 4096 (tables_entry R om) i 0 l) (lowered-le _ (carried-word _ _ (pair-word o (i % 1024 % 64) (omega arith))
-          (pair-word o (64 + 4 * (i % 1024 / 64) + i % 1024 % 4) (omega arith))))
+      (pair-word o (64 + 4 * (i % 1024 / 64) + i % 1024 % 4) (omega arith))))
 
   -- the number of two words' entries is below 16
   pair-below : (at step : ℕ) → pair_number R at step < 16

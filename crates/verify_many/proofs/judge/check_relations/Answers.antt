@@ -48,8 +48,11 @@ returns c =
     record { result_value = e.result_value ∙ goes_on c.check_z_inner-second.result (second z) c.in-Passed-second.is (aggregated s.job.now s.randomness.now s.transcript.now); unchanged = e.unchanged }
 
 pub check_z_inner-second-requires : goal.check_z_inner-second-requires
-check_z_inner-second-requires c = (received c.requires.sent.0.posed, c-within c.args.job.now c.args.transcript.now c.args.params c.args.regions c.args.window.now
-    c.requires.sent.0.posed c.requires.sent.1)
+check_z_inner-second-requires c = (
+  received c.requires.sent.0.posed,
+  c-within c.args.job.now c.args.transcript.now c.args.params c.args.regions c.args.window.now
+      c.requires.sent.0.posed c.requires.sent.1,
+)
 
 pub check_aggregated-requires : goal.check_aggregated-requires
 check_aggregated-requires c = c.requires.sent

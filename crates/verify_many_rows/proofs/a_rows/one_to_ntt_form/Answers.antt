@@ -45,9 +45,12 @@ transcript_bounds-b-requires c =
 
 pub to_ntt_form-requires : goal.to_ntt_form-requires
 to_ntt_form-requires c =
-    let b = (goal.at.to_ntt_form-requires c).After-transcript_bounds-b in
-    (c.requires.w_value.0, z-within _ _ (subst (λ X. Received X c.args.params) (sym (lent b)) (received (goal.at.to_ntt_form-requires c).Then-pass)) _
-        c.of_transcript-z_at.ensures, c.requires.w_value.3)
+    let b = (goal.at.to_ntt_form-requires c).After-transcript_bounds-b in (
+      c.requires.w_value.0,
+      z-within _ _ (subst (λ X. Received X c.args.params) (sym (lent b)) (received (goal.at.to_ntt_form-requires c).Then-pass)) _
+          c.of_transcript-z_at.ensures,
+      c.requires.w_value.3,
+    )
 
 pub returns-then-pass : goal.returns-then-pass
 returns-then-pass c =
