@@ -137,8 +137,18 @@ fn read_all<I: Read>(
 }
 
 // Replays the records of a file.
-fn read_file(rt: &(impl Files + Print), path: &str, tally: &mut [u64]) -> Result<()> {
-    let mut file = fs::open(rt, path).context(path)?;
+fn read_file(
+    rt: &(impl Files + Print + Eprint),
+    path: &str,
+    tally: &mut [u64],
+) -> Result<()> {
+    let mut file = match fs::open(rt, path) {
+        Ok(file) => file,
+        Err(e) => {
+            eprintln!(rt; "{path}: {e}")?;
+            return Ok(());
+        }
+    };
     let mut run = [0u32; slices::WORDS];
     read_all(rt, &mut file, &mut run, tally).context(path)
 }
