@@ -137,11 +137,7 @@ fn read_all<I: Read>(
 }
 
 // Replays the records of a file.
-fn read_file(
-    rt: &(impl Files + Print + Eprint),
-    path: &str,
-    tally: &mut [u64],
-) -> Result<()> {
+fn read_file(rt: &(impl Files + Print + Eprint), path: &str, tally: &mut [u64]) -> Result<()> {
     let mut file = match fs::open(rt, path) {
         Ok(file) => file,
         Err(e) => {
