@@ -1,5 +1,6 @@
 -- The omega part of φ'' for four k at once: the sums of four rows' terms, modulo Q, and what is added to the columns' sums.
-use Rattle.std.proofs.Common.{◌≡◌, ℕ, zero, suc, ◌+◌, ◌*◌, ◌/◌, ◌%◌, ◌<◌, ◌≤◌, cond, ltb, List, get_or, replicate, sym, refl, ap, ◌∙◌, ap₂, add-zero, add_assoc, mul-le-mul_right, arith, le-ltb, lt-ltb}
+use Rattle.std.proofs.Common.{◌≡◌, ℕ, zero, suc, ◌+◌, ◌*◌, ◌/◌, ◌%◌, ◌<◌, ◌≤◌, cond, ltb, List, get_or, replicate, sym, refl, ap, ◌∙◌, ap₂, add-zero, add_assoc, mul-le-mul_right}
+use Rattle.std.proofs.Common.{arith, le-ltb, lt-ltb}
 use lib.ListN.{get_or-replicate}
 use Rattle.math.specs.lists.Sum.{Σ}
 use Rattle.math.specs.lists.Table.{table}
@@ -162,7 +163,8 @@ module _ (R : List ℕ) (h : (i : ℕ) → get_or R i 0 ≤ 4294967295) where
   pub tables_small : (om i : ℕ) → i < 4096 → get_or (row_tables R om) i 0 ≤ Q
   tables_small om i l =
       let o : ℕ = om + 4 * (i / 1024) in
-      rw (get_or-table 4096 (tables_entry R om) i 0 l) (lowered-le _ (carried-word _ _ (pair-word o (i % 1024 % 64) (omega arith)) (pair-word o (64 + 4 * (i % 1024 / 64) + i % 1024 % 4) (omega arith))))
+      rw (get_or-table 4096 (tables_entry R om) i 0 l) (lowered-le _ (carried-word _ _ (pair-word o (i % 1024 % 64) (omega arith))
+      (pair-word o (64 + 4 * (i % 1024 / 64) + i % 1024 % 4) (omega arith))))
 
   -- the number of two words' entries is below 16
   pair-below : (at step : ℕ) → pair_number R at step < 16

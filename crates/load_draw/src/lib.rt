@@ -45,6 +45,7 @@ fn advance(rule: Rule, state: u32) -> u32
 }
 
 // "a word equal to Q is written as 0 while the state keeps it"
+#[tactic(auto, using(std::proofs::lemmas::Bool::Decides::nat_tests), unfolding(spec_protocol::specs::Load::word))]
 fn word(state: u32) -> u32
     ensures { result ≡ S.word state }
 {

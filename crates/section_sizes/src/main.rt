@@ -104,8 +104,14 @@ fn read_full<I: io::Read>(input: &mut I, bytes: &mut [u8]) -> io::Result<usize>
 }
 
 // The sections of a file of at most 1023 words. Bytes behind the last whole word are left out.
-fn print_file(rt: &(impl Files + Print), path: &str) -> Result<()> {
-    let mut file = fs::open(rt, path).context(path)?;
+fn print_file(rt: &(impl Files + Print + Eprint), path: &str) -> Result<()> {
+    let mut file = match fs::open(rt, path) {
+        Ok(file) => file,
+        Err(e) => {
+            eprintln!(rt; "{path}: {e}")?;
+            return Ok(());
+        }
+    };
     let mut bytes = [0u8; 4096];
     let length = read_full(&mut file, &mut bytes).context(path)?;
     if length == 4096 {

@@ -108,7 +108,8 @@ module _ (J : List ℕ) (count : ℕ) (passes : ℕ → Bool) (ρ : ℕ) (S₀ :
 
   module _ (S S' values : List ℕ) (m start place row_at : ℕ) (within : Within (parameters J)) (few : ρ < 64) (room : many_need (parameters J) count ≤ length S) (h : m < count)
       (start_is : start ≡ m * scratch_need (parameters J)) (place_is : place ≡ m * scratch_need (parameters J) + (scratch_need (parameters J) - 4096) + 64 * ρ)
-      (row_is : row_at ≡ job_at (parameters J) 6 + 64 * (ρ * (parameters J).n)) (inside : ρ < (parameters J).κ) (n : ℕ) (width : n ≡ (parameters J).n) (row-unchanged : NttForm values 0 J row_at n) where
+      (row_is : row_at ≡ job_at (parameters J) 6 + 64 * (ρ * (parameters J).n)) (inside : ρ < (parameters J).κ) (n : ℕ) (width : n ≡ (parameters J).n)
+      (row-unchanged : NttForm values 0 J row_at n) where
     abbrev P : Parameters
     P = parameters J
 

@@ -1,6 +1,6 @@
 // Writing answers into a lent slice. Each call writes from the place `at` on, and gives the place after what it wrote.
 ghost use Rattle.std.specs.Prelude.{◌≡◌, ◌∷◌, [], ◌++◌, ◌+◌, ◌≤◌, ◌<◌, length};
-ghost use Rattle.spec_leaves.specs.Zq.{centre, Canonical};
+ghost use Rattle.spec_leaves.specs.Zq.{half_Q, centre, Canonical};
 ghost use Rattle.zq_lines_text.specs.Text.{decimal, signed};
 ghost use Rattle.zq_lines_text.specs.Line.{text};
 ghost use Rattle.zq_lines_text.specs.Reading.{answer_of, FirstCanonical};
@@ -54,17 +54,28 @@ fn put_word(out: &mut [u8], at: usize, n: u32) -> usize
     put(out, end, b' ')
 }
 
+// A minus sign and the size of a value above half of Q, which is its centre.
+#[tactic(auto, using(crate::proofs::Ends::room_behind_sign, crate::proofs::Ends::few_digits))]
+fn put_negative(out: &mut [u8], at: usize, a: Zq) -> usize
+    requires canonical { Canonical a.0 }
+    requires large { half_Q < a.0 }
+    requires at_in_bounds { at + 11 ≤ length out.old }
+    ensures { Written out.old at (signed (centre a.0)) out.new result }
+{
+    let next = put(out, at, b'-');
+    let size = a.size();
+    put_decimal(out, next, size)
+}
+
 // The centre of a canonical value.
-#[tactic(auto, using(crate::proofs::Ends::room_behind_sign, crate::proofs::Ends::few_digits, crate::proofs::Ends::centre_small))]
+#[tactic(auto, using(crate::proofs::Ends::few_digits, crate::proofs::Ends::centre_small))]
 fn put_centre(out: &mut [u8], at: usize, a: Zq) -> usize
     requires canonical { Canonical a.0 }
     requires at_in_bounds { at + 11 ≤ length out.old }
     ensures { Written out.old at (signed (centre a.0)) out.new result }
 {
     if modulus::HALF < a.0 {
-        let next = put(out, at, b'-');
-        let size = a.size();
-        put_decimal(out, next, size)
+        put_negative(out, at, a)
     } else {
         put_decimal(out, at, a.0)
     }

@@ -14,7 +14,8 @@ invariant-loop-k l =
     let k = l.k in (k ≤ l.count)
     × (l.a ≡ l.a_at + 64 * (k * triangular l.r))
     × (l.phi ≡ l.phi_at + 64 * (k * (l.r * l.n)))
-    × (l.scratch ≡ splice l.initial.scratch l.to (flat (table k (λ k. formed l.initial.scratch (l.a_at + 64 * (k * triangular l.r)) l.g_at (l.phi_at + 64 * (k * (l.r * l.n))) l.r l.n l.witness l.s_at))))
+    × (l.scratch ≡ splice l.initial.scratch l.to (flat (table k (λ k. formed l.initial.scratch (l.a_at + 64 * (k * triangular l.r)) l.g_at (l.phi_at + 64 * (k * (l.r * l.n))) l.r
+    l.n l.witness l.s_at))))
     × (length l.scratch ≡ length l.initial.scratch)
 
 abbrev pub decreases-loop-k : goal.decreases-loop-k

@@ -19,7 +19,10 @@ clear-requires c =
 
 pub returns-in-Made : goal.returns-in-Made
 returns-in-Made c =
-    let e = sym (ap of_proved c.in-Made.is) ∙ c.check_witness.ensures in record { value = made-answer c.args.job.now (run c.args.first c.args.end) c.args.vectors.now c.args.output.now c.args.params c.requires e _ refl refl; output_after = made-output c.args.job.now (run c.args.first c.args.end) c.args.vectors.now c.args.output.now c.args.params c.requires e _ c.put_rows.ensures }
+    let e = sym (ap of_proved c.in-Made.is) ∙ c.check_witness.ensures in record {
+      value = made-answer c.args.job.now (run c.args.first c.args.end) c.args.vectors.now c.args.output.now c.args.params c.requires e _ refl refl;
+      output_after = made-output c.args.job.now (run c.args.first c.args.end) c.args.vectors.now c.args.output.now c.args.params c.requires e _ c.put_rows.ensures;
+    }
 
 pub overflow_add-result : goal.overflow_add-result
 overflow_add-result c =

@@ -13,7 +13,11 @@ pub returns-in-Refused : goal.returns-in-Refused
 returns-in-Refused c =
     let a = c.args in
     let e = c.prove.ensures in
-    record { result_value = prover_refuses a.job.now a.randomness.now a.witness.now a.scratch.now a.output.now _ _ e.answer e.output_left c.in-Refused.refusal c.in-Refused.is; output_after = e.output_left; scratch_after = e.scratch_left }
+    record {
+      result_value = prover_refuses a.job.now a.randomness.now a.witness.now a.scratch.now a.output.now _ _ e.answer e.output_left c.in-Refused.refusal c.in-Refused.is;
+      output_after = e.output_left;
+      scratch_after = e.scratch_left;
+    }
 
 pub returns-in-Made : goal.returns-in-Made
 returns-in-Made c =

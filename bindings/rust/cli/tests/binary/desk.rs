@@ -1,18 +1,18 @@
 //! A folder of its own for a test, with the files of a case.
 
 use std::fs;
-use std::path::{Path, PathBuf};
+use std::path::PathBuf;
 
 use crate::common::Case;
 
-/// A folder that is made anew.
+/// A folder that is made anew, and removed with the desk. It stands outside the tree, since `rt ci` takes no links there.
 pub struct Desk {
     pub folder: PathBuf,
 }
 
 impl Desk {
     pub fn new(name: &str) -> Desk {
-        let folder = Path::new(env!("CARGO_TARGET_TMPDIR")).join(name);
+        let folder = std::env::temp_dir().join(format!("labrador-desk-{}-{name}", std::process::id()));
         let _ = fs::remove_dir_all(&folder);
         fs::create_dir_all(&folder).expect("a folder for the test");
         Desk { folder }
@@ -48,5 +48,11 @@ impl Desk {
         let mut names: Vec<String> = entries.map(|e| e.unwrap().file_name().into_string().unwrap()).collect();
         names.sort();
         names
+    }
+}
+
+impl Drop for Desk {
+    fn drop(&mut self) {
+        let _ = fs::remove_dir_all(&self.folder);
     }
 }

@@ -8,7 +8,11 @@ use Rattle.commitments_ajtai.proofs.ntt.column.Given as goal
 
 abbrev pub invariant-loop-k : goal.invariant-loop-k
 invariant-loop-k l =
-    (l.k ≤ l.count) × (l.place ≡ l.at + 192 * (l.k * l.n)) × (l.to ≡ l.out_at + l.step * l.k) × (l.scratch ≡ spread l.initial.scratch l.out_at l.step l.k (ntt_row l.v l.initial.scratch l.at l.n)) × (length l.scratch ≡ length l.initial.scratch)
+    (l.k ≤ l.count)
+    × (l.place ≡ l.at + 192 * (l.k * l.n))
+    × (l.to ≡ l.out_at + l.step * l.k)
+    × (l.scratch ≡ spread l.initial.scratch l.out_at l.step l.k (ntt_row l.v l.initial.scratch l.at l.n))
+    × (length l.scratch ≡ length l.initial.scratch)
 
 abbrev pub decreases-loop-k : goal.decreases-loop-k
 decreases-loop-k l = l.count - l.k

@@ -8,7 +8,11 @@ use Rattle.commitments_ajtai.proofs.ntt.columns.Given as goal
 
 abbrev pub invariant-loop-k : goal.invariant-loop-k
 invariant-loop-k l =
-    (l.k ≤ l.width) × (l.start ≡ l.m_at + 64 * (l.k * l.n)) × (l.place ≡ l.out_at + 64 * l.k) × Columns l.initial.scratch l.scratch l.out_at l.r l.width l.k (ntt_t l.matrix l.m_at l.initial.scratch l.at l.n) × (length l.buffer ≡ 12288)
+    (l.k ≤ l.width)
+    × (l.start ≡ l.m_at + 64 * (l.k * l.n))
+    × (l.place ≡ l.out_at + 64 * l.k)
+    × Columns l.initial.scratch l.scratch l.out_at l.r l.width l.k (ntt_t l.matrix l.m_at l.initial.scratch l.at l.n)
+    × (length l.buffer ≡ 12288)
 
 abbrev pub decreases-loop-k : goal.decreases-loop-k
 decreases-loop-k l = l.width - l.k

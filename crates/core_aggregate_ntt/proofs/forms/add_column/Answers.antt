@@ -57,4 +57,7 @@ pub returns : goal.returns
 returns c =
     let s = c.args in
     let l = c.loop-k in
-    let n : l.k ≡ s.run.count = omega arith in record { sums_after = l.invariant.3 ∙ ap (terms_added s.sums.now s.weights.now s.weights_at s.from.now s.run.at s.run.step) n; forms_after = l.invariant.5 ∙ ap (λ k. splice s.forms.now 0 (forms_added s.forms.now s.from.now s.run.at s.run.step k s.s.now)) n }
+    let n : l.k ≡ s.run.count = omega arith in record {
+      sums_after = l.invariant.3 ∙ ap (terms_added s.sums.now s.weights.now s.weights_at s.from.now s.run.at s.run.step) n;
+      forms_after = l.invariant.5 ∙ ap (λ k. splice s.forms.now 0 (forms_added s.forms.now s.from.now s.run.at s.run.step k s.s.now)) n;
+    }

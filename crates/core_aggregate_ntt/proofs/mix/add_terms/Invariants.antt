@@ -7,7 +7,11 @@ use Rattle.core_aggregate_ntt.proofs.mix.add_terms.Given as goal
 
 abbrev pub invariant-loop-m : goal.invariant-loop-m
 invariant-loop-m l =
-    (l.m ≤ l.count) × (l.i ≡ l.initial.i + l.step * l.m) × (l.weight ≡ l.weights_at + 192 * l.m) × (l.sums ≡ terms_added l.initial.sums l.weights l.weights_at l.from l.initial.i l.step l.m) × (length l.sums ≡ length l.initial.sums)
+    (l.m ≤ l.count)
+    × (l.i ≡ l.initial.i + l.step * l.m)
+    × (l.weight ≡ l.weights_at + 192 * l.m)
+    × (l.sums ≡ terms_added l.initial.sums l.weights l.weights_at l.from l.initial.i l.step l.m)
+    × (length l.sums ≡ length l.initial.sums)
 
 abbrev pub decreases-loop-m : goal.decreases-loop-m
 decreases-loop-m l = l.count - l.m

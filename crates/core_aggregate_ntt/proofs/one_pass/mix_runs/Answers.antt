@@ -59,7 +59,11 @@ pub returns : goal.returns
 returns c =
     let s = c.args in
     let l = c.loop-c in
-    let all : l.c ≡ s.width = omega arith in record { scratch_after = l.invariant.1 ∙ ap (λ c. splice s.scratch.now s.to (φ_mixed s.job.now s.constraints s.scratch.now s.aggregated s.weights.now c)) all; has_lines = subst (λ c. HasLines l.totals s.totals.now s.scratch.now s.aggregated s.witness.now s.s_at c) all l.invariant.3; totals_len_unchanged = l.invariant.4 }
+    let all : l.c ≡ s.width = omega arith in record {
+      scratch_after = l.invariant.1 ∙ ap (λ c. splice s.scratch.now s.to (φ_mixed s.job.now s.constraints s.scratch.now s.aggregated s.weights.now c)) all;
+      has_lines = subst (λ c. HasLines l.totals s.totals.now s.scratch.now s.aggregated s.witness.now s.s_at c) all l.invariant.3;
+      totals_len_unchanged = l.invariant.4;
+    }
 
 pub overflow_mul-constraint : goal.overflow_mul-constraint
 overflow_mul-constraint c = omega (arith, c.requires.1.near.0)

@@ -11,7 +11,10 @@ use Rattle.core_aggregate_ntt.proofs.one_pass.store_forms.Given as goal
 
 abbrev pub invariant-loop-k : goal.invariant-loop-k
 invariant-loop-k l =
-    (l.k ≤ l.count) × (l.a ≡ l.a_at + 64 * (l.k * triangular l.r)) × (l.scratch ≡ splice l.initial.scratch l.to (flat (table l.k (formed_with l.initial.scratch l.a_at l.g_at l.r l.totals)))) × (length l.scratch ≡ length l.initial.scratch)
+    (l.k ≤ l.count)
+    × (l.a ≡ l.a_at + 64 * (l.k * triangular l.r))
+    × (l.scratch ≡ splice l.initial.scratch l.to (flat (table l.k (formed_with l.initial.scratch l.a_at l.g_at l.r l.totals))))
+    × (length l.scratch ≡ length l.initial.scratch)
 
 abbrev pub decreases-loop-k : goal.decreases-loop-k
 decreases-loop-k l = l.count - l.k

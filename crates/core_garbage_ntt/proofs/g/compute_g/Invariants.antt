@@ -10,7 +10,11 @@ use Rattle.core_garbage_ntt.proofs.g.compute_g.Given as goal
 
 abbrev pub invariant-loop-i : goal.invariant-loop-i
 invariant-loop-i l =
-    (l.i ≤ l.r) × (l.place ≡ l.out_at + 64 * triangular l.i) × (l.scratch ≡ splice l.initial.scratch l.out_at (flat (triangle l.i (ntt_gram l.initial.scratch l.at l.n)))) × (length l.scratch ≡ length l.initial.scratch) × (length l.buffer ≡ 12288)
+    (l.i ≤ l.r)
+    × (l.place ≡ l.out_at + 64 * triangular l.i)
+    × (l.scratch ≡ splice l.initial.scratch l.out_at (flat (triangle l.i (ntt_gram l.initial.scratch l.at l.n))))
+    × (length l.scratch ≡ length l.initial.scratch)
+    × (length l.buffer ≡ 12288)
 
 abbrev pub decreases-loop-i : goal.decreases-loop-i
 decreases-loop-i l = l.r - l.i

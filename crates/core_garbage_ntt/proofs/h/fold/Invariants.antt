@@ -10,7 +10,10 @@ use Rattle.core_garbage_ntt.proofs.h.fold.Given as goal
 
 abbrev pub invariant-loop-i : goal.invariant-loop-i
 invariant-loop-i l =
-    (l.i ≤ l.r) × (l.place ≡ l.out_at + 64 * triangular l.i) × (l.scratch ≡ splice l.initial.scratch l.out_at (flat (triangle l.i (both_ways l.initial.scratch l.square l.r)))) × (length l.scratch ≡ length l.initial.scratch)
+    (l.i ≤ l.r)
+    × (l.place ≡ l.out_at + 64 * triangular l.i)
+    × (l.scratch ≡ splice l.initial.scratch l.out_at (flat (triangle l.i (both_ways l.initial.scratch l.square l.r))))
+    × (length l.scratch ≡ length l.initial.scratch)
 
 abbrev pub decreases-loop-i : goal.decreases-loop-i
 decreases-loop-i l = l.r - l.i

@@ -7,7 +7,9 @@ use Rattle.core_jl_tables.proofs.pairs.join_four.Given as goal
 
 abbrev pub invariant-loop-k : goal.invariant-loop-k
 invariant-loop-k l =
-    let k = l.k in (k ≤ 4) × (l.tables ≡ splice l.initial.tables l.at (table k (λ k. lowered_sum (get_or l.pairs (l.x + k) 0) (get_or l.pairs (l.y + k) 0)))) × (length l.tables ≡ length l.initial.tables)
+    let k = l.k in (k ≤ 4)
+    × (l.tables ≡ splice l.initial.tables l.at (table k (λ k. lowered_sum (get_or l.pairs (l.x + k) 0) (get_or l.pairs (l.y + k) 0))))
+    × (length l.tables ≡ length l.initial.tables)
 
 abbrev pub decreases-loop-k : goal.decreases-loop-k
 decreases-loop-k l = 4 - l.k

@@ -7,7 +7,9 @@ use Rattle.core_jl_tables.proofs.tables.add_block.Given as goal
 
 abbrev pub invariant-loop-w : goal.invariant-loop-w
 invariant-loop-w l =
-    (l.w ≤ 64) × (l.sums ≡ splice l.initial.sums l.at (table (4 * l.w) (λ p. terms_added (table_term l.tables l.places (p / 4) (p % 4)) (get_or l.initial.sums (l.at + p) 0) 4))) × (length l.sums ≡ length l.initial.sums)
+    (l.w ≤ 64)
+    × (l.sums ≡ splice l.initial.sums l.at (table (4 * l.w) (λ p. terms_added (table_term l.tables l.places (p / 4) (p % 4)) (get_or l.initial.sums (l.at + p) 0) 4)))
+    × (length l.sums ≡ length l.initial.sums)
 
 abbrev pub decreases-loop-w : goal.decreases-loop-w
 decreases-loop-w l = 64 - l.w

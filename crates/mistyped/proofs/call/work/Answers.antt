@@ -10,7 +10,10 @@ use Rattle.mistyped.proofs.call.work.Goals as goal
 
 pub judge-requires : goal.judge-requires
 judge-requires c =
-    let e = c.clear.ensures in record { sent = (sent_of _ _ _ _ _ c.requires.0, omega (arith, c.requires.1, ap length e, length-splice c.args.list.now 0 (replicate (2 * c.args.params.constraint_l) 0))); verdict_value = c.work_and_clear-verdict.ensures.result_value }
+    let e = c.clear.ensures in record {
+      sent = (sent_of _ _ _ _ _ c.requires.0, omega (arith, c.requires.1, ap length e, length-splice c.args.list.now 0 (replicate (2 * c.args.params.constraint_l) 0)));
+      verdict_value = c.work_and_clear-verdict.ensures.result_value;
+    }
 
 pub returns : goal.returns
 returns c =

@@ -26,10 +26,12 @@ pub returns-then-crossed-count : goal.returns-then-crossed-count
 returns-then-crossed-count c =
     let s = (goal.at.returns-then-crossed-count c).Start in
     let r = c.first_crossed-crossed.result in
-    (ap (λ b. cond b (refused 36 r) fine) (sym (lt-ltb r c.args.count c.if-crossed-count.true)) ∙ c.first_crossed-crossed.ensures) ∙ ap (λ a. a then later s) (none-beyond (goal.at.returns-then-crossed-count c).Else-beyond-count)
+    (ap (λ b. cond b (refused 36 r) fine) (sym (lt-ltb r c.args.count c.if-crossed-count.true)) ∙ c.first_crossed-crossed.ensures) ∙ ap (λ a. a then later s)
+    (none-beyond (goal.at.returns-then-crossed-count c).Else-beyond-count)
 
 pub returns : goal.returns
 returns c =
     let s = (goal.at.returns c).Start in
     let r = c.first_crossed-crossed.result in
-    (ap (λ b. cond b (refused 36 r) fine) (sym (le-ltb r c.args.count c.if-crossed-count.false)) ∙ c.first_crossed-crossed.ensures) ∙ ap (λ a. a then later s) (none-beyond (goal.at.returns c).Else-beyond-count)
+    (ap (λ b. cond b (refused 36 r) fine) (sym (le-ltb r c.args.count c.if-crossed-count.false)) ∙ c.first_crossed-crossed.ensures) ∙ ap (λ a. a then later s)
+    (none-beyond (goal.at.returns c).Else-beyond-count)

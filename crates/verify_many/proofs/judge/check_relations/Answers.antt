@@ -25,12 +25,20 @@ returns-in_default c =
     let J = c.args.job.now in
     let R = c.args.randomness.now in
     let T = c.args.transcript.now in
-    record { result_value = stops c.args.opened (stops c.args.opened c.requires.opened_value (opened c.in_default.in_default-own.keys2) (z_inner J R T)) (opened c.in_default.in_default-own.keys2) (aggregated J R T); unchanged = unchanged_refl _ _ }
+    record {
+      result_value = stops c.args.opened (stops c.args.opened c.requires.opened_value (opened c.in_default.in_default-own.keys2) (z_inner J R T))
+          (opened c.in_default.in_default-own.keys2) (aggregated J R T);
+      unchanged = unchanged_refl _ _;
+    }
 
 pub returns-in_default-second : goal.returns-in_default-second
 returns-in_default-second c =
     let s = c.args in
-    record { result_value = stops c.check_z_inner-second.result (second (goal.at.returns-in_default-second c).After-check_z_inner-second) (opened c.in_default-second.in_default-second-own.keys2) (aggregated s.job.now s.randomness.now s.transcript.now); unchanged = unchanged_refl _ _ }
+    record {
+      result_value = stops c.check_z_inner-second.result (second (goal.at.returns-in_default-second c).After-check_z_inner-second)
+          (opened c.in_default-second.in_default-second-own.keys2) (aggregated s.job.now s.randomness.now s.transcript.now);
+      unchanged = unchanged_refl _ _;
+    }
 
 pub returns : goal.returns
 returns c =
@@ -40,7 +48,11 @@ returns c =
     record { result_value = e.result_value ∙ goes_on c.check_z_inner-second.result (second z) c.in-Passed-second.is (aggregated s.job.now s.randomness.now s.transcript.now); unchanged = e.unchanged }
 
 pub check_z_inner-second-requires : goal.check_z_inner-second-requires
-check_z_inner-second-requires c = (received c.requires.sent.0.posed, c-within c.args.job.now c.args.transcript.now c.args.params c.args.regions c.args.window.now c.requires.sent.0.posed c.requires.sent.1)
+check_z_inner-second-requires c = (
+  received c.requires.sent.0.posed,
+  c-within c.args.job.now c.args.transcript.now c.args.params c.args.regions c.args.window.now
+      c.requires.sent.0.posed c.requires.sent.1,
+)
 
 pub check_aggregated-requires : goal.check_aggregated-requires
 check_aggregated-requires c = c.requires.sent

@@ -57,7 +57,10 @@ pub check_relations-first-requires : goal.check_relations-first-requires
 check_relations-first-requires c =
     let g = (goal.at.check_relations-first-requires c).After-generate_challenges in
     let a = c.args in
-    let held = az-held a.job.now a.randomness.now a.transcript.now a.params a.regions _ c.requires.sent.1.same (drawn g).holds in record { sent = (c.requires.sent.0, (drawn g).ready, (drawn g).holds); opened_value = c.check_az-opened.ensures ∙ held }
+    let held = az-held a.job.now a.randomness.now a.transcript.now a.params a.regions _ c.requires.sent.1.same (drawn g).holds in record {
+      sent = (c.requires.sent.0, (drawn g).ready, (drawn g).holds);
+      opened_value = c.check_az-opened.ensures ∙ held;
+    }
 
 pub returns-in_default : goal.returns-in_default
 returns-in_default c =

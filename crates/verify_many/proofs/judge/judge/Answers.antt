@@ -9,13 +9,16 @@ lay_out-regions-requires c = few_regions _ _ _ _ _ c.requires.verifiable
 
 pub check_rest-rest-requires : goal.check_rest-rest-requires
 check_rest-rest-requires c =
-    let ready = ready_of _ _ _ _ _ c.requires.verifiable _ c.args.window.now refl c.lay_out-regions.ensures in record { sent = (sent_of _ _ _ _ _ c.requires.verifiable, ready, c.check_norms-norms.ensures.taken_if c.in-Passed.is); rows_done = c.requires.rows_done }
+    let ready = ready_of _ _ _ _ _ c.requires.verifiable _ c.args.window.now refl c.lay_out-regions.ensures in record {
+      sent = (sent_of _ _ _ _ _ c.requires.verifiable, ready, c.check_norms-norms.ensures.taken_if c.in-Passed.is);
+      rows_done = c.requires.rows_done;
+    }
 
 pub returns-in_default : goal.returns-in_default
 returns-in_default c =
     let s = c.args in record {
-      result_value = stopped_is s.job.now s.randomness.now s.transcript.now c.check_norms-norms.result.checked c.check_norms-norms.ensures.checked_value (opened c.in_default.in_default-own.keys2) c.verdict_of.result
-          c.verdict_of.ensures;
+      result_value = stopped_is s.job.now s.randomness.now s.transcript.now c.check_norms-norms.result.checked c.check_norms-norms.ensures.checked_value
+          (opened c.in_default.in_default-own.keys2) c.verdict_of.result c.verdict_of.ensures;
       window_len_unchanged = refl;
     }
 

@@ -11,7 +11,9 @@ use Rattle.verify_many_admission.proofs.parts.check_transcripts.Given as goal
 
 abbrev pub invariant-loop-m : goal.invariant-loop-m
 invariant-loop-m l =
-    (l.m ≤ l.count) × (length l.found ≡ 8) × ((k : ℕ) → k < l.m → of_slice_checked (found_of l.found k) ≡ transcript_refusal (parameters_of l.params) (transcript_part (parameters_of l.params) l.count l.transcripts k))
+    (l.m ≤ l.count)
+    × (length l.found ≡ 8)
+    × ((k : ℕ) → k < l.m → of_slice_checked (found_of l.found k) ≡ transcript_refusal (parameters_of l.params) (transcript_part (parameters_of l.params) l.count l.transcripts k))
 
 abbrev pub decreases-loop-m : goal.decreases-loop-m
 decreases-loop-m l = l.count - l.m

@@ -18,4 +18,7 @@ returns-in-Refused c =
 
 pub returns-in-Fit : goal.returns-in-Fit
 returns-in-Fit c =
-    let s = c.args in record { result_value = so_many s.job.now s.count s.scratch c.if-count-lt1.false c.if-count-gt8.false (sym (ap of_admitted c.in-Fit.is) ∙ c.admit_job.ensures.result_value); at_many = subst (λ x. At x (ManyGiven s.job.now s.count s.scratch)) c.in-Fit.is c.admit_job.ensures.at }
+    let s = c.args in record {
+      result_value = so_many s.job.now s.count s.scratch c.if-count-lt1.false c.if-count-gt8.false (sym (ap of_admitted c.in-Fit.is) ∙ c.admit_job.ensures.result_value);
+      at_many = subst (λ x. At x (ManyGiven s.job.now s.count s.scratch)) c.in-Fit.is c.admit_job.ensures.at;
+    }

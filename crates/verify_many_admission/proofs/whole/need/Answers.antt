@@ -12,4 +12,8 @@ returns c = let s = c.args in ap (λ n. s.count * n) c.scratch_length-one.ensure
 
 pub overflow_mul-result : goal.overflow_mul-result
 overflow_mul-result c =
-    let s = (goal.at.overflow_mul-result c).Start in omega (arith, many_few (parameters_of c.args.params) c.args.count c.requires.0 c.requires.1, (let s = c.args in ap (λ n. s.count * n) c.scratch_length-one.ensures))
+    let s = (goal.at.overflow_mul-result c).Start in omega (
+      arith,
+      many_few (parameters_of c.args.params) c.args.count c.requires.0 c.requires.1,
+      (let s = c.args in ap (λ n. s.count * n) c.scratch_length-one.ensures),
+    )

@@ -31,7 +31,10 @@ pub one_to_ntt_form-requires : goal.one_to_ntt_form-requires
 one_to_ntt_form-requires c =
     let l = c.loop-m in
     let b = bounds (goal.at.one_to_ntt_form-requires c).In-loop-m in
-    let fits = z_fits (parameters_of c.args.params) (rowable_sized _ _ _ _ _ _ c.requires.w_value.1).within in record { w_value = (c.requires.w_value.0, c.loop-m-test.true, b.2, omega (arith, b, fits, l.invariant.1, l.invariant.3.size, c.scratch_length-need.ensures)); received = λ t. part_received _ _ _ _ _ _ c.requires.w_value.1 _ c.loop-m-test.true t }
+    let fits = z_fits (parameters_of c.args.params) (rowable_sized _ _ _ _ _ _ c.requires.w_value.1).within in record {
+      w_value = (c.requires.w_value.0, c.loop-m-test.true, b.2, omega (arith, b, fits, l.invariant.1, l.invariant.3.size, c.scratch_length-need.ensures));
+      received = λ t. part_received _ _ _ _ _ _ c.requires.w_value.1 _ c.loop-m-test.true t;
+    }
 
 pub loop-m-preserved : goal.loop-m-preserved
 loop-m-preserved c =

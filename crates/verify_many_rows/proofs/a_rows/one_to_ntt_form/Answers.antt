@@ -45,8 +45,12 @@ transcript_bounds-b-requires c =
 
 pub to_ntt_form-requires : goal.to_ntt_form-requires
 to_ntt_form-requires c =
-    let b = (goal.at.to_ntt_form-requires c).After-transcript_bounds-b in
-    (c.requires.w_value.0, z-within _ _ (subst (λ X. Received X c.args.params) (sym (lent b)) (received (goal.at.to_ntt_form-requires c).Then-pass)) _ c.of_transcript-z_at.ensures, c.requires.w_value.3)
+    let b = (goal.at.to_ntt_form-requires c).After-transcript_bounds-b in (
+      c.requires.w_value.0,
+      z-within _ _ (subst (λ X. Received X c.args.params) (sym (lent b)) (received (goal.at.to_ntt_form-requires c).Then-pass)) _
+          c.of_transcript-z_at.ensures,
+      c.requires.w_value.3,
+    )
 
 pub returns-then-pass : goal.returns-then-pass
 returns-then-pass c =
@@ -59,7 +63,10 @@ returns-then-pass c =
 pub returns-else-pass : goal.returns-else-pass
 returns-else-pass c =
     let s = c.args in
-    record { scratch_after = ap (λ t. z_for (parameters_of s.params) s.transcripts.now s.count s.m s.start t s.scratch.now) (sym c.if-pass.false); ntt_form_z = λ t. absurd (true≢false (sym t ∙ c.if-pass.false)) }
+    record {
+      scratch_after = ap (λ t. z_for (parameters_of s.params) s.transcripts.now s.count s.m s.start t s.scratch.now) (sym c.if-pass.false);
+      ntt_form_z = λ t. absurd (true≢false (sym t ∙ c.if-pass.false));
+    }
 
 pub of_transcript-z_at-requires : goal.of_transcript-z_at-requires
 of_transcript-z_at-requires c = ((received (goal.at.of_transcript-z_at-requires c).Then-pass).sized, omega arith)

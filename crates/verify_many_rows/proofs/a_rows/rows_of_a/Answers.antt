@@ -46,7 +46,11 @@ pub returns : goal.returns
 returns c =
     let l = c.loop-row in
     let a = c.args in
-    let done : l.row ≡ a.params.kappa = omega arith in record { all_rows_done_2 = subst (λ ρ. AllRowsDone a.job.now a.count (λ m. get_or a.passes m false) a.transcripts.now l.scratch ρ) (done ∙ ap (λ (Q : Parameters). Q.κ) c.requires.rowable.same) l.invariant.2; unchanged = unchanged_trans _ _ _ _ c.all_to_ntt_form.ensures.unchanged l.invariant.3 }
+    let done : l.row ≡ a.params.kappa = omega arith in record {
+      all_rows_done_2 = subst (λ ρ. AllRowsDone a.job.now a.count (λ m. get_or a.passes m false) a.transcripts.now l.scratch ρ)
+          (done ∙ ap (λ (Q : Parameters). Q.κ) c.requires.rowable.same) l.invariant.2;
+      unchanged = unchanged_trans _ _ _ _ c.all_to_ntt_form.ensures.unchanged l.invariant.3;
+    }
 
 pub all_to_ntt_form-requires : goal.all_to_ntt_form-requires
 all_to_ntt_form-requires c = record { w_value = (c.twiddles-w.ensures, c.requires.rowable); all_rows_done = c.requires.all_rows_done }

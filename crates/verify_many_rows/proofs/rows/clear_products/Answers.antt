@@ -48,7 +48,10 @@ pub returns : goal.returns
 returns c =
     let s = c.args in
     let l = c.loop-m in
-    let e = c.scratch_length-need.ensures in record { products_zero = λ m h. subst (λ n. part l.scratch (m * n + (n - 4096)) 4096 ≡ replicate 4096 0) e (l.invariant.2 m (omega arith)); unchanged = subst (λ n. Unchanged (s.count * n) s.scratch.now l.scratch) e l.invariant.3 }
+    let e = c.scratch_length-need.ensures in record {
+      products_zero = λ m h. subst (λ n. part l.scratch (m * n + (n - 4096)) 4096 ≡ replicate 4096 0) e (l.invariant.2 m (omega arith));
+      unchanged = subst (λ n. Unchanged (s.count * n) s.scratch.now l.scratch) e l.invariant.3;
+    }
 
 pub scratch_length-need-requires : goal.scratch_length-need-requires
 scratch_length-need-requires c = c.requires.0

@@ -42,7 +42,11 @@ verdict-v-requires c =
     let k = l.invariant.2 in
     let g = c.requires.many_given.0 in
     let taken = c.loop-m-test.true in
-    let same = sym (same-window a.scratch.now l.scratch l.m (scratch_need P) k) in record { many_given = (record { fit = g.fit; same = g.same; few = g.few; room = subst (λ n. many_need P a.count ≤ n) (sym k.size) g.room }, taken); found_value = found_part P (parameters_of a.params) a.count a.randomness.now a.transcripts.now l.m _ _ g.same c.check_part-one.ensures (c.requires.many_given.1 l.m taken); ready_if_passing = λ pass. subst (λ w. RowsDone a.job.now (transcript_part P a.count a.transcripts.now l.m) w (row_count P)) same (c.requires.rows_ready l.m taken pass) }
+    let same = sym (same-window a.scratch.now l.scratch l.m (scratch_need P) k) in record {
+      many_given = (record { fit = g.fit; same = g.same; few = g.few; room = subst (λ n. many_need P a.count ≤ n) (sym k.size) g.room }, taken);
+      found_value = found_part P (parameters_of a.params) a.count a.randomness.now a.transcripts.now l.m _ _ g.same c.check_part-one.ensures (c.requires.many_given.1 l.m taken);
+      ready_if_passing = λ pass. subst (λ w. RowsDone a.job.now (transcript_part P a.count a.transcripts.now l.m) w (row_count P)) same (c.requires.rows_ready l.m taken pass);
+    }
 
 pub loop-m-preserved : goal.loop-m-preserved
 loop-m-preserved c =
@@ -62,7 +66,10 @@ returns c =
     let l = c.loop-m in
     let a = c.args in
     let P = parameters a.job.now in
-    let n : l.m ≡ a.count = omega arith in record { value = l.invariant.1 ∙ ap (λ k. padded 8 k unused_verdict (of_part a.job.now a.count a.randomness.now a.transcripts.now)) n; unchanged = subst (λ k. Unchanged (many_need P k) a.scratch.now l.scratch) n l.invariant.2 }
+    let n : l.m ≡ a.count = omega arith in record {
+      value = l.invariant.1 ∙ ap (λ k. padded 8 k unused_verdict (of_part a.job.now a.count a.randomness.now a.transcripts.now)) n;
+      unchanged = subst (λ k. Unchanged (many_need P k) a.scratch.now l.scratch) n l.invariant.2;
+    }
 
 pub shape_of-scratch : goal.shape_of-scratch
 shape_of-scratch c = c.loop-m.invariant.2.size

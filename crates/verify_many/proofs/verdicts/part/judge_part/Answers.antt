@@ -56,7 +56,11 @@ judge_window-requires c =
     let a = c.args in
     let need = scratch_need (parameters a.job.now) in
     let g = c.requires.many_given.0 in
-    let more : (a.m + 1) * need ≤ a.count * need = mul-le-mul_right need (omega arith) in record { verifiable = part_verifiable a.job.now a.count a.randomness.now a.transcripts.now a.m g.fit _ _ (randomness_is r) (transcript_is t) c.requires.m_value a.params g.same; m_bound = (omega (arith, g.few), omega (arith, more, g.room)); rows_done = subst (λ T. RowsDone a.job.now T (window (parameters a.job.now) a.scratch.now a.m) (row_count (parameters a.job.now))) (sym (transcript_is t)) c.requires.part_ready }
+    let more : (a.m + 1) * need ≤ a.count * need = mul-le-mul_right need (omega arith) in record {
+      verifiable = part_verifiable a.job.now a.count a.randomness.now a.transcripts.now a.m g.fit _ _ (randomness_is r) (transcript_is t) c.requires.m_value a.params g.same;
+      m_bound = (omega (arith, g.few), omega (arith, more, g.room));
+      rows_done = subst (λ T. RowsDone a.job.now T (window (parameters a.job.now) a.scratch.now a.m) (row_count (parameters a.job.now))) (sym (transcript_is t)) c.requires.part_ready;
+    }
 
 pub returns : goal.returns
 returns c =
@@ -64,7 +68,10 @@ returns c =
     let t = (goal.at.returns c).After-transcript_bounds-t in
     let a = c.args in
     let e = c.judge_window.ensures in
-    record { result_value = e.result_value ∙ part-judged a.job.now a.count a.randomness.now a.transcripts.now a.m c.requires.many_given.0.fit _ _ (randomness_is r) (transcript_is t) c.requires.m_value; unchanged = e.unchanged }
+    record {
+      result_value = e.result_value ∙ part-judged a.job.now a.count a.randomness.now a.transcripts.now a.m c.requires.many_given.0.fit _ _ (randomness_is r) (transcript_is t) c.requires.m_value;
+      unchanged = e.unchanged;
+    }
 
 pub randomness_bounds-r-requires : goal.randomness_bounds-r-requires
 randomness_bounds-r-requires c =

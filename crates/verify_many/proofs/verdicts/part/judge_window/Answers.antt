@@ -29,7 +29,11 @@ judge-requires c =
     let k = (goal.at.judge-requires c).After-scratch_length-need in
     let need = scratch_need (parameters c.args.job.now) in
     let l = lent_length c.args.scratch.now c.args.m need c.scratch_length-need.result (need_is k) c.requires.m_bound.1 in
-    let w = lent-window c.args.scratch.now c.args.m need c.scratch_length-need.result (need_is k) c.requires.m_bound.1 in record { verifiable = subst (λ n. Verifiable c.args.job.now c.args.randomness.now c.args.transcript.now n c.args.params) (sym l) c.requires.verifiable; window_len = l; rows_done = subst (λ w. RowsDone c.args.job.now c.args.transcript.now w (row_count (parameters c.args.job.now))) (sym w) c.requires.rows_done }
+    let w = lent-window c.args.scratch.now c.args.m need c.scratch_length-need.result (need_is k) c.requires.m_bound.1 in record {
+      verifiable = subst (λ n. Verifiable c.args.job.now c.args.randomness.now c.args.transcript.now n c.args.params) (sym l) c.requires.verifiable;
+      window_len = l;
+      rows_done = subst (λ w. RowsDone c.args.job.now c.args.transcript.now w (row_count (parameters c.args.job.now))) (sym w) c.requires.rows_done;
+    }
 
 pub returns : goal.returns
 returns c =

@@ -18,7 +18,8 @@ pub returns-in-Refused : goal.returns-in-Refused
 returns-in-Refused c =
     let a = c.args in record {
       value = c.verdict_of.ensures
-          ∙ ap labrador_verdict (part-refused a.job.now a.count a.randomness.now a.transcripts.now a.m c.requires.many_given.0.fit c.in-Refused.refusal (sym (ap of_slice_checked c.in-Refused.is) ∙ c.requires.found_value));
+          ∙ ap labrador_verdict (part-refused a.job.now a.count a.randomness.now a.transcripts.now a.m c.requires.many_given.0.fit c.in-Refused.refusal
+          (sym (ap of_slice_checked c.in-Refused.is) ∙ c.requires.found_value));
       unchanged = unchanged_refl _ _;
     }
 

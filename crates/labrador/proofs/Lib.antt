@@ -1,0 +1,3 @@
+mod Lengths
+mod LoadNeeds
+mod Answered

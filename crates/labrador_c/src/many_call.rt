@@ -1,0 +1,18 @@
+// The exported call on many transcripts (document 02, Item 11).
+ghost use Rattle.verify_many.specs.Answers.{ManyCall};
+
+use verify_many::answers::LabradorVerdicts;
+
+// The verdicts on up to eight transcripts, which lie end to end, with their randomness; the job is read once.
+#[unsafe(no_mangle)]
+pub extern "C" fn labrador_verify_many(
+    job: &[u32],
+    count: u32,
+    randomness: &[u32],
+    transcripts: &[u32],
+    scratch: &mut [u32],
+) -> LabradorVerdicts
+    ensures { ManyCall job.now count randomness.now transcripts.now scratch.old scratch.new result }
+{
+    labrador::many_call::labrador_verify_many(job, count, randomness, transcripts, scratch)
+}

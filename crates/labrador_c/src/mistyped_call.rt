@@ -1,0 +1,18 @@
+// The exported call that lists the constants which may be mistyped (document 02, Item 8).
+ghost use Rattle.mistyped.specs.Told.{MistypedCall};
+
+use mistyped::answers::MistypedAnswer;
+
+// After a failed check 22, each index of b0 at which adding one number mends it, with the number of smallest centred size.
+#[unsafe(no_mangle)]
+pub extern "C" fn labrador_mistyped(
+    job: &[u32],
+    randomness: &[u32],
+    transcript: &[u32],
+    scratch: &mut [u32],
+    list: &mut [u32],
+) -> MistypedAnswer
+    ensures { MistypedCall job.now randomness.now transcript.now scratch.old list.old scratch.new list.new result }
+{
+    labrador::mistyped_call::labrador_mistyped(job, randomness, transcript, scratch, list)
+}

@@ -1,0 +1,11 @@
+pub mod Unrefused
+pub mod Demand3
+pub mod Accepts
+pub mod Binding
+pub mod Forks
+pub mod Load
+pub mod Ranges
+pub mod ManyOpenings
+pub mod ManyForks
+pub mod Zero
+pub mod WholeOfRuns
