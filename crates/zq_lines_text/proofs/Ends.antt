@@ -26,8 +26,7 @@ pub room_behind_sign : {l m : List ℕ} {at p : ℕ} (n : ℕ) → Written l at 
 room_behind_sign n w h = omega (arith, w.count, written-length w, length-decimal n)
 
 -- and with no sign too
-pub few_digits : (n : ℕ) → length (decimal n) ≤ 10
-few_digits n = length-decimal n
+pub ruleset few_digits = (length-decimal)
 
 -- the sign and the digits of a centre below zero
 pub centre_large : {l m k : List ℕ} {a n at p q : ℕ} → half_Q < a → Canonical a → Written l at (45 ∷ []) m p → n ≡ size a → Written m p (decimal n) k q → Written l at (signed (centre a)) k q
