@@ -59,12 +59,17 @@ def twins():
     return [" = ".join(group) for group in groups.values() if len(group) > 1]
 
 
-def loops():
-    """Each loop that is no `for`."""
+def lines_like(pattern):
+    """Each line that a pattern fits, with its place."""
     for path in FILES:
         for number, line in enumerate(open(path, encoding="utf-8"), 1):
-            if re.match(r"^\s*('\w+: )?(while|loop)\b", line):
+            if re.match(pattern, line):
                 yield f"{path}:{number} {line.strip()}"
+
+
+def loops():
+    """Each loop that is no `for`."""
+    return lines_like(r"^\s*('\w+: )?(while|loop)\b")
 
 
 def conversions():
@@ -115,10 +120,7 @@ def buffers():
 
 def switches():
     """Each match on a kind that is passed in."""
-    for path in FILES:
-        for number, line in enumerate(open(path, encoding="utf-8"), 1):
-            if re.match(r"^\s*match (call|rule|kind|which|step)\b", line):
-                yield f"{path}:{number} {line.strip()}"
+    return lines_like(r"^\s*match (call|rule|kind|which|step)\b")
 
 
 def answers():
