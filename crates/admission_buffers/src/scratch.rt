@@ -1,24 +1,23 @@
 // The lent scratch: 1.
 ghost use Rattle.std.specs.Prelude.{◌≡◌};
+ghost use Rattle.spec_leaves.specs.Answer.{of_result};
 ghost use Rattle.spec_protocol.specs.Layout.{scratch_refusal};
 ghost use Rattle.relation_env_params.specs.Parameters.{parameters_of};
 ghost use Rattle.layout_sizes.specs.Sizes.{Sized};
-ghost use Rattle.admission_slices.specs.Admission.{of_slice_checked};
 
-use admission_slices::answers::SliceChecked;
 use relation_env_params::env_params::EnvironmentParameters;
 use spec_leaves::answers::Refusal;
 
 // "Place is the length needed."
 #[tactic(auto, using(admission_slices::proofs::Found::too_short, admission_slices::proofs::Found::long_enough))]
-pub fn check(lent: usize, params: EnvironmentParameters) -> SliceChecked
+pub fn check(lent: usize, params: EnvironmentParameters) -> Result<(), Refusal>
     requires { Sized (parameters_of params) }
-    ensures { of_slice_checked result ≡ scratch_refusal (parameters_of params) lent }
+    ensures { of_result result ≡ scratch_refusal (parameters_of params) lent }
 {
     let need = layout_sizes::buffers::scratch_length(params);
     if lent < need {
-        SliceChecked::Refused(Refusal::ScratchTooShort(need))
+        Err(Refusal::ScratchTooShort(need))
     } else {
-        SliceChecked::Fine
+        Ok(())
     }
 }

@@ -1,6 +1,5 @@
 -- What the calls and answers of this crate stand for, and what holds of a call that is refused nothing before its work.
 use Rattle.std.specs.Prelude.{◌≡◌, List, ℕ, ◌≤◌, take}
-use Rattle.spec_leaves.specs.Answer.{Answer, fine, of_refusal}
 use Rattle.spec_protocol.specs.Parameters.{parameters}
 use Rattle.spec_protocol.specs.Layout.{span, job_sections, randomness_sections, witness_sections, transcript_sections, scratch_need}
 use Rattle.spec_protocol.specs.Prover as P
@@ -10,10 +9,8 @@ use Rattle.relation_env_params.specs.Parameters.{parameters_of}
 use Rattle.relation_env_params.specs.SectionOne.{Sound}
 use Rattle.admission_slices.specs.declared.calls.Call.{Call}
 use Rattle.admission_slices.specs.declared.calls.Call.TheVariants as C
-use Rattle.admission_slices.specs.declared.answers.SliceChecked.{SliceChecked}
-use Rattle.admission_slices.specs.declared.answers.SliceChecked.TheVariants as K
-use Rattle.admission_slices.specs.declared.answers.Admitted.{Admitted}
-use Rattle.admission_slices.specs.declared.answers.Admitted.TheVariants as A
+use Rattle.admission_slices.specs.declared.slices.Slice.{Slice}
+use Rattle.admission_slices.specs.declared.slices.Slice.TheVariants as S
 
 -- the call of document 01
 abbrev pub call_of : Call → P.Call
@@ -24,19 +21,19 @@ call_of C.Round3 = P.round₃
 call_of C.Round4 = P.round₄
 call_of C.Round5 = P.round₅
 
--- what is refused, with its number and place
-abbrev pub of_slice_checked : SliceChecked → Answer
-of_slice_checked K.Fine = fine
-of_slice_checked (K.Refused r) = of_refusal r
+-- "3, 6"; "7, 8"; "9, 10"; "11, 12": the number by which a slice's layout is refused
+abbrev pub layout_number : Slice → ℕ
+layout_number S.Job = 3
+layout_number S.Randomness = 7
+layout_number S.Transcript = 9
+layout_number S.Witness = 11
 
-abbrev pub of_admitted : Admitted → Answer
-of_admitted (A.Refused r) = of_refusal r
-of_admitted (A.Fit params) = fine
-
--- a fact of the parameters of a call that is refused nothing
-abbrev pub At : Admitted → (EnvironmentParameters → Type 0) → Type 0
-At (A.Refused r) F = Unit {0}
-At (A.Fit params) F = F params
+-- and that by which a word out of range is
+abbrev pub word_number : Slice → ℕ
+word_number S.Job = 6
+word_number S.Randomness = 8
+word_number S.Transcript = 10
+word_number S.Witness = 12
 
 -- the job and the randomness of a call: the parameters are the job's and within their limits, and the slices have their sections, each word in its range
 pub record Handed (handed : ℕ) (J R : List ℕ) (scratch : ℕ) (params : EnvironmentParameters) : Type 0 where

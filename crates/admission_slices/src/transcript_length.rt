@@ -4,7 +4,6 @@ ghost use Rattle.spec_leaves.specs.Answer.{result_of};
 ghost use Rattle.spec_protocol.specs.Parameters.{parameters};
 ghost use Rattle.spec_protocol.specs.Layout.{span, transcript_sections, job_refusal};
 
-use crate::answers::Admitted;
 use crate::job;
 use layout_sizes::buffers;
 
@@ -13,7 +12,7 @@ pub fn transcript_length(job: &[u32]) -> usize
     ensures { result ≡ result_of (job_refusal job.now) (span (transcript_sections (parameters job.now))) 0 }
 {
     match job::check(job) {
-        Admitted::Refused(_) => 0,
-        Admitted::Fit(params) => buffers::output_length(params, 0, 8),
+        Ok(params) => buffers::output_length(params, 0, 8),
+        Err(_) => 0,
     }
 }

@@ -1,2 +1,1 @@
-mod Refused
 pub mod Number

@@ -1,10 +1,10 @@
 // The answers of the exported leaf calls: a refusal's number or 0, its place, and the result, which is zero on a refusal.
-ghost use Rattle.std.specs.Prelude.{◌≡◌};
-ghost use Rattle.spec_leaves.specs.Answer.{of_operands, value128};
+ghost use Rattle.std.specs.Prelude.{◌≡◌, Result};
+ghost use Rattle.spec_leaves.specs.Answer.{of_operands, result_of};
 ghost use Rattle.api_leaf_answers.specs.Answers.{status_of, word_answer, centre_answer, element_answer, norm_answer};
 
 use ring_rq::rq::Rq;
-use spec_leaves::answers::{Operands, U128};
+use spec_leaves::answers::OperandError;
 
 #[repr(C)]
 #[derive(Clone, Copy)]
@@ -57,78 +57,75 @@ pub struct NormAnswer {
     pub lo: u64,
 }
 
-// The number and place of what was found of the operands.
-pub fn status_of(o: Operands) -> Status
-    ensures { result ≡ status_of (of_operands o) }
-{
-    match o {
-        Operands::Fit => Status {
-            number: 0,
-            place: 0,
-        },
-        Operands::ParameterOutOfLimits(place) => Status { number: 4, place },
-        Operands::Word(place) => Status { number: 6, place },
-        Operands::SignWord(place) => Status { number: 8, place },
-        Operands::BaseOrParts(place) => Status { number: 31, place },
+impl From<Result<(), OperandError>> for Status {
+    ghost from_gives = { λ found status. status ≡ status_of (of_operands found) };
+
+    fn from(found: Result<(), OperandError>) -> Status {
+        match found {
+            Ok(()) => Status {
+                number: 0,
+                place: 0,
+            },
+            Err(OperandError::ParameterOutOfLimits(place)) => Status { number: 4, place },
+            Err(OperandError::Word(place)) => Status { number: 6, place },
+            Err(OperandError::SignWord(place)) => Status { number: 8, place },
+            Err(OperandError::BaseOrParts(place)) => Status { number: 31, place },
+        }
     }
 }
 
-pub fn word_of(o: Operands, value: u32) -> WordAnswer
-    ensures { result ≡ word_answer (of_operands o) value }
+// The value where the operands fit, else none of it.
+fn kept<T: Drop>(found: Result<(), OperandError>, value: T, none: T) -> T
+    ensures { result ≡ result_of (of_operands found) value none }
 {
-    let s = status_of(o);
-    let kept = if s.number == 0 { value } else { 0 };
+    match found {
+        Ok(()) => value,
+        Err(_) => none,
+    }
+}
+
+pub fn word_of(found: Result<(), OperandError>, value: u32) -> WordAnswer
+    ensures { result ≡ word_answer (of_operands found) value }
+{
+    let status = Status::from(found);
     WordAnswer {
-        number: s.number,
-        place: s.place,
-        value: kept,
+        number: status.number,
+        place: status.place,
+        value: kept(found, value, 0),
     }
 }
 
-pub fn centre_of(o: Operands, value: i64) -> CentreAnswer
-    ensures { result ≡ centre_answer (of_operands o) value }
+pub fn centre_of(found: Result<(), OperandError>, value: i64) -> CentreAnswer
+    ensures { result ≡ centre_answer (of_operands found) value }
 {
-    let s = status_of(o);
-    let kept = if s.number == 0 { value } else { 0 };
+    let status = Status::from(found);
     CentreAnswer {
-        number: s.number,
-        place: s.place,
-        value: kept,
+        number: status.number,
+        place: status.place,
+        value: kept(found, value, 0),
     }
 }
 
-pub fn element_of(o: Operands, value: Rq) -> ElementAnswer
-    ensures { result ≡ element_answer (of_operands o) value.coeffs }
+pub fn element_of(found: Result<(), OperandError>, value: Rq) -> ElementAnswer
+    ensures { result ≡ element_answer (of_operands found) value.coeffs }
 {
-    let s = status_of(o);
-    let coeffs = value.coeffs;
-    if s.number != 0 {
-        return ElementAnswer {
-            number: s.number,
-            place: s.place,
-            coeffs: [0u32; Rq::DEGREE],
-        };
-    }
+    let status = Status::from(found);
     ElementAnswer {
-        number: s.number,
-        place: s.place,
-        coeffs,
+        number: status.number,
+        place: status.place,
+        coeffs: kept(found, value.coeffs, Rq::zero().coeffs),
     }
 }
 
-pub fn norm_of(o: Operands, norm: U128) -> NormAnswer
-    ensures { result ≡ norm_answer (of_operands o) (value128 norm) }
+pub fn norm_of(found: Result<(), OperandError>, norm: u128) -> NormAnswer
+    ensures { result ≡ norm_answer (of_operands found) norm }
 {
-    let s = status_of(o);
-    let kept = if s.number == 0 {
-        norm
-    } else {
-        U128 { hi: 0, lo: 0 }
-    };
+    let status = Status::from(found);
+    let norm = kept(found, norm, 0);
     NormAnswer {
-        number: s.number,
-        place: s.place,
-        hi: kept.hi,
-        lo: kept.lo,
+        number: status.number,
+        place: status.place,
+        hi: (norm >> 64) as u64,
+        lo: (norm % (1 << 64)) as u64,
     }
 }

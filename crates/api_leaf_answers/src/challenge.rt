@@ -12,10 +12,7 @@ pub fn challenge_of(words: &[u32]) -> ElementAnswer
     requires { length words.now ≡ 104 }
     ensures { result ≡ challenge_answer words.now }
 {
-    let signs = &words[..41];
-    let shuffle = &words[41..];
-    answers::element_of(
-        scan::sign_words(signs),
-        challenge::sample_challenge(signs, shuffle),
-    )
+    let (signs, shuffle) = words.split_at(41);
+    let found = scan::sign_words(signs);
+    answers::element_of(found, challenge::sample_challenge(signs, shuffle))
 }

@@ -1,78 +1,53 @@
-// The search for the first bad word, and the first of two answers.
-ghost use Rattle.std.specs.Prelude.{◌≡◌, true, ◌+◌, ◌^◌, ◌<◌, length};
+// The search for the first bad word.
+ghost use Rattle.std.specs.Prelude.{◌≡◌, Result, ◌+◌, ◌^◌, ◌<◌, length, true, All, position, nat_le};
 ghost use Rattle.spec_leaves.specs.Zq.{Q};
-ghost use Rattle.spec_leaves.specs.Answer.{of_operands, below, ◌then◌};
+ghost use Rattle.spec_leaves.specs.Answer.{of_operands, below};
 ghost use Rattle.spec_leaves.specs.Leaf.{sign_words};
-ghost use Rattle.api_operands.specs.Scan.{FirstNotBelow};
 
 use ring_zq::zq::Zq;
-use spec_leaves::answers::Operands;
+use spec_leaves::answers::OperandError;
 
-// Whether every word is below the limit. It looks at all of them, so it runs on several words at a time.
+// Whether every word is below the limit. It looks at all of them, so it runs on several words at a time, which `iter().all(..)` does not.
 fn all_below(words: &[u32], limit: u32) -> bool
-    ensures { result ≡ true → FirstNotBelow limit words.now (length words.now) }
+    ensures { result ≡ true → All (λ word. word < limit) words.now }
 {
     let mut fit = true;
-    for k in 0..words.len() {
-        if words[k] >= limit {
+    for word in words {
+        if *word >= limit {
             fit = false;
         }
     }
     fit
 }
 
-// The index of the first word at or above the limit; the number of words where there is none.
-pub fn first_not_below(words: &[u32], limit: u32) -> usize
-    ensures { FirstNotBelow limit words.now result }
+// The index of the first word at or above the limit.
+fn first_not_below(words: &[u32], limit: u32) -> Option<usize>
+    ensures { result ≡ position (λ word. nat_le limit word) words.now }
 {
     if all_below(words, limit) {
-        return words.len();
+        return None;
     }
-    let mut i = 0;
-    while i < words.len() {
-        if limit <= words[i] {
-            return i;
-        }
-        i += 1;
-    }
-    i
+    words.iter().position(|word| limit <= *word)
 }
 
 // Whether words are canonical, the first of them at a place.
-pub fn words_from(words: &[u32], place: u32) -> Operands
+pub fn words_from(words: &[u32], place: u32) -> Result<(), OperandError>
     requires { place + length words.now < 2 ^ 32 }
     ensures { of_operands result ≡ below Q 6 place words.now }
 {
-    let i = first_not_below(words, Zq::Q);
-    if i < words.len() {
-        Operands::Word(place + i as u32)
-    } else {
-        Operands::Fit
+    match first_not_below(words, Zq::Q) {
+        Some(i) => Err(OperandError::Word(place + i as u32)),
+        None => Ok(()),
     }
 }
 
 // Whether sign words are 0 or 1.
-pub fn sign_words(signs: &[u32]) -> Operands
+pub fn sign_words(signs: &[u32]) -> Result<(), OperandError>
     requires { length signs.now < 2 ^ 32 }
     ensures { of_operands result ≡ sign_words signs.now }
 {
-    let i = first_not_below(signs, 2);
-    if i < signs.len() {
-        Operands::SignWord(i as u32)
-    } else {
-        Operands::Fit
-    }
-}
-
-// The first of two answers that is not fine.
-pub fn first(a: Operands, b: Operands) -> Operands
-    ensures { of_operands result ≡ of_operands a then of_operands b }
-{
-    match a {
-        Operands::Fit => b,
-        Operands::ParameterOutOfLimits(p) => Operands::ParameterOutOfLimits(p),
-        Operands::Word(p) => Operands::Word(p),
-        Operands::SignWord(p) => Operands::SignWord(p),
-        Operands::BaseOrParts(p) => Operands::BaseOrParts(p),
+    match first_not_below(signs, 2) {
+        Some(i) => Err(OperandError::SignWord(i as u32)),
+        None => Ok(()),
     }
 }

@@ -16,6 +16,7 @@ pub fn parts_needed(base: u32) -> u32
     if base < 2 {
         return 0;
     }
+    // The loop ends at a reach, and counts its turns: there is no range or slice to run through.
     let mut reach: u64 = 0;
     let mut parts: u32 = 0;
     while reach < GREATEST {

@@ -10,8 +10,8 @@ pub fn recompose(base: u32, digits: &[u32]) -> Zq
 {
     let mut sum = Zq::ZERO;
     let mut power = Zq::ONE;
-    for i in 0..digits.len() {
-        sum = sum.add(Zq(digits[i]).mul(power));
+    for digit in digits {
+        sum = sum.add(Zq(*digit).mul(power));
         power = power.mul(Zq(base));
     }
     sum

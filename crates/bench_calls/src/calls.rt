@@ -6,8 +6,7 @@ ghost use Rattle.bench_calls.specs.Made.{left, inner_product_made, combination_m
 use crate::{fits, work};
 
 // The inner product of two vectors of n elements.
-#[unsafe(no_mangle)]
-pub extern "C" fn slice_inner_product(x: &[u32], y: &[u32], n: usize, out: &mut [u32]) -> bool
+pub fn slice_inner_product(x: &[u32], y: &[u32], n: usize, out: &mut [u32]) -> bool
     ensures value { result ≡ inner_product_fits (length x.now) (length y.now) (length out.old) n }
     ensures out_after { out.new ≡ left result out.old (inner_product_made x.now y.now n) }
 {
@@ -20,8 +19,7 @@ pub extern "C" fn slice_inner_product(x: &[u32], y: &[u32], n: usize, out: &mut 
 }
 
 // The linear combination of n elements with as many numbers.
-#[unsafe(no_mangle)]
-pub extern "C" fn slice_combination(x: &[u32], factors: &[u32], n: usize, out: &mut [u32]) -> bool
+pub fn slice_combination(x: &[u32], factors: &[u32], n: usize, out: &mut [u32]) -> bool
     ensures value { result ≡ combination_fits (length x.now) (length factors.now) (length out.old) n }
     ensures out_after { out.new ≡ left result out.old (combination_made x.now factors.now n) }
 {
@@ -34,14 +32,7 @@ pub extern "C" fn slice_combination(x: &[u32], factors: &[u32], n: usize, out: &
 }
 
 // The projection p of r vectors of n elements by their matrices of 256 rows.
-#[unsafe(no_mangle)]
-pub extern "C" fn slice_projection(
-    pi: &[u32],
-    s: &[u32],
-    n: usize,
-    r: usize,
-    out: &mut [u32],
-) -> bool
+pub fn slice_projection(pi: &[u32], s: &[u32], n: usize, r: usize, out: &mut [u32]) -> bool
     ensures value { result ≡ projection_fits (length pi.now) (length s.now) (length out.old) n r }
     ensures out_after { out.new ≡ left result out.old (projection_made pi.now s.now n r) }
 {
@@ -54,8 +45,7 @@ pub extern "C" fn slice_projection(
 }
 
 // φ'' for `number` rows of psi and of omega. The randomness is the matrices, psi and omega, one after the other.
-#[unsafe(no_mangle)]
-pub extern "C" fn slice_phi(
+pub fn slice_phi(
     phi: &[u32],
     randomness: &[u32],
     r: usize,
@@ -76,8 +66,7 @@ pub extern "C" fn slice_phi(
 }
 
 // u1 of so many rows. The matrices are B and C, and the cells those of t and of g, one after the other.
-#[unsafe(no_mangle)]
-pub extern "C" fn slice_u1(
+pub fn slice_u1(
     matrices: &[u32],
     from: &[u32],
     rows: usize,

@@ -4,9 +4,8 @@ ghost use Rattle.spec_leaves.specs.Answer.{number, place};
 ghost use Rattle.spec_protocol.specs.Prover.{prove_refusal, whole};
 
 use admission_order::prover;
-use admission_slices::answers::Admitted;
 use admission_slices::calls::Call;
-use api_answers::numbers::number_of;
+use api_answers::numbers::Numbered;
 
 // A refusal's number, 0 where nothing is refused, and its place.
 #[repr(C)]
@@ -16,8 +15,7 @@ pub struct Judged {
     pub place: usize,
 }
 
-#[unsafe(no_mangle)]
-pub extern "C" fn slice_judged(
+pub fn slice_judged(
     job: &[u32],
     randomness: &[u32],
     witness: &[u32],
@@ -28,16 +26,13 @@ pub extern "C" fn slice_judged(
     ensures place_value { result.place ≡ place (prove_refusal whole job.now randomness.now witness.now scratch output) }
 {
     match prover::admit(Call::Whole, job, randomness, witness, scratch, output) {
-        Admitted::Refused(refusal) => {
-            let named = number_of(refusal);
-            Judged {
-                number: named.number,
-                place: named.place,
-            }
-        }
-        Admitted::Fit(_) => Judged {
+        Ok(_) => Judged {
             number: 0,
             place: 0,
         },
+        Err(refusal) => {
+            let Numbered { number, place } = Numbered::from(refusal);
+            Judged { number, place }
+        }
     }
 }

@@ -1,4 +1,5 @@
 // Commitments to vectors (`AjtaiScheme::commit`): a matrix times each of them.
+// A slice is passed whole with the place of its run: contracts speak of places in the whole slice, and a struct of the two would be built anew at each call.
 ghost use Rattle.std.specs.Prelude.{◌≡◌, ◌*◌, ◌≤◌};
 ghost use Rattle.math.specs.lists.Part.{splice};
 ghost use Rattle.commitments_outer.specs.Cells.{Room, commitments_of};
@@ -22,11 +23,9 @@ pub fn commit_all(
     let out_step = 64 * count;
     let mut start = at;
     let mut place = out_at;
-    let mut i = 0;
-    while i < r {
+    for i in 0..r {
         ring_rq_matrix::matrix_vector(matrix, m_at, count, n, vectors, start, out, place);
         start += step;
         place += out_step;
-        i += 1;
     }
 }

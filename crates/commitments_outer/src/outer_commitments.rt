@@ -1,4 +1,5 @@
 // Commitments to the digits of cells, without storing all digits at once.
+// A slice is passed whole with the place of its run: contracts speak of places in the whole slice, and a struct of the two would be built anew at each call.
 ghost use Rattle.std.specs.Prelude.{◌≡◌, ◌+◌, ◌*◌, ◌≤◌, ◌<◌, length};
 ghost use Rattle.math.specs.lists.Part.{splice};
 ghost use Rattle.ring_inner_product.specs.Run.{run};
@@ -36,14 +37,12 @@ pub fn add_products(
 {
     let mut row = m_at;
     let mut place = out_at;
-    let mut k = 0;
-    while k < rows {
+    for k in 0..rows {
         let product = products::inner_product(matrix, row, v, forms, half, n);
         let sum = ring_words::load(out, place).add(product);
         ring_words::store(out, place, sum);
         row += m_step;
         place += 64;
-        k += 1;
     }
 }
 
@@ -97,8 +96,7 @@ pub fn add_cells(
     let mut forms = [0u64; 4096];
     let mut column = m_at;
     let mut place = d.at;
-    let mut c = 0;
-    while c < cells {
+    for c in 0..cells {
         add_cell(
             matrix,
             column,
@@ -115,7 +113,6 @@ pub fn add_cells(
         );
         column += block;
         place += 64;
-        c += 1;
     }
 }
 

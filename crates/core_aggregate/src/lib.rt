@@ -17,7 +17,7 @@ use ring_rq::rq::Rq;
 use ring_rq_matrix;
 use ring_rq_matrix::triangles;
 
-// a'' for each row of psi, one after the other into a region.
+// a'' for each row of psi, one after the other into a region that is set to zero first.
 pub fn a_double_prime(
     job: &[u32],
     at: usize,
@@ -32,15 +32,18 @@ pub fn a_double_prime(
     requires { Grid job.now at width count × (row + aggregations * count ≤ length numbers.now) × Room out.old to (aggregations * width) }
     ensures { out.new ≡ splice out.old to (weighed_words job.now at width count numbers.now row aggregations) }
 {
-    let mut first = row;
-    let mut place = to;
-    let mut k = 0;
-    while k < aggregations {
-        core_aggregate_psi::weigh(job, at, width, count, numbers, first, out, place);
-        first += count;
-        place += 64 * width;
-        k += 1;
-    }
+    ring_words::clear_run(out, to, 64 * (aggregations * width));
+    core_aggregate_psi::add_weighed_rows(
+        job,
+        at,
+        width,
+        count,
+        numbers,
+        row,
+        aggregations,
+        out,
+        to,
+    );
 }
 
 // φ'' for each k: a region of r vectors for each row of psi and of omega. The omega part of each vector is stored, and the psi part added.
@@ -114,13 +117,11 @@ pub fn b_double_prime(
     let width = r * n;
     let mut a = a_at;
     let mut phi = phi_at;
-    let mut k = 0;
-    while k < count {
+    for k in 0..count {
         let e = form(scratch, a, g_at, phi, r, n, witness, s_at);
         ring_words::store(scratch, to + 64 * k, e);
         a += 64 * cells;
         phi += 64 * width;
-        k += 1;
     }
 }
 
@@ -174,20 +175,10 @@ pub fn aggregate(
     requires { Aggregates job.now constraints weights.now alpha beta scratch.old aggregated width to }
     ensures { scratch.new ≡ splice scratch.old to (mixed_words job.now constraints weights.now alpha beta scratch.old aggregated width) }
 {
-    let mut c = 0;
-    while c < width {
-        let constraint = Strided {
-            at: constraints.at + 64 * c,
-            step: constraints.step,
-            count: constraints.count,
-        };
-        let one = Strided {
-            at: aggregated.at + 64 * c,
-            step: aggregated.step,
-            count: aggregated.count,
-        };
+    for c in 0..width {
+        let constraint = constraints.further(c);
+        let one = aggregated.further(c);
         let e = mix(job, constraint, weights, alpha, beta, scratch, one);
         ring_words::store(scratch, to + 64 * c, e);
-        c += 1;
     }
 }

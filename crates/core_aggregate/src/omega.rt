@@ -21,12 +21,10 @@ pub fn omega_parts(
 {
     let mut pi = pi_at;
     let mut place = to;
-    let mut i = 0;
-    while i < r {
+    for i in 0..r {
         core_jl_transpose::omega_part(randomness, pi, omega_at, n, out, place);
         pi += 16384 * n;
         place += 64 * n;
-        i += 1;
     }
 }
 
@@ -46,42 +44,15 @@ pub fn omega_parts_of_four(
     let step = 64 * (r * n);
     let mut pi = pi_at;
     let mut place = to;
-    let mut i = 0;
-    while i < r {
+    for i in 0..r {
         fours::omega_part(randomness, pi, omega_at, n, out, place, step);
         pi += 16384 * n;
         place += 64 * n;
-        i += 1;
-    }
-}
-
-// The omega part of φ'' for four k at a time, so many times: a region of r vectors for each k.
-pub fn omega_fours(
-    randomness: &[u32],
-    pi_at: usize,
-    omega_at: usize,
-    r: usize,
-    n: usize,
-    groups: usize,
-    out: &mut [u32],
-    to: usize,
-)
-    requires { Projected randomness.now pi_at r n omega_at (groups * 1024) out.old to (4 * groups * (r * n)) }
-    ensures { out.new ≡ splice out.old to (omega_regions randomness.now pi_at omega_at r n (4 * groups)) }
-{
-    let width = r * n;
-    let mut weights = omega_at;
-    let mut place = to;
-    let mut g = 0;
-    while g < groups {
-        omega_parts_of_four(randomness, pi_at, weights, r, n, out, place);
-        weights += 1024;
-        place += 256 * width;
-        g += 1;
     }
 }
 
 // The omega part of φ'' for so many k, one at a time: a region of r vectors for each k.
+// One k and four k are made by different steps: a loop for both would take the step as a closure, whose contract is longer than the loop.
 pub fn omega_ones(
     randomness: &[u32],
     pi_at: usize,
@@ -98,12 +69,10 @@ pub fn omega_ones(
     let width = r * n;
     let mut weights = omega_at;
     let mut place = to;
-    let mut k = 0;
-    while k < aggregations {
+    for k in 0..aggregations {
         omega_parts(randomness, pi_at, weights, r, n, out, place);
         weights += 256;
         place += 64 * width;
-        k += 1;
     }
 }
 
@@ -126,10 +95,11 @@ pub fn omega_all(
         omega_ones(randomness, pi_at, omega_at, r, n, aggregations, out, to);
         return;
     }
-    omega_fours(randomness, pi_at, omega_at, r, n, aggregations / 4, out, to);
-    if aggregations % 4 > 0 {
-        let first = aggregations - 4;
-        let place = to + 64 * (first * (r * n));
-        omega_parts_of_four(randomness, pi_at, omega_at + first * 256, r, n, out, place);
+    let width = r * n;
+    for g in 0..aggregations.div_ceil(4) {
+        let first = (4 * g).min(aggregations - 4);
+        let weights = omega_at + first * 256;
+        let place = to + 64 * (first * width);
+        omega_parts_of_four(randomness, pi_at, weights, r, n, out, place);
     }
 }

@@ -5,12 +5,12 @@ ghost use Rattle.math.specs.lists.Table.{table};
 ghost use Rattle.math.specs.lists.Part.{part, splice};
 ghost use Rattle.spec_leaves.specs.Ring.{words};
 ghost use Rattle.spec_protocol.specs.Formulas.{flat};
-ghost use Rattle.ntt_transform.specs.Roots.{twiddle_table};
 ghost use Rattle.ntt_vectors.specs.NttForm.{ntt_form};
 ghost use Rattle.core_aggregate_ntt.specs.Terms.{term_added, run_added, SumsSmall, ntt_mixed, NttMixable};
 ghost use Rattle.core_aggregate_ntt.specs.Forms.{form_added, run_formed, TermRoom, ColumnRoom, FormSmall, FormsSmall, FormsRoom, total};
 
 use crate::mix;
+use ntt_transform::table::Twiddles;
 use ntt_vectors::{sums, vectors};
 use ring_inner_product::Strided;
 use ring_rq::rq::Rq;
@@ -22,12 +22,12 @@ pub fn add_both(
     weights: &[u32],
     weight: usize,
     s: &[u32],
-    w: &[u32],
+    w: &Twiddles,
     sums: &mut [u64],
     forms: &mut [u64],
     form: usize,
 )
-    requires { (w.now ≡ twiddle_table) × TermRoom from.now at weights.now weight s.now × SumsSmall sums.old 1 × FormSmall forms.old form }
+    requires { TermRoom from.now at weights.now weight s.now × SumsSmall sums.old 1 × FormSmall forms.old form }
     ensures sums_after { sums.new ≡ term_added sums.old weights.now weight (part from.now at 64) }
     ensures forms_after { forms.new ≡ splice forms.old form (form_added forms.old form (part from.now at 64) s.now) }
 {
@@ -45,11 +45,11 @@ pub fn add_column(
     weights: &[u32],
     weights_at: usize,
     s: &[u32],
-    w: &[u32],
+    w: &Twiddles,
     sums: &mut [u64],
     forms: &mut [u64],
 )
-    requires { (w.now ≡ twiddle_table) × ColumnRoom from.now run weights.now weights_at s.now × SumsSmall sums.old run.count × FormsSmall forms.old run.count }
+    requires { ColumnRoom from.now run weights.now weights_at s.now × SumsSmall sums.old run.count × FormsSmall forms.old run.count }
     ensures sums_after { sums.new ≡ run_added sums.old weights.now weights_at from.now run }
     ensures forms_after { forms.new ≡ splice forms.old 0 (run_formed forms.old from.now run s.now) }
 {
@@ -57,12 +57,10 @@ pub fn add_column(
     let count = run.count;
     let mut i = run.at;
     let mut weight = weights_at;
-    let mut k = 0;
-    while k < count {
+    for k in 0..count {
         add_both(from, i, weights, weight, s, w, sums, forms, 192 * k);
         i += step;
         weight += 192;
-        k += 1;
     }
 }
 
@@ -75,10 +73,10 @@ pub fn mix_and_form(
     weights: &[u32],
     witness: &[u32],
     s: usize,
-    w: &[u32],
+    w: &Twiddles,
     forms: &mut [u64],
 ) -> Rq
-    requires { (w.now ≡ twiddle_table) × NttMixable job.now constraints scratch.now aggregated weights.now × FormsRoom forms.old aggregated.count witness.now s }
+    requires { NttMixable job.now constraints scratch.now aggregated weights.now × FormsRoom forms.old aggregated.count witness.now s }
     ensures coeffs_value { result.coeffs ≡ words (ntt_mixed job.now constraints scratch.now aggregated weights.now) }
     ensures forms_after { forms.new ≡ splice forms.old 0 (run_formed forms.old scratch.now aggregated (ntt_form (part witness.now s 64))) }
 {
@@ -101,15 +99,13 @@ pub fn mix_and_form(
 }
 
 // The inverse NTT of the sums of each k, added to the element k of the totals.
-pub fn add_totals(forms: &[u64], count: usize, w: &[u32], totals: &mut [u32])
-    requires { (w.now ≡ twiddle_table) × (192 * count ≤ length forms.now) × (64 * count ≤ length totals.old) }
+pub fn add_totals(forms: &[u64], count: usize, w: &Twiddles, totals: &mut [u32])
+    requires { (192 * count ≤ length forms.now) × (64 * count ≤ length totals.old) }
     ensures { totals.new ≡ splice totals.old 0 (flat (table count (total totals.old forms.now))) }
 {
-    let mut k = 0;
-    while k < count {
+    for k in 0..count {
         let e = sums::inverse(forms, 192 * k, w);
         let sum = ring_words::load(totals, 64 * k).add(e);
         ring_words::store(totals, 64 * k, sum);
-        k += 1;
     }
 }

@@ -4,12 +4,11 @@ ghost use Rattle.std.specs.Prelude.{◌≡◌, ◌+◌, ◌≤◌, ◌<◌, ◌^
 ghost use Rattle.math.specs.lists.Part.{part, splice};
 ghost use Rattle.spec_leaves.specs.Ring.{words};
 ghost use Rattle.ring_inner_product.specs.Run.{Within};
-ghost use Rattle.ntt_transform.specs.Roots.{twiddle_table};
 ghost use Rattle.ntt_vectors.specs.NttForm.{AllValues};
 ghost use Rattle.core_aggregate.specs.Weighed.{Aggregates, mixed_words};
 ghost use Rattle.core_aggregate_ntt.specs.Terms.{term_added, run_added, SumsSmall, ntt_mixed, NttMixable, ntt_mixed_words, MixRoom, Weights, WeightsRoom, NttWeights, ntt_faster};
 
-use ntt_transform::table;
+use ntt_transform::table::Twiddles;
 use ntt_vectors::{sums, vectors};
 use ring_inner_product::Strided;
 use ring_rq::rq::Rq;
@@ -20,10 +19,10 @@ pub fn add_term(
     at: usize,
     weights: &[u32],
     weight: usize,
-    w: &[u32],
+    w: &Twiddles,
     sums: &mut [u64],
 )
-    requires { (w.now ≡ twiddle_table) × (at + 64 ≤ length from.now) × AllValues weights.now weight 1 × SumsSmall sums.old 1 }
+    requires { (at + 64 ≤ length from.now) × AllValues weights.now weight 1 × SumsSmall sums.old 1 }
     ensures { sums.new ≡ term_added sums.old weights.now weight (part from.now at 64) }
 {
     let mut values = [0u32; 192];
@@ -38,22 +37,20 @@ pub fn add_terms(
     run: Strided,
     weights: &[u32],
     weights_at: usize,
-    w: &[u32],
+    w: &Twiddles,
     sums: &mut [u64],
 )
-    requires { (w.now ≡ twiddle_table) × Within from.now run × AllValues weights.now weights_at run.count × SumsSmall sums.old run.count }
+    requires { Within from.now run × AllValues weights.now weights_at run.count × SumsSmall sums.old run.count }
     ensures { sums.new ≡ run_added sums.old weights.now weights_at from.now run }
 {
     let step = run.step;
     let count = run.count;
     let mut i = run.at;
     let mut weight = weights_at;
-    let mut m = 0;
-    while m < count {
+    for m in 0..count {
         add_term(from, i, weights, weight, w, sums);
         i += step;
         weight += 192;
-        m += 1;
     }
 }
 
@@ -64,9 +61,9 @@ pub fn mix(
     scratch: &[u32],
     aggregated: Strided,
     weights: &[u32],
-    w: &[u32],
+    w: &Twiddles,
 ) -> Rq
-    requires { (w.now ≡ twiddle_table) × NttMixable job.now constraints scratch.now aggregated weights.now }
+    requires { NttMixable job.now constraints scratch.now aggregated weights.now }
     ensures { result.coeffs ≡ words (ntt_mixed job.now constraints scratch.now aggregated weights.now) }
 {
     let mut sums = [0u64; 192];
@@ -91,26 +88,16 @@ pub fn mix_all(
     width: usize,
     to: usize,
     weights: &[u32],
-    w: &[u32],
+    w: &Twiddles,
 )
-    requires { (w.now ≡ twiddle_table) × MixRoom job.now constraints scratch.old aggregated width to weights.now }
+    requires { MixRoom job.now constraints scratch.old aggregated width to weights.now }
     ensures { scratch.new ≡ splice scratch.old to (ntt_mixed_words job.now constraints scratch.old aggregated width weights.now) }
 {
-    let mut c = 0;
-    while c < width {
-        let constraint = Strided {
-            at: constraints.at + 64 * c,
-            step: constraints.step,
-            count: constraints.count,
-        };
-        let one = Strided {
-            at: aggregated.at + 64 * c,
-            step: aggregated.step,
-            count: aggregated.count,
-        };
+    for c in 0..width {
+        let constraint = constraints.further(c);
+        let one = aggregated.further(c);
         let e = mix(job, constraint, scratch, one, weights, w);
         ring_words::store(scratch, to + 64 * c, e);
-        c += 1;
     }
 }
 
@@ -128,10 +115,10 @@ pub fn weights_to_ntt_form(
     alphas: usize,
     beta: usize,
     betas: usize,
-    w: &[u32],
+    w: &Twiddles,
     transformed: &mut [u32],
 )
-    requires { (w.now ≡ twiddle_table) × WeightsRoom weights.now alpha alphas beta betas transformed.old }
+    requires { WeightsRoom weights.now alpha alphas beta betas transformed.old }
     ensures { NttWeights transformed.new weights.now alpha alphas beta betas }
 {
     let first = first_of(alpha, alphas);
@@ -155,7 +142,7 @@ pub fn aggregate_ntt(
     requires { Aggregates job.now constraints weights.now alpha beta scratch.old aggregated width to × Weights constraints.count aggregated.count }
     ensures { scratch.new ≡ splice scratch.old to (mixed_words job.now constraints weights.now alpha beta scratch.old aggregated width) }
 {
-    let w = table::twiddles();
+    let w = Twiddles::new();
     let mut transformed = [0u32; 18432];
     weights_to_ntt_form(
         weights,

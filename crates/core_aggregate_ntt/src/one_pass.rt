@@ -4,7 +4,6 @@ ghost use Rattle.std.specs.Prelude.{◌≡◌, ◌*◌, ◌≤◌, ◌<◌, ◌^
 ghost use Rattle.math.specs.lists.Table.{table};
 ghost use Rattle.math.specs.lists.Part.{splice};
 ghost use Rattle.spec_protocol.specs.Formulas.{flat};
-ghost use Rattle.ntt_transform.specs.Roots.{twiddle_table};
 ghost use Rattle.ntt_product.specs.NttForm.{most_products};
 ghost use Rattle.core_aggregate_ntt.specs.Terms.{Weights};
 ghost use Rattle.core_aggregate_ntt.specs.Pass.{PassRoom, φ_mixed, with_lines, HasLines, FormsRoom, formed_with, Passable, with_pass, one_pass_faster};
@@ -12,7 +11,7 @@ ghost use Rattle.core_aggregate_ntt.specs.Pass.{PassRoom, φ_mixed, with_lines, 
 use crate::{forms, mix};
 use core_aggregate;
 use layout_regions::Regions;
-use ntt_transform::table;
+use ntt_transform::table::Twiddles;
 use ring_inner_product::Strided;
 use ring_rq_matrix;
 use ring_rq_matrix::triangles;
@@ -28,27 +27,18 @@ pub fn mix_run(
     witness: &[u32],
     s_at: usize,
     n: usize,
-    w: &[u32],
+    w: &Twiddles,
     totals: &mut [u32],
 )
-    requires { (w.now ≡ twiddle_table) × PassRoom job.now constraints scratch.old aggregated to weights.now witness.now s_at n totals.old × (n ≤ most_products) }
+    requires { PassRoom job.now constraints scratch.old aggregated to weights.now witness.now s_at n totals.old × (n ≤ most_products) }
     ensures scratch_after { scratch.new ≡ splice scratch.old to (φ_mixed job.now constraints scratch.old aggregated weights.now n) }
     ensures totals_after { totals.new ≡ with_lines totals.old scratch.old aggregated witness.now s_at n }
 {
     let count = aggregated.count;
     let mut forms = [0u64; 6144];
-    let mut m = 0;
-    while m < n {
-        let constraint = Strided {
-            at: constraints.at + 64 * m,
-            step: constraints.step,
-            count: constraints.count,
-        };
-        let one = Strided {
-            at: aggregated.at + 64 * m,
-            step: aggregated.step,
-            count: aggregated.count,
-        };
+    for m in 0..n {
+        let constraint = constraints.further(m);
+        let one = aggregated.further(m);
         let e = forms::mix_and_form(
             job,
             constraint,
@@ -61,7 +51,6 @@ pub fn mix_run(
             &mut forms,
         );
         ring_words::store(scratch, to + 64 * m, e);
-        m += 1;
     }
     forms::add_totals(&forms, count, w, totals);
 }
@@ -81,22 +70,16 @@ pub fn store_forms(
 {
     let cells = triangles::cells(r);
     let mut a = a_at;
-    let mut k = 0;
-    while k < count {
+    for k in 0..count {
         let square = ring_rq_matrix::sum_of_products(scratch, a, scratch, g_at, r);
         let sum = square.add(ring_words::load(totals, 64 * k));
         ring_words::store(scratch, to + 64 * k, sum);
         a += 64 * cells;
-        k += 1;
     }
 }
 
-// How many of the elements that are left are taken next.
-fn next_run(left: usize) -> usize
-    ensures { (result ≤ most_products) × (result ≤ left) × (0 < left → 0 < result) }
-{
-    if left < 512 { left } else { 512 }
-}
+// How many elements of φ'' one inverse NTT takes at most.
+const BLOCK: usize = 512;
 
 // All of `width` elements.
 pub fn mix_runs(
@@ -109,27 +92,19 @@ pub fn mix_runs(
     witness: &[u32],
     s_at: usize,
     width: usize,
-    w: &[u32],
+    w: &Twiddles,
     totals: &mut [u32],
 )
-    requires { (w.now ≡ twiddle_table) × PassRoom job.now constraints scratch.old aggregated to weights.now witness.now s_at width totals.old }
+    requires { PassRoom job.now constraints scratch.old aggregated to weights.now witness.now s_at width totals.old }
     ensures scratch_after { scratch.new ≡ splice scratch.old to (φ_mixed job.now constraints scratch.old aggregated weights.now width) }
     ensures has_lines { HasLines totals.new totals.old scratch.old aggregated witness.now s_at width }
     ensures totals_len_unchanged { length totals.new ≡ length totals.old }
 {
-    let mut c = 0;
-    while c < width {
-        let n = next_run(width - c);
-        let constraint = Strided {
-            at: constraints.at + 64 * c,
-            step: constraints.step,
-            count: constraints.count,
-        };
-        let one = Strided {
-            at: aggregated.at + 64 * c,
-            step: aggregated.step,
-            count: aggregated.count,
-        };
+    for b in 0..width.div_ceil(BLOCK) {
+        let c = BLOCK * b;
+        let n = (width - c).min(BLOCK);
+        let constraint = constraints.further(c);
+        let one = aggregated.further(c);
         mix_run(
             job,
             constraint,
@@ -143,11 +118,80 @@ pub fn mix_runs(
             w,
             totals,
         );
-        c += n;
     }
 }
 
-// φ with weights in NTT form, and b'' with it where it is asked for.
+// φ with weights in NTT form, and b'' with it where it is asked for. Not inlined: the table of twiddles is made before its buffers lie on the stack.
+#[inline(never)]
+fn phi_and_b_with(
+    job: &[u32],
+    constraints: Strided,
+    weights: &[u32],
+    alpha: usize,
+    beta: usize,
+    scratch: &mut [u32],
+    regions: Regions,
+    count: usize,
+    r: usize,
+    n: usize,
+    witness: &[u32],
+    s: usize,
+    with_b: bool,
+    w: &Twiddles,
+)
+    requires { Passable job.now constraints weights.now alpha beta scratch.old regions count r n witness.now s × Weights constraints.count count × (count ≤ 32) }
+    ensures { scratch.new ≡ with_pass with_b job.now constraints weights.now alpha beta scratch.old regions count r n witness.now s }
+{
+    let width = r * n;
+    let step = 64 * width;
+    let aggregated = Strided {
+        at: regions.phi2,
+        step,
+        count,
+    };
+    let mut transformed = [0u32; 18432];
+    mix::weights_to_ntt_form(
+        weights,
+        alpha,
+        constraints.count,
+        beta,
+        count,
+        w,
+        &mut transformed,
+    );
+    if with_b {
+        let mut totals = [0u32; 2048];
+        mix_runs(
+            job,
+            constraints,
+            scratch,
+            aggregated,
+            regions.phi,
+            &transformed,
+            witness,
+            s,
+            width,
+            w,
+            &mut totals,
+        );
+        store_forms(
+            scratch, regions.a2, regions.g, r, &totals, count, regions.b2,
+        );
+    } else {
+        mix::mix_all(
+            job,
+            constraints,
+            scratch,
+            aggregated,
+            width,
+            regions.phi,
+            &transformed,
+            w,
+        );
+    }
+}
+
+// The same with a table of twiddles of its own.
 pub fn phi_and_b_ntt(
     job: &[u32],
     constraints: Strided,
@@ -166,54 +210,23 @@ pub fn phi_and_b_ntt(
     requires { Passable job.now constraints weights.now alpha beta scratch.old regions count r n witness.now s × Weights constraints.count count × (count ≤ 32) }
     ensures { scratch.new ≡ with_pass with_b job.now constraints weights.now alpha beta scratch.old regions count r n witness.now s }
 {
-    let width = r * n;
-    let step = 64 * width;
-    let aggregated = Strided {
-        at: regions.phi2,
-        step,
-        count,
-    };
-    let w = table::twiddles();
-    let mut transformed = [0u32; 18432];
-    mix::weights_to_ntt_form(
+    let w = Twiddles::new();
+    phi_and_b_with(
+        job,
+        constraints,
         weights,
         alpha,
-        constraints.count,
         beta,
+        scratch,
+        regions,
         count,
+        r,
+        n,
+        witness,
+        s,
+        with_b,
         &w,
-        &mut transformed,
     );
-    if with_b {
-        let mut totals = [0u32; 2048];
-        mix_runs(
-            job,
-            constraints,
-            scratch,
-            aggregated,
-            regions.phi,
-            &transformed,
-            witness,
-            s,
-            width,
-            &w,
-            &mut totals,
-        );
-        store_forms(
-            scratch, regions.a2, regions.g, r, &totals, count, regions.b2,
-        );
-    } else {
-        mix::mix_all(
-            job,
-            constraints,
-            scratch,
-            aggregated,
-            width,
-            regions.phi,
-            &transformed,
-            &w,
-        );
-    }
 }
 
 // The one pass is chosen where weights in NTT form are, of up to 32 k.

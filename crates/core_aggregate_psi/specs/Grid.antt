@@ -20,10 +20,6 @@ column words at width c = run words (at + 64 * c) (64 * width)
 unfoldable pub weighed : List ℕ → (at width count : ℕ) → List ℕ → ℕ → ℕ → Element
 weighed words at width count numbers row c = sum count (λ x. scale (column words at width c x) (get_or numbers (row + x) 0))
 
--- the words of the elements weighed by a row
-abbrev pub weighed_words : List ℕ → (at width count : ℕ) → List ℕ → ℕ → List ℕ
-weighed_words words at width count numbers row = flat (table width (weighed words at width count numbers row))
-
 -- element c of a region with the weighed element c added
 abbrev pub added : List ℕ → ℕ → List ℕ → (at width count : ℕ) → List ℕ → ℕ → ℕ → Element
 added region to words at width count numbers row c = run region to 64 c ⊕ weighed words at width count numbers row c

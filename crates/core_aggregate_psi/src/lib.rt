@@ -5,38 +5,9 @@
 ghost use Rattle.std.specs.Prelude.{◌≡◌, ◌+◌, ◌*◌, ◌≤◌, length};
 ghost use Rattle.math.specs.lists.Part.{splice};
 ghost use Rattle.ring_inner_product.specs.Run.{Room};
-ghost use Rattle.core_aggregate_psi.specs.Grid.{Grid, weighed_words, added_words, added_rows};
+ghost use Rattle.core_aggregate_psi.specs.Grid.{Grid, added_words, added_rows};
 
 use ring_inner_product;
-
-// Weighed elements into a region: a'' for one row of psi.
-pub fn weigh(
-    job: &[u32],
-    at: usize,
-    width: usize,
-    count: usize,
-    numbers: &[u32],
-    row: usize,
-    out: &mut [u32],
-    to: usize,
-)
-    requires { Grid job.now at width count × (row + count ≤ length numbers.now) × Room out.old to width }
-    ensures { out.new ≡ splice out.old to (weighed_words job.now at width count numbers.now row) }
-{
-    let mut c = 0;
-    while c < width {
-        let e = ring_inner_product::linear_combination(
-            job,
-            at + 64 * c,
-            64 * width,
-            numbers,
-            row,
-            count,
-        );
-        ring_words::store(out, to + 64 * c, e);
-        c += 1;
-    }
-}
 
 // The weighed elements added to those of a region: with the omega part there, φ'' for one row of psi.
 pub fn add_weighed(
@@ -52,8 +23,7 @@ pub fn add_weighed(
     requires { Grid job.now at width count × (row + count ≤ length numbers.now) × Room out.old to width }
     ensures { out.new ≡ splice out.old to (added_words out.old to job.now at width count numbers.now row) }
 {
-    let mut c = 0;
-    while c < width {
+    for c in 0..width {
         let e = ring_inner_product::linear_combination(
             job,
             at + 64 * c,
@@ -64,7 +34,6 @@ pub fn add_weighed(
         );
         let sum = ring_words::load(out, to + 64 * c).add(e);
         ring_words::store(out, to + 64 * c, sum);
-        c += 1;
     }
 }
 
@@ -85,11 +54,9 @@ pub fn add_weighed_rows(
 {
     let mut first = row;
     let mut place = to;
-    let mut k = 0;
-    while k < aggregations {
+    for k in 0..aggregations {
         add_weighed(job, at, width, count, numbers, first, out, place);
         first += count;
         place += 64 * width;
-        k += 1;
     }
 }

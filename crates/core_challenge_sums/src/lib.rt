@@ -3,13 +3,12 @@
 
 ghost use Rattle.std.specs.Prelude.{◌≡◌, ◌+◌, ◌*◌, ◌≤◌, ◌<◌, length};
 ghost use Rattle.spec_leaves.specs.Ring.{words};
-ghost use Rattle.ntt_transform.specs.Roots.{twiddle_table};
 ghost use Rattle.ntt_vectors.specs.NttForm.{AllValues};
 ghost use Rattle.core_aggregate_ntt.specs.Terms.{term_added, terms_added, SumsSmall};
 ghost use Rattle.core_challenge_sums.specs.Lines.{combined, combined_words, combined_line, weighed_lines, Combinable, Weighable, φ_lines, LinesRoom};
 
 use core_aggregate_ntt::mix;
-use ntt_transform::table;
+use ntt_transform::table::Twiddles;
 use ntt_vectors::{sums, vectors};
 use ring_challenge_products::{powers, products};
 use ring_inner_product::Strided;
@@ -24,10 +23,10 @@ pub fn add_column(
     m: usize,
     powers: &[u32],
     z: &[u32],
-    w: &[u32],
+    w: &Twiddles,
     sums: &mut [u64],
 )
-    requires { (w.now ≡ twiddle_table) × Combinable from.now at r n powers.now × (m < n) × AllValues z.now (192 * m) 1 × SumsSmall sums.old 1 }
+    requires { Combinable from.now at r n powers.now × (m < n) × AllValues z.now (192 * m) 1 × SumsSmall sums.old 1 }
     ensures { sums.new ≡ term_added sums.old z.now (192 * m) (words (combined from.now at r n powers.now m)) }
 {
     let e = products::inner_product(powers, from, at + 64 * m, 64 * n, r).coeffs;
@@ -42,22 +41,28 @@ pub fn add_columns(
     n: usize,
     powers: &[u32],
     z: &[u32],
-    w: &[u32],
+    w: &Twiddles,
     sums: &mut [u64],
 )
-    requires { (w.now ≡ twiddle_table) × Combinable from.now at r n powers.now × AllValues z.now 0 n × SumsSmall sums.old n }
+    requires { Combinable from.now at r n powers.now × AllValues z.now 0 n × SumsSmall sums.old n }
     ensures { sums.new ≡ terms_added sums.old z.now 0 (combined_words from.now at r n powers.now) 0 64 n }
 {
-    let mut m = 0;
-    while m < n {
+    for m in 0..n {
         add_column(from, at, r, n, m, powers, z, w, sums);
-        m += 1;
     }
 }
 
 // ⟨z, Σ c_i·x_i⟩ of r vectors x_i of n elements, z in NTT form.
-pub fn line(from: &[u32], at: usize, r: usize, n: usize, powers: &[u32], z: &[u32], w: &[u32]) -> Rq
-    requires { (w.now ≡ twiddle_table) × Combinable from.now at r n powers.now × AllValues z.now 0 n }
+pub fn line(
+    from: &[u32],
+    at: usize,
+    r: usize,
+    n: usize,
+    powers: &[u32],
+    z: &[u32],
+    w: &Twiddles,
+) -> Rq
+    requires { Combinable from.now at r n powers.now × AllValues z.now 0 n }
     ensures { result.coeffs ≡ words (combined_line from.now at r n powers.now z.now) }
 {
     let mut sums = [0u64; 192];
@@ -75,9 +80,9 @@ pub fn weigh(
     z: &[u32],
     weights: &[u32],
     weights_at: usize,
-    w: &[u32],
+    w: &Twiddles,
 ) -> Rq
-    requires { (w.now ≡ twiddle_table) × Weighable from.now constraints r n powers.now weights.now weights_at × AllValues z.now 0 n }
+    requires { Weighable from.now constraints r n powers.now weights.now weights_at × AllValues z.now 0 n }
     ensures { result.coeffs ≡ words (weighed_lines from.now constraints r n powers.now z.now weights.now weights_at) }
 {
     let step = constraints.step;
@@ -85,14 +90,12 @@ pub fn weigh(
     let mut total = Rq::zero();
     let mut at = constraints.at;
     let mut place = weights_at;
-    let mut k = 0;
-    while k < count {
+    for k in 0..count {
         let weighed = line(from, at, r, n, powers, z, w).mul(ring_words::load(weights, place));
         let next = total.add(weighed);
         total = next;
         at += step;
         place += 64;
-        k += 1;
     }
     total
 }
@@ -115,7 +118,7 @@ pub fn sum_of_lines(
     requires { LinesRoom job.now constraints randomness.now alpha beta scratch.now aggregated r n c_at transcript.now z_at }
     ensures { result.coeffs ≡ words (φ_lines job.now constraints randomness.now alpha beta scratch.now aggregated r n c_at transcript.now z_at) }
 {
-    let w = table::twiddles();
+    let w = Twiddles::new();
     let mut z = [0u32; 12288];
     vectors::to_ntt_form(transcript, z_at, n, &w, &mut z, 0);
     let mut places = [0u32; 1024];

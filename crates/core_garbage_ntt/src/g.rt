@@ -4,11 +4,10 @@ ghost use Rattle.math.specs.lists.Table.{table};
 ghost use Rattle.math.specs.lists.Part.{part, splice};
 ghost use Rattle.spec_protocol.specs.Parameters.{triangular};
 ghost use Rattle.spec_protocol.specs.Formulas.{flat, triangle};
-ghost use Rattle.ntt_transform.specs.Roots.{twiddle_table};
 ghost use Rattle.ntt_vectors.specs.NttForm.{AllValues, RowRoom};
 ghost use Rattle.core_garbage_ntt.specs.NttGarbage.{ntt_gram};
 
-use ntt_transform::table;
+use ntt_transform::table::Twiddles;
 use ntt_vectors::vectors;
 
 // Row i of g: vector i, whose values are copied to the buffer, with the vectors 0 to i.
@@ -17,11 +16,11 @@ pub fn g_row(
     at: usize,
     n: usize,
     i: usize,
-    w: &[u32],
+    w: &Twiddles,
     buffer: &mut [u32],
     out_at: usize,
 )
-    requires { (w.now ≡ twiddle_table) × AllValues scratch.old at ((i + 1) * n) × RowRoom scratch.old at n (i + 1) out_at × (192 * n ≤ length buffer.old) × (n ≤ 64) × (i < 64) }
+    requires { AllValues scratch.old at ((i + 1) * n) × RowRoom scratch.old at n (i + 1) out_at × (192 * n ≤ length buffer.old) × (n ≤ 64) × (i < 64) }
     ensures scratch_after { scratch.new ≡ splice scratch.old out_at (flat (table (i + 1) (ntt_gram scratch.old at n i))) }
     ensures buffer_after { buffer.new ≡ splice buffer.old 0 (part scratch.old (at + 192 * (i * n)) (192 * n)) }
 {
@@ -34,13 +33,11 @@ pub fn compute_g(scratch: &mut [u32], at: usize, r: usize, n: usize, out_at: usi
     requires { AllValues scratch.old at (r * n) × (at + 192 * (r * n) ≤ out_at) × (out_at + 64 * triangular r ≤ length scratch.old) × (r ≤ 64) × (n ≤ 64) }
     ensures { scratch.new ≡ splice scratch.old out_at (flat (triangle r (ntt_gram scratch.old at n))) }
 {
-    let w = table::twiddles();
+    let w = Twiddles::new();
     let mut buffer = [0u32; 12288];
     let mut place = out_at;
-    let mut i = 0;
-    while i < r {
+    for i in 0..r {
         g_row(scratch, at, n, i, &w, &mut buffer, place);
-        i += 1;
-        place += 64 * i;
+        place += 64 * (i + 1);
     }
 }

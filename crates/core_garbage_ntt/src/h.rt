@@ -5,11 +5,10 @@ ghost use Rattle.math.specs.lists.Table.{table};
 ghost use Rattle.math.specs.lists.Part.{splice};
 ghost use Rattle.spec_protocol.specs.Parameters.{triangular};
 ghost use Rattle.spec_protocol.specs.Formulas.{flat, rows, triangle};
-ghost use Rattle.ntt_transform.specs.Roots.{twiddle_table};
 ghost use Rattle.ntt_vectors.specs.NttForm.{ntt_words, ntt_row, AllValues};
 ghost use Rattle.core_garbage_ntt.specs.NttLines.{ntt_line, both_ways, with_h, LineRoom, LinesRoom, HalvesRoom, HRoom};
 
-use ntt_transform::table;
+use ntt_transform::table::Twiddles;
 use ntt_vectors::vectors;
 use ring_rq_matrix;
 
@@ -19,12 +18,12 @@ pub fn line(
     phi_at: usize,
     n: usize,
     count: usize,
-    w: &[u32],
+    w: &Twiddles,
     buffer: &mut [u32],
     at: usize,
     out_at: usize,
 )
-    requires { (w.now ≡ twiddle_table) × AllValues scratch.old at (count * n) × LineRoom scratch.old phi_at n count buffer.old at out_at }
+    requires { AllValues scratch.old at (count * n) × LineRoom scratch.old phi_at n count buffer.old at out_at }
     ensures scratch_after { scratch.new ≡ splice scratch.old out_at (flat (table count (ntt_row (ntt_words scratch.old phi_at n) scratch.old at n))) }
     ensures buffer_after { buffer.new ≡ splice buffer.old 0 (ntt_words scratch.old phi_at n) }
 {
@@ -37,16 +36,14 @@ pub fn lines(scratch: &mut [u32], phi_at: usize, r: usize, n: usize, at: usize, 
     requires { AllValues scratch.old at (r * n) × LinesRoom scratch.old phi_at r n at out_at }
     ensures { scratch.new ≡ splice scratch.old out_at (flat (rows r r (ntt_line scratch.old phi_at at n))) }
 {
-    let w = table::twiddles();
+    let w = Twiddles::new();
     let mut buffer = [0u32; 12288];
     let mut start = phi_at;
     let mut place = out_at;
-    let mut i = 0;
-    while i < r {
+    for i in 0..r {
         line(scratch, start, n, r, &w, &mut buffer, at, place);
         start += 64 * n;
         place += 64 * r;
-        i += 1;
     }
 }
 
@@ -58,14 +55,12 @@ pub fn h_row(scratch: &mut [u32], square: usize, r: usize, i: usize, out_at: usi
     let mut across = ring_rq_matrix::vector_at(square, r, i);
     let mut down = square + 64 * i;
     let mut place = out_at;
-    let mut j = 0;
-    while j <= i {
+    for j in 0..i + 1 {
         let sum = ring_words::load(scratch, across).add(ring_words::load(scratch, down));
         ring_words::store(scratch, place, sum);
         across += 64;
         down += 64 * r;
         place += 64;
-        j += 1;
     }
 }
 
@@ -75,11 +70,9 @@ pub fn fold(scratch: &mut [u32], square: usize, r: usize, out_at: usize)
     ensures { scratch.new ≡ splice scratch.old out_at (flat (triangle r (both_ways scratch.old square r))) }
 {
     let mut place = out_at;
-    let mut i = 0;
-    while i < r {
+    for i in 0..r {
         h_row(scratch, square, r, i, place);
-        i += 1;
-        place += 64 * i;
+        place += 64 * (i + 1);
     }
 }
 
@@ -98,7 +91,7 @@ pub fn compute_h(
     requires { (s_at + 64 * (r * n) ≤ length s.now) × HRoom scratch.old r n at square phi_at out_at }
     ensures { scratch.new ≡ with_h scratch.old phi_at s.now s_at r n at square out_at }
 {
-    let w = table::twiddles();
+    let w = Twiddles::new();
     vectors::to_ntt_form(s, s_at, r * n, &w, scratch, at);
     lines(scratch, phi_at, r, n, at, square);
     fold(scratch, square, r, out_at);

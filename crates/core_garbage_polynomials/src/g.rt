@@ -6,7 +6,7 @@ ghost use Rattle.spec_protocol.specs.Parameters.{triangular};
 ghost use Rattle.spec_protocol.specs.Formulas.{flat, triangle};
 ghost use Rattle.ring_rq_matrix.specs.Region.{gram};
 
-use ring_rq_matrix::vector_at;
+use ring_rq_matrix::{triangles, vector_at};
 
 // Row i: columns 0 to i.
 pub fn g_row(s: &[u32], s_at: usize, n: usize, i: usize, out: &mut [u32], out_at: usize)
@@ -14,18 +14,10 @@ pub fn g_row(s: &[u32], s_at: usize, n: usize, i: usize, out: &mut [u32], out_at
     ensures { out.new ≡ splice out.old out_at (flat (table (i + 1) (gram s.now s_at n i))) }
 {
     let row = vector_at(s_at, n, i);
-    let mut column = s_at;
-    let mut place = out_at;
-    let mut j = 0;
-    while j <= i {
-        ring_words::store(
-            out,
-            place,
-            ring_inner_product::inner_product(s, row, 64, s, column, 64, n),
-        );
-        column += 64 * n;
-        place += 64;
-        j += 1;
+    for j in 0..i + 1 {
+        let column = vector_at(s_at, n, j);
+        let cell = ring_inner_product::inner_product(s, row, 64, s, column, 64, n);
+        ring_words::store(out, out_at + 64 * j, cell);
     }
 }
 
@@ -34,11 +26,8 @@ pub fn compute_g(s: &[u32], s_at: usize, r: usize, n: usize, out: &mut [u32], ou
     requires { (s_at + 64 * (r * n) ≤ length s.now) × (out_at + 64 * triangular r ≤ length out.old) × (r ≤ 64) × (n ≤ 64) }
     ensures { out.new ≡ splice out.old out_at (flat (triangle r (gram s.now s_at n))) }
 {
-    let mut place = out_at;
-    let mut i = 0;
-    while i < r {
+    for i in 0..r {
+        let place = out_at + 64 * triangles::cells(i);
         g_row(s, s_at, n, i, out, place);
-        i += 1;
-        place += 64 * i;
     }
 }

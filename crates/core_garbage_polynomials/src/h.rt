@@ -8,7 +8,7 @@ ghost use Rattle.spec_protocol.specs.Formulas.{◌⊕◌, dot, flat, triangle};
 ghost use Rattle.core_garbage_polynomials.specs.Garbage.{h_of, RowFits, TriangleFits};
 
 use ring_rq::rq::Rq;
-use ring_rq_matrix::vector_at;
+use ring_rq_matrix::{triangles, vector_at};
 
 // One cell, from the places of its four vectors.
 pub fn h_cell(
@@ -43,17 +43,11 @@ pub fn h_row(
 {
     let s_i = vector_at(s_at, n, i);
     let phi_i = vector_at(phi_at, n, i);
-    let mut s_j = s_at;
-    let mut phi_j = phi_at;
-    let mut place = out_at;
-    let mut j = 0;
-    while j <= i {
+    for j in 0..i + 1 {
+        let s_j = vector_at(s_at, n, j);
+        let phi_j = vector_at(phi_at, n, j);
         let cell = h_cell(scratch, phi_i, phi_j, s, s_i, s_j, n);
-        ring_words::store(scratch, place, cell);
-        s_j += 64 * n;
-        phi_j += 64 * n;
-        place += 64;
-        j += 1;
+        ring_words::store(scratch, out_at + 64 * j, cell);
     }
 }
 
@@ -70,11 +64,8 @@ pub fn compute_h(
     requires { TriangleFits s.now s_at r n scratch.old phi_at out_at }
     ensures { scratch.new ≡ splice scratch.old out_at (flat (triangle r (h_of scratch.old phi_at s.now s_at n))) }
 {
-    let mut place = out_at;
-    let mut i = 0;
-    while i < r {
+    for i in 0..r {
+        let place = out_at + 64 * triangles::cells(i);
         h_row(s, s_at, n, i, scratch, phi_at, place);
-        i += 1;
-        place += 64 * i;
     }
 }

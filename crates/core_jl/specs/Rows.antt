@@ -29,6 +29,10 @@ flipped_row R at W wt count = Σ count (λ m. flipped (get_or R (at + m) 0) (get
 abbrev pub SumsRoom : List ℕ → Type 0
 SumsRoom sums = (length sums ≡ 256) × ((j : ℕ) → j < 256 → get_or sums j 0 ≤ 32767 * (65536 * 8589934590))
 
+-- sum j + t with number t of a list added
+abbrev pub raised : List ℕ → ℕ → List ℕ → ℕ → ℕ
+raised sums j rows t = get_or sums (j + t) 0 + get_or rows t 0
+
 -- sum j with row j of a vector added, its rows one after the other from `at` on
 abbrev pub row_added : List ℕ → List ℕ → ℕ → List ℕ → ℕ → ℕ → ℕ → ℕ
 row_added sums R at W wt width j = get_or sums j 0 + flipped_row R (at + j * width) W wt width

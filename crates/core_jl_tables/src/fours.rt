@@ -19,11 +19,9 @@ fn add_rows(randomness: &[u32], pi_at: usize, n: usize, omega_at: usize, sums: &
 {
     let width = 64 * n;
     let mut tables = [0u32; 4096];
-    let mut g = 0;
-    while g < 16 {
+    for g in 0..16 {
         pairs::fill_tables(randomness, omega_at + 16 * g, &mut tables);
         tables::add_columns(randomness, pi_at + 16 * g * width, n, &tables, sums);
-        g += 1;
     }
 }
 
@@ -44,11 +42,9 @@ fn store_part(sums: &[u32], k: usize, out: &mut [u32], at: usize, n: usize)
     requires { (length sums.now ≡ 16384) × (k < 4) × (at + 64 * n ≤ length out.old) × (n ≤ 64) }
     ensures { out.new ≡ splice out.old at (flat (table n (summed_element sums.now k))) }
 {
-    let mut m = 0;
-    while m < n {
+    for m in 0..n {
         let reduced = column_element(sums, 256 * m + k).add(Rq::zero());
         ring_words::store(out, at + 64 * m, reduced.conjugate_automorphism());
-        m += 1;
     }
 }
 
@@ -57,10 +53,8 @@ fn store_parts(sums: &[u32], out: &mut [u32], at: usize, step: usize, n: usize)
     requires { (length sums.now ≡ 16384) × (at + 3 * step + 64 * n ≤ length out.old) × (n ≤ 64) }
     ensures { out.new ≡ spread out.old at step 4 (λ k. flat (table n (summed_element sums.now k))) }
 {
-    let mut k = 0;
-    while k < 4 {
+    for k in 0..4 {
         store_part(sums, k, out, at + k * step, n);
-        k += 1;
     }
 }
 

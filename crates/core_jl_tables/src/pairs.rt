@@ -32,10 +32,8 @@ fn pair_sums(randomness: &[u32], omega_at: usize) -> [u32; 128]
     ensures { result ≡ pair_table randomness.now omega_at }
 {
     let mut sums = [0u32; 128];
-    let mut q = 0;
-    while q < 32 {
+    for q in 0..32 {
         pair_entries(randomness, omega_at + q / 16 * 2, q % 16, &mut sums, 4 * q);
-        q += 1;
     }
     sums
 }
@@ -82,10 +80,8 @@ pub fn fill_tables(randomness: &[u32], omega_at: usize, tables: &mut [u32])
     requires { (omega_at + 784 ≤ length randomness.now) × (length tables.old ≡ 4096) }
     ensures { tables.new ≡ row_tables randomness.now omega_at }
 {
-    let mut t = 0;
-    while t < 4 {
+    for t in 0..4 {
         let pairs = pair_sums(randomness, omega_at + 4 * t);
         four_sums(&pairs, tables, 1024 * t);
-        t += 1;
     }
 }

@@ -14,7 +14,7 @@ use spec_leaves::modulus;
 pub fn biased(x: u32) -> u32
     ensures { result ≡ biased x }
 {
-    std::num::wrapping_add_u32(x, 2147483648)
+    x.wrapping_add(2147483648)
 }
 
 // A sum that is kept so, with a term added. Without the 2^31 it has passed 32 bits where it is less than before; 2^32 is what Q lacks of it.
@@ -22,9 +22,9 @@ fn biased_add(sum: u32, term: u32) -> u32
     requires { term ≤ Q }
     ensures { result ≡ biased_sum sum term }
 {
-    let next = std::num::wrapping_add_u32(sum, term);
+    let next = sum.wrapping_add(term);
     if biased(next) < biased(sum) {
-        std::num::wrapping_add_u32(next, modulus::LACK)
+        next.wrapping_add(modulus::LACK)
     } else {
         next
     }
@@ -70,10 +70,8 @@ fn row_places(randomness: &[u32], at: usize, step: usize, places: &mut [u32])
     requires { (at + 63 + 15 * step < length randomness.now) × (length places.old ≡ 256) }
     ensures { places.new ≡ table 256 (place_entry randomness.now at step) }
 {
-    let mut t = 0;
-    while t < 4 {
+    for t in 0..4 {
         four_places(randomness, at + 4 * t * step, step, places, 64 * t);
-        t += 1;
     }
 }
 
@@ -117,10 +115,8 @@ pub fn add_columns(randomness: &[u32], row_at: usize, n: usize, tables: &[u32], 
 {
     let width = 64 * n;
     let mut places = [0u32; 256];
-    let mut m = 0;
-    while m < n {
+    for m in 0..n {
         row_places(randomness, row_at + 64 * m, width, &mut places);
         add_block(tables, &places, sums, 256 * m);
-        m += 1;
     }
 }

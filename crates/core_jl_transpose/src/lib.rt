@@ -20,7 +20,7 @@ pub fn carry_add(a: u32, b: u32) -> u32
     ensures { result ≡ carried a b }
 {
     let term = lowered(b);
-    let sum = std::num::wrapping_add_u32(a, term);
+    let sum = a.wrapping_add(term);
     if sum < term { sum + modulus::LACK } else { sum }
 }
 
@@ -36,12 +36,10 @@ fn add_row(
     requires { (row_at + width ≤ length randomness.now) × (out_at + width ≤ length out.old) }
     ensures { out.new ≡ splice out.old out_at (row_sums randomness.now row_at value out.old out_at width) }
 {
-    let mut c = 0;
-    while c < width {
+    for c in 0..width {
         let entry = projection::term(randomness[row_at + c], value);
         let place = out_at + c;
         out[place] = carry_add(out[place], entry);
-        c += 1;
     }
 }
 
@@ -57,11 +55,9 @@ fn add_rows(
     requires { (pi_at + 256 * width ≤ length randomness.now) × (omega_at + 256 ≤ length randomness.now) × (out_at + width ≤ length out.old) }
     ensures { out.new ≡ splice out.old out_at (rows_sums randomness.now pi_at omega_at out.old out_at width) }
 {
-    let mut j = 0;
-    while j < 256 {
+    for j in 0..256 {
         let value = randomness[omega_at + j];
         add_row(randomness, pi_at + j * width, value, out, out_at, width);
-        j += 1;
     }
 }
 
@@ -70,12 +66,10 @@ fn conjugate_run(out: &mut [u32], at: usize, n: usize)
     requires { at + 64 * n ≤ length out.old }
     ensures { out.new ≡ splice out.old at (flat (table n (λ m. conj (element_at out.old at m)))) }
 {
-    let mut m = 0;
-    while m < n {
+    for m in 0..n {
         let place = at + 64 * m;
         let reduced = ring_words::load(out, place).add(Rq::zero());
         ring_words::store(out, place, reduced.conjugate_automorphism());
-        m += 1;
     }
 }
 

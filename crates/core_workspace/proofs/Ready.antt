@@ -191,3 +191,6 @@ module _ (J R S : List ℕ) (params : EnvironmentParameters) (regions : Regions)
   -- and what it stores
   pub c-made : challenge_words (parameters_of params) R ≡ c_words J R
   c-made = ap (λ Q. challenge_words Q R) h.same
+
+-- what each step needs to find a section: the parameters can be reckoned with
+pub ruleset sizes = ready-sized

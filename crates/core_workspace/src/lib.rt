@@ -18,6 +18,7 @@ use ring_inner_product::Strided;
 use transcript_challenges;
 
 // "φ''_k,i = Σ psi[k][l]·φ'_l,i + Σ omega[k][j]·conj(row j of Π_i)"
+#[tactic(auto, using(crate::proofs::Ready::sizes))]
 pub fn phi_double_prime(
     job: &[u32],
     randomness: &[u32],
@@ -45,6 +46,7 @@ pub fn phi_double_prime(
 }
 
 // "a''_k = Σ psi[k][l]·a'_l"
+#[tactic(auto, using(crate::proofs::Ready::sizes))]
 pub fn a_double_prime(
     job: &[u32],
     randomness: &[u32],
@@ -85,6 +87,7 @@ pub fn double_prime(
 }
 
 // φ of the ring constraints and of the φ'' in its region: "Alpha weighs the ring constraints and beta the doubled-prime ones into a, φ, b."
+#[tactic(auto, using(crate::proofs::Ready::sizes))]
 pub fn phi(
     job: &[u32],
     randomness: &[u32],
@@ -121,6 +124,7 @@ pub fn phi(
 }
 
 // a of the ring constraints and of the a'' in its region.
+#[tactic(auto, using(crate::proofs::Ready::sizes))]
 pub fn a(
     job: &[u32],
     randomness: &[u32],

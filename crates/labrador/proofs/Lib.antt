@@ -1,3 +1,1 @@
-mod Lengths
 mod LoadNeeds
-mod Answered

@@ -12,8 +12,7 @@ use ring_rq::rq::Rq;
 use ring_rq_digits::digits;
 
 // The digits of an element, written into the first 2048 words of a lent slice.
-#[unsafe(no_mangle)]
-pub extern "C" fn labrador_rq_digits(base: u32, parts: u32, a: Rq, out: &mut [u32]) -> Status
+pub fn labrador_rq_digits(base: u32, parts: u32, a: Rq, out: &mut [u32]) -> Status
     ensures value { result ≡ status_of (words_found base parts a.coeffs (length out.old)) }
     ensures out_after { out.new ≡ words_written base parts a.coeffs out.old }
 {
@@ -21,23 +20,14 @@ pub extern "C" fn labrador_rq_digits(base: u32, parts: u32, a: Rq, out: &mut [u3
 }
 
 // The size left over of each coefficient after its digits (document 02, Item 5).
-#[unsafe(no_mangle)]
-pub extern "C" fn labrador_rq_left(base: u32, parts: u32, a: Rq) -> ElementAnswer
+pub fn labrador_rq_left(base: u32, parts: u32, a: Rq) -> ElementAnswer
     ensures { result ≡ element_answer (digit_operands base parts a.coeffs) (left_row base parts a.coeffs) }
 {
-    let s = answers::status_of(rq_digit_operands(base, parts, a));
-    if s.number == 0 {
-        let coeffs = digits::left_over(a, base, parts as usize);
-        ElementAnswer {
-            number: s.number,
-            place: s.place,
-            coeffs,
+    match rq_digit_operands(base, parts, a) {
+        Ok(()) => {
+            let coeffs = digits::left_over(a, base, parts as usize);
+            answers::element_of(Ok(()), Rq { coeffs })
         }
-    } else {
-        ElementAnswer {
-            number: s.number,
-            place: s.place,
-            coeffs: [0u32; Rq::DEGREE],
-        }
+        refused => answers::element_of(refused, Rq::zero()),
     }
 }

@@ -14,56 +14,49 @@ use ring_rq::rq::Rq;
 use ring_zq::zq::Zq;
 
 // The sum of two elements.
-#[unsafe(no_mangle)]
-pub extern "C" fn labrador_rq_add(a: Rq, b: Rq) -> ElementAnswer
+pub fn labrador_rq_add(a: Rq, b: Rq) -> ElementAnswer
     ensures { result ≡ element_answer (canonical_words (a.coeffs ++ b.coeffs)) (radd a.coeffs b.coeffs) }
 {
     answers::element_of(leaf::elements(a, b), a.add(b))
 }
 
 // The difference of two elements.
-#[unsafe(no_mangle)]
-pub extern "C" fn labrador_rq_sub(a: Rq, b: Rq) -> ElementAnswer
+pub fn labrador_rq_sub(a: Rq, b: Rq) -> ElementAnswer
     ensures { result ≡ element_answer (canonical_words (a.coeffs ++ b.coeffs)) (rsub a.coeffs b.coeffs) }
 {
     answers::element_of(leaf::elements(a, b), a.sub(b))
 }
 
 // The product of two elements.
-#[unsafe(no_mangle)]
-pub extern "C" fn labrador_rq_mul(a: Rq, b: Rq) -> ElementAnswer
+pub fn labrador_rq_mul(a: Rq, b: Rq) -> ElementAnswer
     ensures { result ≡ element_answer (canonical_words (a.coeffs ++ b.coeffs)) (rmul a.coeffs b.coeffs) }
 {
     answers::element_of(leaf::elements(a, b), a.mul(b))
 }
 
 // The product of two elements, by transforms.
-#[unsafe(no_mangle)]
-pub extern "C" fn labrador_rq_mul_fast(a: Rq, b: Rq) -> ElementAnswer
+pub fn labrador_rq_mul_fast(a: Rq, b: Rq) -> ElementAnswer
     ensures { result ≡ element_answer (canonical_words (a.coeffs ++ b.coeffs)) (rmul a.coeffs b.coeffs) }
 {
     answers::element_of(leaf::elements(a, b), product::mul(a, b))
 }
 
 // The product of an element with a number.
-#[unsafe(no_mangle)]
-pub extern "C" fn labrador_rq_scale(a: Rq, c: u32) -> ElementAnswer
+pub fn labrador_rq_scale(a: Rq, c: u32) -> ElementAnswer
     ensures { result ≡ element_answer (canonical_words (a.coeffs ++ (c ∷ []))) (rscale a.coeffs c) }
 {
     answers::element_of(leaf::element_and_number(a, c), a.scale(Zq(c)))
 }
 
 // The conjugate of an element.
-#[unsafe(no_mangle)]
-pub extern "C" fn labrador_rq_conj(a: Rq) -> ElementAnswer
+pub fn labrador_rq_conj(a: Rq) -> ElementAnswer
     ensures { result ≡ element_answer (canonical_words a.coeffs) (rconj a.coeffs) }
 {
     answers::element_of(leaf::element(a), a.conjugate_automorphism())
 }
 
 // The squared norm of an element.
-#[unsafe(no_mangle)]
-pub extern "C" fn labrador_rq_norm(a: Rq) -> NormAnswer
+pub fn labrador_rq_norm(a: Rq) -> NormAnswer
     ensures { result ≡ norm_answer (canonical_words a.coeffs) (norm a.coeffs) }
 {
     answers::norm_of(leaf::element(a), a.l2_norm_squared())
@@ -77,10 +70,8 @@ pub struct ChallengeWords {
 }
 
 // The challenge of its words.
-#[unsafe(no_mangle)]
-pub extern "C" fn labrador_challenge(words: ChallengeWords) -> ElementAnswer
+pub fn labrador_challenge(words: ChallengeWords) -> ElementAnswer
     ensures { result ≡ challenge_answer words.words }
 {
-    let all = words.words;
-    challenge_of(&all)
+    challenge_of(&words.words)
 }

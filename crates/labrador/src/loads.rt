@@ -4,9 +4,7 @@ ghost use Rattle.load_needs.specs.Given.{given};
 ghost use Rattle.load.specs.Call.{LoadCall};
 ghost use Rattle.labrador.specs.LoadNeeds.{labrador_load_need};
 
-use api_answers::verdicts;
 use api_answers::verdicts::LabradorAnswer;
-use layout_section_one::SectionOne;
 use load_needs::LabradorParameters;
 
 // The lengths that a load needs, or the refusal of its parameters with zeros.
@@ -21,8 +19,7 @@ pub struct LabradorLoadNeed {
 }
 
 // Job, witness and randomness of twelve parameters and a seed, as they are drawn.
-#[unsafe(no_mangle)]
-pub extern "C" fn labrador_load(
+pub fn labrador_load(
     parameters: LabradorParameters,
     seed: u32,
     job: &mut [u32],
@@ -31,26 +28,15 @@ pub extern "C" fn labrador_load(
 ) -> LabradorAnswer
     ensures { LoadCall (given parameters) seed job.old witness.old randomness.old job.new witness.new randomness.new result }
 {
-    verdicts::answer_of(load::load(parameters, seed, job, witness, randomness))
+    LabradorAnswer::from(load::load(parameters, seed, job, witness, randomness))
 }
 
 // The three lengths.
-#[unsafe(no_mangle)]
-pub extern "C" fn labrador_load_needs(parameters: LabradorParameters) -> LabradorLoadNeed
+pub fn labrador_load_needs(parameters: LabradorParameters) -> LabradorLoadNeed
     ensures { result ≡ labrador_load_need (given parameters) }
 {
     match load_needs::read(parameters) {
-        SectionOne::Refused(refusal) => {
-            let answer = verdicts::refusal_of(refusal);
-            LabradorLoadNeed {
-                number: answer.number,
-                place: answer.place,
-                job: 0,
-                witness: 0,
-                randomness: 0,
-            }
-        }
-        SectionOne::Read(params) => {
+        Ok(params) => {
             let needs = load_needs::lengths(params);
             LabradorLoadNeed {
                 number: 0,
@@ -58,6 +44,16 @@ pub extern "C" fn labrador_load_needs(parameters: LabradorParameters) -> Labrado
                 job: needs.job as u64,
                 witness: needs.witness as u64,
                 randomness: needs.randomness as u64,
+            }
+        }
+        Err(refusal) => {
+            let answer = LabradorAnswer::from(refusal);
+            LabradorLoadNeed {
+                number: answer.number,
+                place: answer.place,
+                job: 0,
+                witness: 0,
+                randomness: 0,
             }
         }
     }

@@ -5,8 +5,7 @@ use verify_many::answers::LabradorVerdicts;
 use verify_many::call;
 
 // The verdicts on up to eight transcripts, which lie end to end, with their randomness; the job is read once.
-#[unsafe(no_mangle)]
-pub extern "C" fn labrador_verify_many(
+pub fn labrador_verify_many(
     job: &[u32],
     count: u32,
     randomness: &[u32],

@@ -5,8 +5,7 @@ use mistyped::answers::MistypedAnswer;
 use mistyped::call;
 
 // After a failed check 22, each index of b0 at which adding one number mends it, with the number of smallest centred size.
-#[unsafe(no_mangle)]
-pub extern "C" fn labrador_mistyped(
+pub fn labrador_mistyped(
     job: &[u32],
     randomness: &[u32],
     transcript: &[u32],

@@ -7,29 +7,17 @@ use api_leaf_answers::answers::WordAnswer;
 use api_recompose::{found, parts, sum};
 
 // The value of digits in a base, lowest first.
-#[unsafe(no_mangle)]
-pub extern "C" fn labrador_recompose(base: u32, digits: &[u32]) -> WordAnswer
+pub fn labrador_recompose(base: u32, digits: &[u32]) -> WordAnswer
     ensures { result ≡ recompose_answer base digits.now }
 {
-    let s = answers::status_of(found::recompose_operands(base, digits));
-    if s.number == 0 {
-        WordAnswer {
-            number: s.number,
-            place: s.place,
-            value: sum::recompose(base, digits).0,
-        }
-    } else {
-        WordAnswer {
-            number: s.number,
-            place: s.place,
-            value: 0,
-        }
+    match found::recompose_operands(base, digits) {
+        Ok(()) => answers::word_of(Ok(()), sum::recompose(base, digits).0),
+        refused => answers::word_of(refused, 0),
     }
 }
 
 // The number of parts that a base needs.
-#[unsafe(no_mangle)]
-pub extern "C" fn labrador_parts_needed(base: u32) -> WordAnswer
+pub fn labrador_parts_needed(base: u32) -> WordAnswer
     ensures { PartsAnswer base result }
 {
     answers::word_of(found::base_found(base), parts::parts_needed(base))

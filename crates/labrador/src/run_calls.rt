@@ -6,8 +6,7 @@ ghost use Rattle.shed_sums.specs.Call.{AddCall};
 use api_answers::verdicts::LabradorAnswer;
 
 // The p of the witness vectors from `first` up to `end`, from their projection words.
-#[unsafe(no_mangle)]
-pub extern "C" fn labrador_shed_projection(
+pub fn labrador_shed_projection(
     job: &[u32],
     first: u32,
     end: u32,
@@ -30,8 +29,7 @@ pub extern "C" fn labrador_shed_projection(
 }
 
 // The rows of t of the witness vectors from `first` up to `end`.
-#[unsafe(no_mangle)]
-pub extern "C" fn labrador_shed_rows(
+pub fn labrador_shed_rows(
     job: &[u32],
     first: u32,
     end: u32,
@@ -45,12 +43,7 @@ pub extern "C" fn labrador_shed_rows(
 }
 
 // Two p added.
-#[unsafe(no_mangle)]
-pub extern "C" fn labrador_add_projections(
-    p: &[u32],
-    other: &[u32],
-    output: &mut [u32],
-) -> LabradorAnswer
+pub fn labrador_add_projections(p: &[u32], other: &[u32], output: &mut [u32]) -> LabradorAnswer
     ensures { AddCall p.now other.now output.old output.new result }
 {
     shed_sums::add(p, other, output)

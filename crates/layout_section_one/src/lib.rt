@@ -1,42 +1,34 @@
 // Section one of the job: its layout (3), its parameters' limits (4), and an L below its least (5).
 #![tactic(auto)]
 
-ghost use Rattle.std.specs.Prelude.{◌≡◌, ◌≤◌, length, get_or};
-ghost use Rattle.spec_leaves.specs.Answer.{fine, ◌then◌};
+ghost use Rattle.std.specs.Prelude.{◌≡◌, ◌≤◌, length, get_or, IfOk};
+ghost use Rattle.spec_leaves.specs.Answer.{fine, of_result, ◌then◌};
 ghost use Rattle.spec_protocol.specs.Checks.{first};
 ghost use Rattle.spec_protocol.specs.Parameters.{parameters, limits, enough_aggregations};
 ghost use Rattle.spec_protocol.specs.Layout.{first_section};
 ghost use Rattle.layout_sections.specs.Sections.{listed, of_found};
-ghost use Rattle.layout_section_one.specs.SectionOne.{limit_at, least_l, section_one, of_section_one, Reads};
+ghost use Rattle.relation_env_params.specs.Parameters.{parameters_of};
+ghost use Rattle.layout_section_one.specs.SectionOne.{limit_at, least_l, section_one};
 
 use layout_sections::counts;
-use layout_sections::counts::{Counted, Found};
-use layout_sections::sections::Sections;
+use layout_sections::sections::Section;
 use relation_env_params::env_params;
 use relation_env_params::env_params::EnvironmentParameters;
 use spec_leaves::answers::Refusal;
 use spec_leaves::modulus;
 
-// A refusal, or the parameters.
-#[derive(Clone, Copy)]
-pub enum SectionOne {
-    Refused(Refusal),
-    Read(EnvironmentParameters),
-}
-
-// Section one's sections: 30 words, none of them bounded.
-fn first_sections() -> Sections
-    ensures { (listed result ≡ first_section) × (result.len ≤ 10) }
+// Section one alone: 30 words, none of them bounded.
+fn first_sections() -> [Section; 1]
+    ensures { listed result ≡ first_section }
 {
-    Sections {
-        counts: [30, 0, 0, 0, 0, 0, 0, 0, 0, 0],
-        greatest: [4294967295; 10],
-        len: 1,
-    }
+    [Section {
+        count: 30,
+        greatest: u32::MAX,
+    }]
 }
 
 // The first parameter below its least or above its greatest value; the tables go by place, and the count's is not looked at.
-fn first_out_of_limits(job: &[u32], least: [u32; 13], greatest: [u32; 13]) -> Found
+fn first_out_of_limits(job: &[u32], least: [u32; 13], greatest: [u32; 13]) -> Option<usize>
     requires { 31 ≤ length job.now }
     ensures { of_found 4 result ≡ first 12 (limit_at least greatest job.now) }
 {
@@ -44,26 +36,27 @@ fn first_out_of_limits(job: &[u32], least: [u32; 13], greatest: [u32; 13]) -> Fo
         let place = k + 1;
         let value = job[place];
         if value < least[place] {
-            return Found::At(place);
+            return Some(place);
         }
         if greatest[place] < value {
-            return Found::At(place);
+            return Some(place);
         }
     }
-    Found::Nowhere
+    None
 }
 
 // L against 128 divided by log_q, of parameters within their limits.
-fn enough_aggregations(job: &[u32]) -> SectionOne
+fn enough_aggregations(job: &[u32]) -> Result<EnvironmentParameters, Refusal>
     requires { (31 ≤ length job.now) × (limits (parameters job.now) ≡ fine) }
-    ensures { (of_section_one result ≡ enough_aggregations (parameters job.now)) × Reads job.now result }
+    ensures found { of_result result ≡ enough_aggregations (parameters job.now) }
+    ensures read { IfOk result (λ params. parameters_of params ≡ parameters job.now) }
 {
     let params = EnvironmentParameters::of_words(job);
     let least = env_params::least_aggregations(params.log_q);
     if params.const_agg_length < least {
-        SectionOne::Refused(Refusal::TooFewAggregations(12))
+        Err(Refusal::TooFewAggregations(12))
     } else {
-        SectionOne::Read(params)
+        Ok(params)
     }
 }
 
@@ -76,24 +69,26 @@ fn least_l(job: &[u32]) -> u32
 }
 
 // The limits, then L against its least.
-fn within_limits(job: &[u32]) -> SectionOne
+fn within_limits(job: &[u32]) -> Result<EnvironmentParameters, Refusal>
     requires { 31 ≤ length job.now }
-    ensures { (of_section_one result ≡ limits (parameters job.now) then enough_aggregations (parameters job.now)) × Reads job.now result }
+    ensures found { of_result result ≡ limits (parameters job.now) then enough_aggregations (parameters job.now) }
+    ensures read { IfOk result (λ params. parameters_of params ≡ parameters job.now) }
 {
     let least = [30, 1, 1, 1, 1, 1, 0, least_l(job), 16, 2, 1, 1, 1];
     let greatest = [30, 64, 16, 16, 16, 16, 64, 64, 32, modulus::TOP, 32, 32, 32];
     match first_out_of_limits(job, least, greatest) {
-        Found::At(place) => SectionOne::Refused(Refusal::ParameterOutOfLimits(place)),
-        Found::Nowhere => enough_aggregations(job),
+        Some(place) => Err(Refusal::ParameterOutOfLimits(place)),
+        None => enough_aggregations(job),
     }
 }
 
 // "section one by 3, then 4, 5"
-pub fn read(job: &[u32]) -> SectionOne
-    ensures { (of_section_one result ≡ section_one job.now) × Reads job.now result }
+pub fn read(job: &[u32]) -> Result<EnvironmentParameters, Refusal>
+    ensures found { of_result result ≡ section_one job.now }
+    ensures read { IfOk result (λ params. parameters_of params ≡ parameters job.now) }
 {
-    match counts::count(job, 0, first_sections()) {
-        Counted::Wrong(place) => SectionOne::Refused(Refusal::JobLayout(place)),
-        Counted::End(_) => within_limits(job),
+    match counts::count(job, 0, &first_sections()) {
+        Err(place) => Err(Refusal::JobLayout(place)),
+        Ok(_) => within_limits(job),
     }
 }

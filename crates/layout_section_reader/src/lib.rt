@@ -14,7 +14,7 @@ pub struct SectionReader<'a> {
     pub position: usize,
 }
 
-// What stands at a position.
+// What stands at a position: three answers of its own, which no Option or Result has plainer names for.
 #[derive(Clone, Copy)]
 pub enum Read {
     // the place of a section's first word, and its count

@@ -10,10 +10,12 @@ use borrow.Author.Tests.{lt-ltb, le-ltb, eq-eqb, ne_eqb}
 use lib.ListN.{length, get_or, take, drop, length-take, length-drop}
 use lib.Seq.{drop-cons, get_or-take, get_or-drop}
 use Rattle.spec_leaves.specs.Answer.{fine, refused, below, ◌then◌}
-use Rattle.spec_protocol.specs.Layout.{Section, part, span, in_range, ranged}
+use Rattle.spec_protocol.specs.Layout.{part, span, in_range, ranged}
+use Rattle.spec_protocol.specs.Layout as L
 use Rattle.spec_leaves.proofs.Leaf.{below-fine}
-use Rattle.layout_sections.specs.declared.sections.Sections.{Sections}
+use Rattle.layout_sections.specs.declared.sections.Section.{Section}
 use Rattle.layout_sections.specs.Sections.{at_most, listed, Passed}
+use Rattle.layout_sections.proofs.Spans.{item}
 use Rattle.layout_sections.proofs.Walk.{listed-from, listed_past}
 
 -- each element is a u32
@@ -90,47 +92,47 @@ module _ (words : List ℕ) (end : ℕ) (inside : end ≤ length words) where
         ∙ ap (λ at. below (greatest + 1) number at (rest at)) (omega arith)
 
 -- the sections before section m are in range, and section m starts at a place
-pub record Searched (words : List ℕ) (place : ℕ) (ss : List Section) (at m : ℕ) : Type 0 where
+pub record Searched (words : List ℕ) (place : ℕ) (ss : List L.Section) (at m : ℕ) : Type 0 where
   pub same : (number : ℕ) → ranged number words place ss ≡ ranged number words at (drop m ss)
   pub end : place + span ss ≡ at + span (drop m ss)
 
 -- the sections before section m and its words before a place are in range, and section m ends at an end
-pub record InSection (words : List ℕ) (place : ℕ) (ss : List Section) (m greatest end at : ℕ) : Type 0 where
+pub record InSection (words : List ℕ) (place : ℕ) (ss : List L.Section) (m greatest end at : ℕ) : Type 0 where
   pub same : (number : ℕ) → ranged number words place ss ≡ below (greatest + 1) number at (part words at (end - at)) then ranged number words end (drop (m + 1) ss)
   pub ends : place + span ss ≡ end + span (drop (m + 1) ss)
   pub before : at ≤ end
 
 -- nothing is searched yet
-pub searched_none : (words : List ℕ) (place : ℕ) (ss : List Section) → Searched words place ss place 0
+pub searched_none : (words : List ℕ) (place : ℕ) (ss : List L.Section) → Searched words place ss place 0
 searched_none words place ss = record { same = λ number. refl; end = refl }
 
-module _ (words : List ℕ) (place : ℕ) (s : Sections) (inside : place + span (listed s) ≤ length words) where
-  module _ (at m : ℕ) (c : Searched words place (listed s) at m) where
+module _ (words : List ℕ) (place : ℕ) (ss : List Section) (inside : place + span (listed ss) ≤ length words) where
+  module _ (at m : ℕ) (c : Searched words place (listed ss) at m) where
     -- all sections are searched
-    pub searched_all : s.len ≤ m → (number : ℕ) → fine ≡ ranged number words place (listed s)
+    pub searched_all : length ss ≤ m → (number : ℕ) → fine ≡ ranged number words place (listed ss)
     unfolding ranged
-    searched_all h number = sym (c.same number ∙ ap (ranged number words at) (listed_past s m h))
+    searched_all h number = sym (c.same number ∙ ap (ranged number words at) (listed_past ss m h))
 
     -- where section m ends
-    pub section_ends : m < s.len → place + span (listed s) ≡ at + 1 + get_or s.counts m 0 + span (drop (m + 1) (listed s))
+    pub section_ends : m < length ss → place + span (listed ss) ≡ at + 1 + (item ss m).count + span (drop (m + 1) (listed ss))
     unfolding span
-    section_ends h = c.end ∙ ap (λ l. at + span l) (listed-from s m h) ∙ omega arith
+    section_ends h = c.end ∙ ap (λ l. at + span l) (listed-from ss m h) ∙ omega arith
 
     -- the words passed over in section m
-    pub section_passed : Words words → (h : m < s.len) (to : ℕ) → Passed words (at + 1) (at + 1 + get_or s.counts m 0) (get_or s.greatest m 0) to
-        → InSection words place (listed s) m (get_or s.greatest m 0) (at + 1 + get_or s.counts m 0) to
+    pub section_passed : Words words → (h : m < length ss) (to : ℕ) → Passed words (at + 1) (at + 1 + (item ss m).count) (item ss m).greatest to
+        → InSection words place (listed ss) m (item ss m).greatest (at + 1 + (item ss m).count) to
     unfolding ranged
     section_passed u h to p =
-        let greatest = get_or s.greatest m 0 in
-        let count = get_or s.counts m 0 in
+        let greatest = (item ss m).greatest in
+        let count = (item ss m).count in
         let end = at + 1 + count in
         let size : count ≡ end - (at + 1) = omega arith in
         let past : at + 1 + (to - (at + 1)) ≡ to = omega arith in
         record {
           same = λ number.
               c.same number
-              ∙ ap (ranged number words at) (listed-from s m h)
-              ∙ ap (λ a. a then ranged number words end (drop (m + 1) (listed s)))
+              ∙ ap (ranged number words at) (listed-from ss m h)
+              ∙ ap (λ a. a then ranged number words end (drop (m + 1) (listed ss)))
               (at_most-below greatest number (at + 1) (part words (at + 1) count) (part-words words (at + 1) count u)
               ∙ ap (λ n. below (greatest + 1) number (at + 1) (part words (at + 1) n)) size
               ∙ below_passed words end (omega (arith, section_ends h)) greatest number (to - (at + 1)) (at + 1) (omega arith) (λ i g l. p.most i g (omega arith))
@@ -139,27 +141,22 @@ module _ (words : List ℕ) (place : ℕ) (s : Sections) (inside : place + span 
           before = p.before;
         }
 
-  module _ (m greatest end at : ℕ) (c : InSection words place (listed s) m greatest end at) where
+  module _ (m greatest end at : ℕ) (c : InSection words place (listed ss) m greatest end at) where
     -- a word in range
-    pub word_next : at < end → get_or words at 0 ≤ greatest → InSection words place (listed s) m greatest end (at + 1)
+    pub word_next : at < end → get_or words at 0 ≤ greatest → InSection words place (listed ss) m greatest end (at + 1)
     word_next h l = record {
-      same = λ number. c.same number ∙ ap (λ a. a then ranged number words end (drop (m + 1) (listed s))) (below_next words end (omega arith) greatest number at h l);
+      same = λ number. c.same number ∙ ap (λ a. a then ranged number words end (drop (m + 1) (listed ss))) (below_next words end (omega arith) greatest number at h l);
       ends = c.ends;
       before = omega arith;
     }
 
     -- a word out of range
-    pub word-found : at < end → greatest < get_or words at 0 → (number : ℕ) → refused number at ≡ ranged number words place (listed s)
-    word-found h l number = sym (c.same number ∙ ap (λ a. a then ranged number words end (drop (m + 1) (listed s))) (below-found words end (omega arith) greatest number at h l))
+    pub word-found : at < end → greatest < get_or words at 0 → (number : ℕ) → refused number at ≡ ranged number words place (listed ss)
+    word-found h l number = sym (c.same number ∙ ap (λ a. a then ranged number words end (drop (m + 1) (listed ss))) (below-found words end (omega arith) greatest number at h l))
 
     -- the section's end
-    pub section_next : end ≤ at → Searched words place (listed s) at (m + 1)
-    section_next h =
-        let there : end ≡ at = omega arith in
-        record {
-          same = λ number.
-              c.same number
-              ∙ ap (λ a. a then ranged number words end (drop (m + 1) (listed s))) (below_none words end (omega arith) greatest number at h)
-              ∙ ap (λ n. ranged number words n (drop (m + 1) (listed s))) there;
-          end = c.ends ∙ omega arith;
-        }
+    pub section_next : end ≤ at → Searched words place (listed ss) end (m + 1)
+    section_next h = record {
+      same = λ number. c.same number ∙ ap (λ a. a then ranged number words end (drop (m + 1) (listed ss))) (below_none words end (omega arith) greatest number at h);
+      end = c.ends;
+    }

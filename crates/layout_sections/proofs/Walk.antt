@@ -1,6 +1,6 @@
 -- A walk over the sections of a table: what is left from section m on.
 use mathlib.Core.Path.{◌≡◌, refl, sym, ap, ◌∙◌}
-use mathlib.Core.List.{List, [], ◌∷◌}
+use mathlib.Core.List.{List, [], ◌∷◌, map}
 use Prim.Native.Nat.{ℕ, ◌+◌, ◌≤◌, ◌<◌}
 use native.Mathlib.Decide.{dec_le}
 use native.Mathlib.Numerals.{add-one}
@@ -8,29 +8,30 @@ use native.Mathlib.Omega.{arith}
 use borrow.Author.Tests.{lt-ltb, le-ltb, eq-eqb, ne_eqb}
 use lib.ListN.{length, get_or, drop, drop_of_length-le}
 use lib.Seq.{drop-cons}
-use Rattle.math.specs.lists.Table.{table}
-use Rattle.math.proofs.lists.Table.{length-table, get_or-table}
+use Rattle.std.proofs.lemmas.List.{drop-map}
 use Rattle.spec_leaves.specs.Answer.{fine, refused, ◌then◌}
 use Rattle.spec_protocol.specs.Checks.{require}
-use Rattle.spec_protocol.specs.Layout.{Section, span, counted, layout}
+use Rattle.spec_protocol.specs.Layout.{span, counted, layout}
+use Rattle.spec_protocol.specs.Layout as L
 use Rattle.spec_protocol.proofs.Fine.{require-holds, require_fails}
-use Rattle.layout_sections.specs.declared.sections.Sections.{Sections}
-use Rattle.layout_sections.specs.Sections.{section_at, listed}
+use Rattle.layout_sections.specs.declared.sections.Section.{Section}
+use Rattle.layout_sections.specs.Sections.{section_of, listed}
+use Rattle.layout_sections.proofs.Spans.{item, length-listed}
 use Rattle.layout_sections.proofs.Then.{stops, goes_on}
 
 -- from section m on: that section, then those from m + 1 on
-pub listed-from : (s : Sections) (m : ℕ) → m < s.len → drop m (listed s) ≡ section_at s m ∷ drop (m + 1) (listed s)
+pub listed-from : (ss : List Section) (m : ℕ) → m < length ss → drop m (listed ss) ≡ section_of (item ss m) ∷ drop (m + 1) (listed ss)
 unfolding listed
-listed-from s m h =
-    drop-cons (table s.len (section_at s)) m (section_at s m) (rw length-table h)
-    ∙ rw (get_or-table s.len (section_at s) m (section_at s m) h, add-one m)
+listed-from ss m h =
+    drop-map section_of m ss
+    ∙ ap (map section_of) (drop-cons ss m (record { count = 0; greatest = 0 }) h ∙ ap (λ n. item ss m ∷ drop n ss) (sym (add-one m)))
+    ∙ ap (λ l. section_of (item ss m) ∷ l) (sym (drop-map section_of (m + 1) ss))
 
 -- after the last section there is none
-pub listed_past : (s : Sections) (m : ℕ) → s.len ≤ m → drop m (listed s) ≡ []
-unfolding listed
-listed_past s m h = drop_of_length-le (table s.len (section_at s)) {i = m} (rw length-table h)
+pub listed_past : (ss : List Section) (m : ℕ) → length ss ≤ m → drop m (listed ss) ≡ []
+listed_past ss m h = drop_of_length-le (listed ss) {i = m} (rw length-listed h)
 
-module _ (number : ℕ) (words : List ℕ) (at : ℕ) (s : Section) (ss : List Section) where
+module _ (number : ℕ) (words : List ℕ) (at : ℕ) (s : L.Section) (ss : List L.Section) where
   -- no count stands at the slice's end
   pub counted_past : length words ≤ at → counted number words at (s ∷ ss) ≡ refused number (length words)
   unfolding counted
@@ -59,55 +60,55 @@ module _ (number : ℕ) (words : List ℕ) (at : ℕ) (s : Section) (ss : List S
         (require-holds (dec_le (at + 1 + s.count) (length words)) (refused number (length words)) l))
 
 -- the sections before section m are there, and the next starts at a place
-pub record Reached (words : List ℕ) (place : ℕ) (ss : List Section) (at m : ℕ) : Type 0 where
+pub record Reached (words : List ℕ) (place : ℕ) (ss : List L.Section) (at m : ℕ) : Type 0 where
   pub same : (number : ℕ) → counted number words place ss ≡ counted number words at (drop m ss)
   pub end : place + span ss ≡ at + span (drop m ss)
   pub inside : at ≤ length words
 
 -- nothing is reached yet
-pub reached_none : (words : List ℕ) (place : ℕ) (ss : List Section) → place ≤ length words → Reached words place ss place 0
+pub reached_none : (words : List ℕ) (place : ℕ) (ss : List L.Section) → place ≤ length words → Reached words place ss place 0
 reached_none words place ss h = record { same = λ number. refl; end = refl; inside = h }
 
-module _ (words : List ℕ) (place : ℕ) (s : Sections) (at m : ℕ) (c : Reached words place (listed s) at m) (h : m < s.len) where
+module _ (words : List ℕ) (place : ℕ) (ss : List Section) (at m : ℕ) (c : Reached words place (listed ss) at m) (h : m < length ss) where
   abbrev expected : ℕ
-  expected = get_or s.counts m 0
+  expected = (item ss m).count
 
   -- the answer is that from section m on
-  at_section : (number : ℕ) → counted number words place (listed s) ≡ counted number words at (section_at s m ∷ drop (m + 1) (listed s))
-  at_section number = c.same number ∙ ap (counted number words at) (listed-from s m h)
+  at_section : (number : ℕ) → counted number words place (listed ss) ≡ counted number words at (section_of (item ss m) ∷ drop (m + 1) (listed ss))
+  at_section number = c.same number ∙ ap (counted number words at) (listed-from ss m h)
 
-  pub reached_past : length words ≤ at → (number : ℕ) → refused number (length words) ≡ counted number words place (listed s)
-  reached_past l number = sym (at_section number ∙ counted_past number words at (section_at s m) (drop (m + 1) (listed s)) l)
+  pub reached_past : length words ≤ at → (number : ℕ) → refused number (length words) ≡ counted number words place (listed ss)
+  reached_past l number = sym (at_section number ∙ counted_past number words at (section_of (item ss m)) (drop (m + 1) (listed ss)) l)
 
-  pub reached_wrong : at < length words → (get_or words at 0 ≡ expected → ⊥) → (number : ℕ) → refused number at ≡ counted number words place (listed s)
-  reached_wrong l n number = sym (at_section number ∙ counted_wrong number words at (section_at s m) (drop (m + 1) (listed s)) l n)
+  pub reached_wrong : at < length words → (get_or words at 0 ≡ expected → ⊥) → (number : ℕ) → refused number at ≡ counted number words place (listed ss)
+  reached_wrong l n number = sym (at_section number ∙ counted_wrong number words at (section_of (item ss m)) (drop (m + 1) (listed ss)) l n)
 
-  pub reached_short : at < length words → get_or words at 0 ≡ expected → length words < at + 1 + expected → (number : ℕ) → refused number (length words) ≡ counted number words place (listed s)
-  reached_short l e g number = sym (at_section number ∙ counted-short number words at (section_at s m) (drop (m + 1) (listed s)) l e g)
+  pub reached_short : at < length words → get_or words at 0 ≡ expected → length words < at + 1 + expected → (number : ℕ) → refused number (length words) ≡ counted number words place (listed ss)
+  reached_short l e g number = sym (at_section number ∙ counted-short number words at (section_of (item ss m)) (drop (m + 1) (listed ss)) l e g)
 
-  pub reached_next : at < length words → get_or words at 0 ≡ expected → at + 1 + expected ≤ length words → Reached words place (listed s) (at + (1 + expected)) (m + 1)
+  pub reached_next : at < length words → get_or words at 0 ≡ expected → at + 1 + expected ≤ length words → Reached words place (listed ss) (at + (1 + expected)) (m + 1)
   unfolding span
   reached_next l e g = record {
     same = λ number.
         at_section number
-        ∙ counted_next number words at (section_at s m) (drop (m + 1) (listed s)) l e g
-        ∙ ap (λ a. counted number words a (drop (m + 1) (listed s))) (omega arith);
-    end = c.end ∙ ap (λ l. at + span l) (listed-from s m h) ∙ omega arith;
+        ∙ counted_next number words at (section_of (item ss m)) (drop (m + 1) (listed ss)) l e g
+        ∙ ap (λ a. counted number words a (drop (m + 1) (listed ss))) (omega arith);
+    end = c.end ∙ ap (λ l. at + span l) (listed-from ss m h) ∙ omega arith;
     inside = omega arith;
   }
 
-module _ (words : List ℕ) (place : ℕ) (s : Sections) (at m : ℕ) (c : Reached words place (listed s) at m) (h : s.len ≤ m) where
+module _ (words : List ℕ) (place : ℕ) (ss : List Section) (at m : ℕ) (c : Reached words place (listed ss) at m) (h : length ss ≤ m) where
   -- all sections are there
-  pub reached_all : (number : ℕ) → fine ≡ counted number words place (listed s)
+  pub reached_all : (number : ℕ) → fine ≡ counted number words place (listed ss)
   unfolding counted
-  reached_all number = sym (c.same number ∙ ap (counted number words at) (listed_past s m h))
+  reached_all number = sym (c.same number ∙ ap (counted number words at) (listed_past ss m h))
 
   -- and end where the next would start
-  pub reached_end : at ≡ place + span (listed s)
+  pub reached_end : at ≡ place + span (listed ss)
   unfolding span
-  reached_end = sym (c.end ∙ ap (λ l. at + span l) (listed_past s m h) ∙ omega arith)
+  reached_end = sym (c.end ∙ ap (λ l. at + span l) (listed_past ss m h) ∙ omega arith)
 
-module _ (number : ℕ) (words : List ℕ) (place : ℕ) (ss : List Section) where
+module _ (number : ℕ) (words : List ℕ) (place : ℕ) (ss : List L.Section) where
   -- wrong counts make a wrong layout
   pub layout_wrong : {p : ℕ} → refused number p ≡ counted number words place ss → refused number p ≡ layout number words place ss
   unfolding layout

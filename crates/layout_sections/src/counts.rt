@@ -1,65 +1,41 @@
 // The counts of a slice's sections, and where the slice ends.
-ghost use Rattle.std.specs.Prelude.{◌≡◌, ℕ, ◌+◌, ◌≤◌, length};
+ghost use Rattle.std.specs.Prelude.{◌≡◌, ℕ, ◌+◌, ◌≤◌, length, IfOk};
 ghost use Rattle.spec_protocol.specs.Layout.{span, counted, layout};
-ghost use Rattle.layout_sections.specs.Sections.{listed, of_counted, of_found, EndsAt};
+ghost use Rattle.layout_sections.specs.Sections.{listed, of_counted, of_found};
 
-use crate::sections::Sections;
+use crate::sections::Section;
 use ring_zq::wide::wide_usize;
 
-// Where sections that start at a place go wrong, or end.
-#[derive(Clone, Copy)]
-pub enum Counted {
-    Wrong(usize),
-    End(usize),
-}
-
-// The first place at which something is wrong.
-#[derive(Clone, Copy)]
-pub enum Found {
-    At(usize),
-    Nowhere,
-}
-
-// The counts of sections that start at a place, as far as they are right.
-pub fn count(words: &[u32], place: usize, s: Sections) -> Counted
-    requires { (s.len ≤ 10) × (place ≤ length words.now) }
-    ensures by_index { (number : ℕ) → of_counted number result ≡ counted number words.now place (listed s) }
-    ensures ends_at { EndsAt (place + span (listed s)) result }
+// Where sections that start at a place end, their counts being right; or else the place that is wrong.
+pub fn count(words: &[u32], place: usize, sections: &[Section]) -> Result<usize, usize>
+    requires { place ≤ length words.now }
+    ensures by_index { (number : ℕ) → of_counted number result ≡ counted number words.now place (listed sections.now) }
+    ensures ends_at { IfOk result (λ end. end ≡ place + span (listed sections.now)) }
 {
-    let counts = s.counts;
     let len = words.len();
     let mut at = place;
-    let mut m = 0;
-    while m < s.len {
-        let expected = counts[m];
+    for section in sections {
         if at < len {
-            if wide_usize(words[at]) != expected {
-                return Counted::Wrong(at);
+            if wide_usize(words[at]) != section.count {
+                return Err(at);
             }
         }
         // the count is missing, or too few words follow it
-        if len - at <= expected {
-            return Counted::Wrong(len);
+        if len - at <= section.count {
+            return Err(len);
         }
-        at += 1 + expected;
-        m += 1;
+        at += 1 + section.count;
     }
-    Counted::End(at)
+    Ok(at)
 }
 
 // The first place at which the sections from a place on do not take the slice to its end.
-pub fn first_wrong(words: &[u32], place: usize, s: Sections) -> Found
-    requires { (s.len ≤ 10) × (place ≤ length words.now) }
-    ensures { (number : ℕ) → of_found number result ≡ layout number words.now place (listed s) }
+pub fn first_wrong(words: &[u32], place: usize, sections: &[Section]) -> Option<usize>
+    requires { place ≤ length words.now }
+    ensures { (number : ℕ) → of_found number result ≡ layout number words.now place (listed sections.now) }
 {
-    match count(words, place, s) {
-        Counted::Wrong(at) => Found::At(at),
-        Counted::End(end) => {
-            if end < words.len() {
-                Found::At(end)
-            } else {
-                Found::Nowhere
-            }
-        }
+    match count(words, place, sections) {
+        Err(at) => Some(at),
+        Ok(end) => { if end < words.len() { Some(end) } else { None } }
     }
 }

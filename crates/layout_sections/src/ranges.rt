@@ -3,8 +3,7 @@ ghost use Rattle.std.specs.Prelude.{◌≡◌, true, ℕ, ◌+◌, ◌≤◌, �
 ghost use Rattle.spec_protocol.specs.Layout.{span, ranged};
 ghost use Rattle.layout_sections.specs.Sections.{listed, of_found, Passed};
 
-use crate::counts::Found;
-use crate::sections::Sections;
+use crate::sections::Section;
 
 // Whether the 256 words from a place on are at most the greatest. It looks at all of them, so it runs on several words at a time.
 fn within(words: &[u32], at: usize, greatest: u32) -> bool
@@ -12,8 +11,8 @@ fn within(words: &[u32], at: usize, greatest: u32) -> bool
     ensures { result ≡ true → (k : ℕ) → k < 256 → get_or words.now (at + k) 0 ≤ greatest }
 {
     let mut fit = true;
-    for k in 0..256 {
-        if greatest < words[at + k] {
+    for word in &words[at..at + 256] {
+        if greatest < *word {
             fit = false;
         }
     }
@@ -39,27 +38,22 @@ fn pass(words: &[u32], from: usize, end: usize, greatest: u32) -> usize
 }
 
 // Nested loops over sections and their words, left by a label at the first word above its section's greatest.
-pub fn first_wrong(words: &[u32], place: usize, s: Sections) -> Found
-    requires { (s.len ≤ 10) × (place + span (listed s) ≤ length words.now) }
-    ensures { (number : ℕ) → of_found number result ≡ ranged number words.now place (listed s) }
+pub fn first_wrong(words: &[u32], place: usize, sections: &[Section]) -> Option<usize>
+    requires { place + span (listed sections.now) ≤ length words.now }
+    ensures { (number : ℕ) → of_found number result ≡ ranged number words.now place (listed sections.now) }
 {
-    let counts = s.counts;
-    let limits = s.greatest;
-    let mut found = Found::Nowhere;
+    let mut found = None;
     let mut at = place;
-    let mut m = 0;
-    'sections: while m < s.len {
-        let greatest = limits[m];
-        let end = at + 1 + counts[m];
-        at = pass(words, at + 1, end, greatest);
-        while at < end {
-            if greatest < words[at] {
-                found = Found::At(at);
+    'sections: for section in sections {
+        let end = at + 1 + section.count;
+        let passed = pass(words, at + 1, end, section.greatest);
+        for k in passed..end {
+            if section.greatest < words[k] {
+                found = Some(k);
                 break 'sections;
             }
-            at += 1;
         }
-        m += 1;
+        at = end;
     }
     found
 }

@@ -1,35 +1,31 @@
-// The sections that a slice should have, by value, and how many words they take.
-ghost use Rattle.std.specs.Prelude.{◌≡◌, ◌+◌, ◌≤◌, ◌<◌, ◌^◌, take, drop};
+// The sections that a slice should have, and how many words they take.
+ghost use Rattle.std.specs.Prelude.{◌≡◌, ◌<◌, ◌^◌, length};
 ghost use Rattle.spec_protocol.specs.Layout as L;
 ghost use Rattle.layout_sections.specs.Sections.{listed};
 
-// Section m, for m below `len`, has `counts[m]` words of at most `greatest[m]`.
+// A section of a slice: how many words it has, and the greatest that each may be.
 #[derive(Clone, Copy)]
-pub struct Sections {
-    pub counts: [usize; 10],
-    pub greatest: [u32; 10],
-    pub len: usize,
+pub struct Section {
+    pub count: usize,
+    pub greatest: u32,
 }
 
-// The words that n sections take from one on, counts included.
-pub fn span(s: Sections, from: usize, n: usize) -> usize
-    requires { (from + n ≤ s.len) × (s.len ≤ 10) × (L.span (listed s) < 2 ^ 64) }
-    ensures { result ≡ L.span (take n (drop from (listed s))) }
+// The words that sections take, counts included.
+pub fn span(sections: &[Section]) -> usize
+    requires { L.span (listed sections.now) < 2 ^ 64 }
+    ensures { result ≡ L.span (listed sections.now) }
 {
-    let counts = s.counts;
     let mut sum = 0;
-    let mut m = 0;
-    while m < n {
-        sum += 1 + counts[from + m];
-        m += 1;
+    for section in sections {
+        sum += 1 + section.count;
     }
     sum
 }
 
 // Where the words of section m start.
-pub fn start(s: Sections, m: usize) -> usize
-    requires { (m < s.len) × (s.len ≤ 10) × (L.span (listed s) < 2 ^ 64) }
-    ensures { result ≡ L.start (listed s) m }
+pub fn start(sections: &[Section], m: usize) -> usize
+    requires { (m < length sections.now) × (L.span (listed sections.now) < 2 ^ 64) }
+    ensures { result ≡ L.start (listed sections.now) m }
 {
-    span(s, 0, m) + 1
+    span(&sections[..m]) + 1
 }

@@ -1,18 +1,23 @@
 -- A table by what it lists.
-use mathlib.Core.Path.{◌≡◌, sym, ap, ◌∙◌}
-use mathlib.Core.List.{List}
-use Prim.Native.Nat.{◌≤◌, ◌<◌, ◌^◌}
+use mathlib.Core.Path.{◌≡◌, refl, ap, ap₂}
+use mathlib.Core.List.{List, [], ◌∷◌}
+use Prim.Native.Nat.{◌<◌, ◌^◌}
 use native.Mathlib.Omega.{arith}
-use lib.ListN.{length}
-use Rattle.spec_protocol.specs.Layout.{Section, span}
-use Rattle.layout_sections.specs.declared.sections.Sections.{Sections}
-use Rattle.layout_sections.specs.Sections.{listed}
-use Rattle.layout_sections.proofs.Spans.{length-listed}
+use Rattle.spec_protocol.specs.Layout.{span}
+use Rattle.spec_protocol.specs.Layout as L
+use Rattle.layout_sections.specs.declared.sections.Section.{Section}
+use Rattle.layout_sections.specs.Sections.{section_of, listed}
 use Rattle.layout_sizes.specs.Sizes.{IsTable}
 
-pub is_table : {ss : List Section} {s : Sections} → listed s ≡ ss → s.len ≤ 10 → span ss < 2 ^ 32 → IsTable ss s
-is_table {s = s} e h b = record { lists = e; size = sym (length-listed s) ∙ ap length e; few = h; spans = b }
-
 -- a table's own words are few
-pub table-spans : {ss : List Section} {s : Sections} → IsTable ss s → span (listed s) < 2 ^ 64
+pub table-spans : {ss : List L.Section} {table : List Section} → IsTable ss table → span (listed table) < 2 ^ 64
 table-spans t = omega (arith, ap span t.lists, t.spans)
+
+-- a table section by section
+pub listed_none : listed [] ≡ []
+unfolding listed
+listed_none = refl
+
+pub listed_more : (s : Section) (table : List Section) {t : L.Section} {ss : List L.Section} → section_of s ≡ t → listed table ≡ ss → listed (s ∷ table) ≡ t ∷ ss
+unfolding listed
+listed_more s table e es = ap₂ (λ s ss. s ∷ ss) e es

@@ -1,8 +1,9 @@
 -- What the sizes are reckoned of, and what a table of sections is.
-use Rattle.std.specs.Prelude.{◌≡◌, List, ◌≤◌, ◌<◌, ◌^◌, length}
+use Rattle.std.specs.Prelude.{◌≡◌, List, ◌<◌, ◌^◌}
 use Rattle.spec_protocol.specs.Parameters.{Parameters}
-use Rattle.spec_protocol.specs.Layout.{Section, span}
-use Rattle.layout_sections.specs.declared.sections.Sections.{Sections}
+use Rattle.spec_protocol.specs.Layout.{span}
+use Rattle.spec_protocol.specs.Layout as L
+use Rattle.layout_sections.specs.declared.sections.Section.{Section}
 use Rattle.layout_sections.specs.Sections.{listed}
 use Rattle.relation_env_params.specs.SectionOne.{Within}
 
@@ -11,8 +12,6 @@ pub record Sized (P : Parameters) : Type 0 where
   pub within : Within P
 
 -- a table lists the sections, which take few words
-pub record IsTable (ss : List Section) (s : Sections) : Type 0 where
-  pub lists : listed s ≡ ss
-  pub size : s.len ≡ length ss
-  pub few : s.len ≤ 10
+pub record IsTable (ss : List L.Section) (table : List Section) : Type 0 where
+  pub lists : listed table ≡ ss
   pub spans : span ss < 2 ^ 32

@@ -26,5 +26,6 @@ pub fn output_length(params: EnvironmentParameters, from: usize, makes: usize) -
     requires { Sized (parameters_of params) × (from + makes ≤ 8) }
     ensures { result ≡ span (take makes (drop from (transcript_sections (parameters_of params)))) }
 {
-    sections::span(slices::transcript_sections(params), from, makes)
+    let all = slices::transcript_sections(params);
+    sections::span(&all[from..from + makes])
 }

@@ -13,7 +13,7 @@ pub fn of_job(params: EnvironmentParameters, m: usize) -> usize
     requires { Sized (parameters_of params) × (m < 10) }
     ensures { result ≡ 31 + start (job_sections (parameters_of params)) m }
 {
-    31 + sections::start(slices::job_sections(params), m)
+    31 + sections::start(&slices::job_sections(params), m)
 }
 
 // Of the randomness's sections.
@@ -21,7 +21,7 @@ pub fn of_randomness(params: EnvironmentParameters, m: usize) -> usize
     requires { Sized (parameters_of params) × (m < 7) }
     ensures { result ≡ start (randomness_sections (parameters_of params)) m }
 {
-    sections::start(slices::randomness_sections(params, 7), m)
+    sections::start(&slices::randomness_sections(params), m)
 }
 
 // Of the transcript's sections.
@@ -29,5 +29,5 @@ pub fn of_transcript(params: EnvironmentParameters, m: usize) -> usize
     requires { Sized (parameters_of params) × (m < 8) }
     ensures { result ≡ start (transcript_sections (parameters_of params)) m }
 {
-    sections::start(slices::transcript_sections(params), m)
+    sections::start(&slices::transcript_sections(params), m)
 }

@@ -1,11 +1,13 @@
 // The sections of the job after section one, of the randomness, of the witness and of the transcript.
-ghost use Rattle.std.specs.Prelude.{◌≡◌, ◌≤◌, take};
+ghost use Rattle.std.specs.Prelude.{◌≡◌, ◌≤◌};
 ghost use Rattle.spec_protocol.specs.Parameters.{triangular};
 ghost use Rattle.spec_protocol.specs.Layout.{job_sections, randomness_sections, witness_sections, transcript_sections};
+ghost use Rattle.spec_protocol.specs.Layout as L;
+ghost use Rattle.layout_sections.specs.Sections.{section_of};
 ghost use Rattle.relation_env_params.specs.Parameters.{parameters_of};
 ghost use Rattle.layout_sizes.specs.Sizes.{Sized, IsTable};
 
-use layout_sections::sections::Sections;
+use layout_sections::sections::Section;
 use relation_env_params::env_params::EnvironmentParameters;
 use ring_rq_matrix::triangles;
 use spec_leaves::modulus;
@@ -18,9 +20,19 @@ pub fn triangle(r: usize) -> usize
     triangles::cells(r)
 }
 
+// A section of canonical words.
+pub fn canonical(count: usize) -> Section
+    ensures { section_of result ≡ L.canonical count }
+{
+    Section {
+        count,
+        greatest: modulus::TOP,
+    }
+}
+
 // "constant-term constraints: l triangles a', then l·r·n elements φ', then l words b0; ring constraints: K triangles a, K·r·n elements φ,
 // K elements b; matrices A (κ rows of n), B (κ1 rows of r·κ·t1), C (κ1 rows of T·t2), D (κ2 rows of T·t1)"
-pub fn job_sections(params: EnvironmentParameters) -> Sections
+pub fn job_sections(params: EnvironmentParameters) -> [Section; 10]
     requires { Sized (parameters_of params) }
     ensures { IsTable (job_sections (parameters_of params)) result }
 {
@@ -34,79 +46,58 @@ pub fn job_sections(params: EnvironmentParameters) -> Sections
     let t_1 = params.t_1;
     let t_2 = params.t_2;
     let t = triangle(r);
-    Sections {
-        counts: [
-            64 * (l * t),
-            64 * (l * r * n),
-            l,
-            64 * (k * t),
-            64 * (k * r * n),
-            64 * k,
-            64 * (kappa * n),
-            64 * (kappa_1 * (r * kappa * t_1)),
-            64 * (kappa_1 * (t * t_2)),
-            64 * (kappa_2 * (t * t_1)),
-        ],
-        greatest: [modulus::TOP; 10],
-        len: 10,
-    }
+    [
+        canonical(64 * (l * t)),
+        canonical(64 * (l * r * n)),
+        canonical(l),
+        canonical(64 * (k * t)),
+        canonical(64 * (k * r * n)),
+        canonical(64 * k),
+        canonical(64 * (kappa * n)),
+        canonical(64 * (kappa_1 * (r * kappa * t_1))),
+        canonical(64 * (kappa_1 * (t * t_2))),
+        canonical(64 * (kappa_2 * (t * t_1))),
+    ]
 }
 
 // "16384·n·r projection words […]; psi, L rows of l; omega, L rows of 256; alpha, K elements; beta, L elements; 41·r sign words; 63·r shuffle
-// words"; the first sections alone for a round.
-pub fn randomness_sections(params: EnvironmentParameters, handed: usize) -> Sections
-    requires { Sized (parameters_of params) × (handed ≤ 7) }
-    ensures { IsTable (take handed (randomness_sections (parameters_of params))) result }
+// words"; "sign words are 0 or 1, shuffle words are free"
+pub fn randomness_sections(params: EnvironmentParameters) -> [Section; 7]
+    requires { Sized (parameters_of params) }
+    ensures { IsTable (randomness_sections (parameters_of params)) result }
 {
     let n = params.rank;
     let r = params.multiplicity;
     let l = params.constraint_l;
     let k = params.constraint_k;
     let rows = params.const_agg_length;
-    let q = modulus::TOP;
-    Sections {
-        counts: [
-            16384 * n * r,
-            rows * l,
-            rows * 256,
-            64 * k,
-            64 * rows,
-            41 * r,
-            63 * r,
-            0,
-            0,
-            0,
-        ],
-        greatest: [q, q, q, q, q, 1, 4294967295, 0, 0, 0],
-        len: handed,
-    }
+    [
+        canonical(16384 * n * r),
+        canonical(rows * l),
+        canonical(rows * 256),
+        canonical(64 * k),
+        canonical(64 * rows),
+        Section {
+            count: 41 * r,
+            greatest: 1,
+        },
+        Section {
+            count: 63 * r,
+            greatest: u32::MAX,
+        },
+    ]
 }
 
 // "Witness: r·n elements, s_1 to s_r."
-pub fn witness_sections(params: EnvironmentParameters) -> Sections
+pub fn witness_sections(params: EnvironmentParameters) -> [Section; 1]
     requires { Sized (parameters_of params) }
     ensures { IsTable (witness_sections (parameters_of params)) result }
 {
-    Sections {
-        counts: [
-            64 * (params.multiplicity * params.rank),
-            0,
-            0,
-            0,
-            0,
-            0,
-            0,
-            0,
-            0,
-            0,
-        ],
-        greatest: [modulus::TOP; 10],
-        len: 1,
-    }
+    [canonical(64 * (params.multiplicity * params.rank))]
 }
 
 // "Transcript: u1 (κ1 elements), p (256 words), b''" of L elements, "u2 (κ2), z (n), t (r·κ), g (T), h (T)."
-pub fn transcript_sections(params: EnvironmentParameters) -> Sections
+pub fn transcript_sections(params: EnvironmentParameters) -> [Section; 8]
     requires { Sized (parameters_of params) }
     ensures { IsTable (transcript_sections (parameters_of params)) result }
 {
@@ -117,20 +108,14 @@ pub fn transcript_sections(params: EnvironmentParameters) -> Sections
     let kappa_2 = params.kappa_2;
     let rows = params.const_agg_length;
     let t = triangle(r);
-    Sections {
-        counts: [
-            64 * kappa_1,
-            256,
-            64 * rows,
-            64 * kappa_2,
-            64 * n,
-            64 * (r * kappa),
-            64 * t,
-            64 * t,
-            0,
-            0,
-        ],
-        greatest: [modulus::TOP; 10],
-        len: 8,
-    }
+    [
+        canonical(64 * kappa_1),
+        canonical(256),
+        canonical(64 * rows),
+        canonical(64 * kappa_2),
+        canonical(64 * n),
+        canonical(64 * (r * kappa)),
+        canonical(64 * t),
+        canonical(64 * t),
+    ]
 }

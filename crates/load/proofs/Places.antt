@@ -9,10 +9,11 @@ use Rattle.math.specs.lists.Part.{part, splice}
 use Rattle.math.proofs.lists.Splice.{splice-append}
 use Rattle.spec_leaves.specs.Zq.{Q}
 use Rattle.spec_protocol.specs.Parameters.{Parameters, triangular}
-use Rattle.spec_protocol.specs.Layout.{Section, span, start, sections, job_sections}
+use Rattle.spec_protocol.specs.Layout.{span, start, sections, job_sections}
+use Rattle.spec_protocol.specs.Layout as L
 use Rattle.spec_protocol.specs.Load as S
 use Rattle.spec_protocol.specs.Load.{Given, load_parameters, drawn, after, job_rules, blank_job, after_job}
-use Rattle.layout_sections.specs.declared.sections.Sections.{Sections}
+use Rattle.layout_sections.specs.declared.sections.Section.{Section}
 use Rattle.layout_sections.specs.Sections.{listed}
 use Rattle.layout_sizes.specs.Sizes.{Sized, IsTable}
 use Rattle.load_draw.specs.declared.Rule.{Rule}
@@ -78,13 +79,12 @@ module _ (P : Parameters) (J : List ℕ) (t : Target) (sized : Sized P) (blank :
     b = λ x h. subst (λ w. w < Q) (sym (ap (λ q. get_or J (q + x) 0) aims.b ∙ blank.b x (omega (arith, aims.k)))) (omega arith);
   }
 
--- the sections of a table, drawn by rules of which there are as many
-pub table-drawn : {ss : List Section} {s : Sections} → IsTable ss s → (rules : List Rule) (rs : List S.Rule) → rules_of rules (length ss) ≡ rs → (x : ℕ) (l now : List ℕ) (at r : ℕ)
-    → (now ≡ splice l at (sections (drawn x (rules_of rules s.len) (listed s)))) × (r ≡ after x (rules_of rules s.len) (listed s))
+-- the sections of a table, drawn by the rules of another
+pub table-drawn : {ss : List L.Section} {table : List Section} → IsTable ss table → (rules : List Rule) (rs : List S.Rule) → rules_of rules ≡ rs → (x : ℕ) (l now : List ℕ) (at r : ℕ)
+    → (now ≡ splice l at (sections (drawn x (rules_of rules) (listed table)))) × (r ≡ after x (rules_of rules) (listed table))
     → (now ≡ splice l at (sections (drawn x rs ss))) × (r ≡ after x rs ss)
 table-drawn t rules rs e x l now at r h =
-    let same = ap (rules_of rules) t.size ∙ e in
-    (h.0 ∙ ap₂ (λ r s. splice l at (sections (drawn x r s))) same t.lists, h.1 ∙ ap₂ (after x) same t.lists)
+    (h.0 ∙ ap₂ (λ r s. splice l at (sections (drawn x r s))) e t.lists, h.1 ∙ ap₂ (after x) e t.lists)
 
 -- section one copied, then the sections drawn: the job without b0 and b
 pub job_drawn_in : (G : Given) (P : Parameters) (seed : ℕ) (one job first now : List ℕ) (r : ℕ) → P ≡ load_parameters G → one ≡ one_of G

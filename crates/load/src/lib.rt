@@ -3,7 +3,7 @@
 
 ghost use Rattle.std.specs.Prelude.{◌≡◌, ◌+◌, ◌≤◌, length};
 ghost use Rattle.math.specs.lists.Part.{splice};
-ghost use Rattle.spec_leaves.specs.Answer.{of_proved};
+ghost use Rattle.spec_leaves.specs.Answer.{of_result};
 ghost use Rattle.spec_protocol.specs.Layout.{span, sections, witness_sections, randomness_sections};
 ghost use Rattle.spec_protocol.specs.Load.{load_refusal, load_job, load_witness, load_randomness, blank_job, after_job, drawn, after};
 ghost use Rattle.spec_protocol.specs.Load.{witness_rules, randomness_rules, job_need, witness_need, randomness_need};
@@ -13,13 +13,12 @@ ghost use Rattle.load_needs.specs.Given.{given, Ready};
 ghost use Rattle.load.specs.Sums.{Blank, sums_of};
 ghost use Rattle.load.specs.Exit.{job_exit, witness_exit, randomness_exit, witness_drawn};
 
-use admission_slices::answers::Admitted;
 use layout_sizes::{names, offsets, slices};
 use load_constraints::sums::Target;
 use load_draw::Rule;
 use load_needs::LabradorParameters;
 use relation_env_params::env_params::EnvironmentParameters;
-use spec_leaves::answers::Proved;
+use spec_leaves::answers::Refusal;
 
 // Section one, then the sections as they are drawn; b0 and b are zero.
 fn draw_job(g: LabradorParameters, params: EnvironmentParameters, seed: u32, job: &mut [u32]) -> u32
@@ -40,15 +39,20 @@ fn draw_job(g: LabradorParameters, params: EnvironmentParameters, seed: u32, job
         Rule::Word,
         Rule::Word,
     ];
-    load_draw::sections(job, 31, slices::job_sections(params), rules, seed)
+    load_draw::sections(job, 31, &slices::job_sections(params), &rules, seed)
 }
 
 fn draw_witness(params: EnvironmentParameters, state: u32, witness: &mut [u32]) -> u32
     requires { Sized (parameters_of params) × (span (witness_sections (parameters_of params)) ≤ length witness.old) }
     ensures { (witness.new ≡ splice witness.old 0 (witness_drawn (parameters_of params) state)) × (result ≡ after state witness_rules (witness_sections (parameters_of params))) }
 {
-    let rules = [Rule::Ternary; 10];
-    load_draw::sections(witness, 0, slices::witness_sections(params), rules, state)
+    load_draw::sections(
+        witness,
+        0,
+        &slices::witness_sections(params),
+        &[Rule::Ternary],
+        state,
+    )
 }
 
 fn draw_randomness(params: EnvironmentParameters, state: u32, randomness: &mut [u32])
@@ -56,12 +60,12 @@ fn draw_randomness(params: EnvironmentParameters, state: u32, randomness: &mut [
     ensures { randomness.new ≡ splice randomness.old 0 (sections (drawn state randomness_rules (randomness_sections (parameters_of params)))) }
 {
     let w = Rule::Word;
-    let rules = [w, w, w, w, w, Rule::Sign, w, w, w, w];
+    let rules = [w, w, w, w, w, Rule::Sign, w];
     load_draw::sections(
         randomness,
         0,
-        slices::randomness_sections(params, 7),
-        rules,
+        &slices::randomness_sections(params),
+        &rules,
         state,
     );
 }
@@ -113,17 +117,13 @@ pub fn load(
     job: &mut [u32],
     witness: &mut [u32],
     randomness: &mut [u32],
-) -> Proved
-    ensures result_value { of_proved result ≡ load_refusal (given g) (length job.old) (length witness.old) (length randomness.old) }
+) -> Result<(), Refusal>
+    ensures result_value { of_result result ≡ load_refusal (given g) (length job.old) (length witness.old) (length randomness.old) }
     ensures job_after { job.new ≡ job_exit (given g) seed job.old witness.old randomness.old }
     ensures witness_after { witness.new ≡ witness_exit (given g) seed job.old witness.old randomness.old }
     ensures randomness_after { randomness.new ≡ randomness_exit (given g) seed job.old witness.old randomness.old }
 {
-    match load_needs::admit(g, job.len(), witness.len(), randomness.len()) {
-        Admitted::Refused(refusal) => Proved::Refused(refusal),
-        Admitted::Fit(params) => {
-            work(g, params, seed, job, witness, randomness);
-            Proved::Made
-        }
-    }
+    let params = load_needs::admit(g, job.len(), witness.len(), randomness.len())?;
+    work(g, params, seed, job, witness, randomness);
+    Ok(())
 }

@@ -42,11 +42,9 @@ fn add_row(
     requires { Placed job.old t base0 base m × Reduced job.old t × (row + (i + 1) ≤ m) × (s_at + 64 * ((i + 1) * n) ≤ length s.now) × (i < 64) × (n ≤ 64) }
     ensures { job.new ≡ plus_both job.old t base0 base (λ at. terms job.old at m row (i + 1) (weight_of s.now s_at n i)) }
 {
-    let mut j = 0;
-    while j <= i {
+    for j in 0..i + 1 {
         let w = weight(s, s_at, n, i, j);
         sums::add_term(job, t, base0, base, m, row + j, w);
-        j += 1;
     }
 }
 
@@ -66,11 +64,9 @@ fn add_triangle(
     ensures { job.new ≡ plus_both job.old t base0 base (λ at. rows_of job.old at m s.now s_at n r) }
 {
     let mut row = 0;
-    let mut i = 0;
-    while i < r {
+    for i in 0..r {
         add_row(job, t, base0, base, m, s, s_at, n, i, row);
-        i += 1;
-        row += i;
+        row += i + 1;
     }
 }
 
@@ -87,8 +83,7 @@ fn add_terms(
     requires { Placed job.old t base0 base m × Reduced job.old t × (s_at + 64 * m ≤ length s.now) }
     ensures { job.new ≡ plus_both job.old t base0 base (λ at. terms job.old at m 0 m (run s.now s_at 64)) }
 {
-    let mut e = 0;
-    while e < m {
+    for e in 0..m {
         sums::add_term(
             job,
             t,
@@ -98,7 +93,6 @@ fn add_terms(
             e,
             ring_words::load(s, s_at + 64 * e),
         );
-        e += 1;
     }
 }
 

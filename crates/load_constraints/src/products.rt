@@ -6,19 +6,21 @@ ghost use Rattle.math.specs.lists.Part.{splice};
 ghost use Rattle.spec_leaves.specs.Ring.{words};
 ghost use Rattle.ring_inner_product.specs.Run.{Run, run};
 ghost use Rattle.spec_protocol.specs.Formulas.{flat};
-ghost use Rattle.ntt_transform.specs.Roots.{twiddle_table};
 ghost use Rattle.ntt_vectors.specs.NttForm.{AllValues};
 ghost use Rattle.load_constraints.specs.Products.{ntt_line, Before, Canonical, with_line, with_terms};
 
 use core_aggregate_ntt::mix;
-use ntt_transform::table;
+use ntt_transform::table::Twiddles;
 use ntt_vectors::{sums, vectors};
 use ring_inner_product::Strided;
 use ring_rq::rq::Rq;
 
+// How many weights are transformed at a time.
+const BLOCK: usize = 32;
+
 // The inner product of n weights in NTT form with the elements from `at` on.
-fn line(job: &[u32], at: usize, n: usize, transformed: &[u32], w: &[u32]) -> Rq
-    requires { (w.now ≡ twiddle_table) × Run job.now at 64 n × AllValues transformed.now 0 n × (n ≤ 64) }
+fn line(job: &[u32], at: usize, n: usize, transformed: &[u32], w: &Twiddles) -> Rq
+    requires { Run job.now at 64 n × AllValues transformed.now 0 n × (n ≤ 64) }
     ensures { result.coeffs ≡ words (ntt_line job.now at n transformed.now) }
 {
     let run = Strided {
@@ -41,20 +43,18 @@ fn add_ntt(
     to: usize,
     count: usize,
     transformed: &[u32],
-    w: &[u32],
+    w: &Twiddles,
 )
-    requires { (w.now ≡ twiddle_table) × Before job.old base m to count × (cell + n ≤ m) × AllValues transformed.now 0 n × (n ≤ 64) }
+    requires { Before job.old base m to count × (cell + n ≤ m) × AllValues transformed.now 0 n × (n ≤ 64) }
     ensures { job.new ≡ splice job.old to (flat (table count (with_line job.old base m to cell n transformed.now))) }
 {
     let mut at = base + 64 * cell;
     let mut place = to;
-    let mut k = 0;
-    while k < count {
+    for k in 0..count {
         let sum = ring_words::load(job, place).add(line(job, at, n, transformed, w));
         ring_words::store(job, place, sum);
         at += 64 * m;
         place += 64;
-        k += 1;
     }
 }
 
@@ -69,21 +69,14 @@ fn add_block(
     count: usize,
     s: &[u32],
     s_at: usize,
-    w: &[u32],
+    w: &Twiddles,
 )
-    requires { (w.now ≡ twiddle_table) × Before job.old base m to count × (cell + n ≤ m) × (s_at + 64 * n ≤ length s.now) × (n ≤ 32) }
+    requires { Before job.old base m to count × (cell + n ≤ m) × (s_at + 64 * n ≤ length s.now) × (n ≤ 32) }
     ensures { job.new ≡ splice job.old to (flat (table count (with_terms job.old base m to cell n (run s.now s_at 64)))) }
 {
-    let mut transformed = [0u32; 6144];
+    let mut transformed = [0u32; 192 * BLOCK];
     vectors::to_ntt_form(s, s_at, n, w, &mut transformed, 0);
     add_ntt(job, base, m, cell, n, to, count, &transformed, w);
-}
-
-// How many of the weights that are left are transformed next.
-fn block(left: usize) -> usize
-    ensures { (result ≤ 32) × (result ≤ left) × (0 < left → 0 < result) }
-{
-    if left < 32 { left } else { 32 }
 }
 
 // To each of `count` elements from `to` on: m products, of the elements of constraint after constraint from `base` on with the weights from `s_at` on.
@@ -99,11 +92,10 @@ pub fn add_products(
     requires { Before job.old base m to count × Canonical job.old to count × (s_at + 64 * m ≤ length s.now) }
     ensures { job.new ≡ splice job.old to (flat (table count (with_terms job.old base m to 0 m (run s.now s_at 64)))) }
 {
-    let w = table::twiddles();
-    let mut c = 0;
-    while c < m {
-        let n = block(m - c);
+    let w = Twiddles::new();
+    for b in 0..m.div_ceil(BLOCK) {
+        let c = BLOCK * b;
+        let n = (m - c).min(BLOCK);
         add_block(job, base, m, c, n, to, count, s, s_at + 64 * c, &w);
-        c += n;
     }
 }

@@ -25,22 +25,14 @@ pub struct Target {
     pub k: usize,
 }
 
-fn wide(x: u32) -> u64
-    ensures { (result ≡ x) × (result < 4294967296) }
-{
-    x as u64
-}
-
 // The products of an element's coefficients with the words from `at` on, each reduced, added up.
 fn dot(coeffs: [u32; 64], words: &[u32], at: usize) -> u32
     requires { at + 64 ≤ length words.now }
     ensures { result ≡ dot_at coeffs words.now at }
 {
     let mut sum: u64 = 0;
-    let mut k = 0;
-    while k < 64 {
-        sum = sum + wide(coeffs[k]) * wide(words[at + k]) % MODULUS;
-        k += 1;
+    for k in 0..64 {
+        sum += u64::from(coeffs[k]) * u64::from(words[at + k]) % MODULUS;
     }
     (sum % MODULUS) as u32
 }
@@ -59,12 +51,10 @@ fn constants(
     ensures { job.new ≡ splice job.old to (table count (λ x. zadd (get_or job.old (to + x) 0) (dot_at coeffs job.old (base + 64 * (x * m + cell))))) }
 {
     let mut at = base + 64 * cell;
-    let mut x = 0;
-    while x < count {
+    for x in 0..count {
         let product = dot(coeffs, job, at);
         job[to + x] = Zq(job[to + x]).add(Zq(product)).0;
         at += 64 * m;
-        x += 1;
     }
 }
 
@@ -83,13 +73,11 @@ fn products(
 {
     let mut at = base + 64 * cell;
     let mut place = to;
-    let mut k = 0;
-    while k < count {
+    for k in 0..count {
         let sum = ring_words::load(job, place).add(ring_words::load(job, at).mul(weight));
         ring_words::store(job, place, sum);
         at += 64 * m;
         place += 64;
-        k += 1;
     }
 }
 

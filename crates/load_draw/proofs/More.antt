@@ -1,23 +1,23 @@
 -- One more word drawn, and one more section.
 use mathlib.Core.Path.{◌≡◌, refl, sym, ap, ap₂, ◌∙◌}
-use mathlib.Core.List.{List, [], ◌∷◌, ◌++◌, append_assoc, append-nil}
+use mathlib.Core.List.{List, [], ◌∷◌, ◌++◌, map, append_assoc, append-nil}
 use Prim.Native.Nat.{ℕ, zero, suc, ◌+◌, ◌≤◌, ◌<◌}
-use native.Mathlib.Nat.{zero-add}
 use native.Mathlib.Numerals.{add-one}
 use native.Mathlib.Omega.{arith}
-use lib.ListN.{length, get_or, set, length-append, length-replicate}
-use Rattle.math.specs.lists.Sum.{Σ}
-use Rattle.math.proofs.lists.Table.{length-table, table-suc}
+use lib.ListN.{length, get_or, set, take, length-append, length-replicate}
+use Rattle.math.proofs.lists.Table.{length-table, table-suc, table-get_or, map-table, take-table}
 use Rattle.math.specs.lists.Table.{table}
 use Rattle.math.specs.lists.Part.{splice}
 use Rattle.math.proofs.lists.Splice.{splice-nil, splice-append, splice-replicate-next}
 use Rattle.math.proofs.lists.Fill.{splice-table-next}
 use Rattle.spec_protocol.specs.Layout.{Section, span, sections}
 use Rattle.spec_protocol.specs.Load.{Rule, by, later, state, words_by, state_by, drawn, after}
-use Rattle.layout_sections.specs.declared.sections.Sections.{Sections}
-use Rattle.layout_sections.specs.Sections.{listed}
-use Rattle.layout_sections.proofs.Spans.{span-next}
-use Rattle.load_draw.specs.Rules.{step, value_by}
+use Rattle.layout_sections.specs.declared.sections.Section as S
+use Rattle.layout_sections.specs.Sections.{section_of, listed}
+use Rattle.layout_sections.proofs.Spans.{item, take-listed, span-append, span-room}
+use Rattle.load_draw.specs.declared.Rule as C
+use Rattle.load_draw.specs.declared.Rule.TheVariants as R
+use Rattle.load_draw.specs.Rules.{rule_of, rules_of, step, value_by}
 
 -- no words
 pub none-drawn : (l : List ℕ) (at : ℕ) (rule : Rule) (x : ℕ) → l ≡ splice l at (words_by rule x 0)
@@ -87,20 +87,20 @@ module _ (x : ℕ) (ρ : ℕ → Rule) where
   reached_suc σ m = ap₂ (after x) (table-suc m ρ) (table-suc m σ) ∙ after-one_more (table m ρ) (table m σ) (ρ m) (σ m) x (same_lengths σ m)
 
   -- the words that they take, counts included
-  length-drawn : (σ : ℕ → Section) (m : ℕ) → length (sections (drawn_to σ m)) ≡ Σ m (λ i. 1 + (σ i).count)
-  unfolding table drawn sections Σ
+  length-drawn : (σ : ℕ → Section) (m : ℕ) → length (sections (drawn_to σ m)) ≡ span (table m σ)
+  unfolding table drawn sections span
   length-drawn σ zero = refl
   length-drawn σ (suc m) =
       let last = words_by (ρ m) (reached σ m) (σ m).count in
       ap (λ l. length (sections l)) (drawn-one_more (table m ρ) (table m σ) (ρ m) (σ m) x (same_lengths σ m))
       ∙ ap length (sections-one_more (drawn_to σ m) last)
       ∙ length-append (sections (drawn_to σ m)) (length last ∷ last)
-      ∙ omega (arith, length-drawn σ m, length-words_by (ρ m) (reached σ m) (σ m).count)
+      ∙ omega (arith, length-drawn σ m, length-words_by (ρ m) (reached σ m) (σ m).count, span-append (table m σ) (σ m ∷ []))
 
   -- one more section stored after those so far
   pub stored_next : (σ : ℕ → Section) (l : List ℕ) (at m : ℕ) (before after : List ℕ) (place y : ℕ)
       → before ≡ splice l at (sections (drawn_to σ m))
-      → place ≡ at + Σ m (λ i. 1 + (σ i).count)
+      → place ≡ at + span (table m σ)
       → y ≡ reached σ m
       → after ≡ splice before place ((σ m).count ∷ words_by (ρ m) y (σ m).count)
       → after ≡ splice l at (sections (drawn_to σ (m + 1)))
@@ -113,20 +113,30 @@ module _ (x : ℕ) (ρ : ℕ → Rule) where
       ∙ ap (λ n. splice l at (sections (drawn_to σ m) ++ (n ∷ last))) (sym (length-words_by (ρ m) (reached σ m) (σ m).count))
       ∙ ap (splice l at) (sym (sections-one_more (drawn_to σ m) last) ∙ ap sections (sym (drawn-suc σ m)))
 
-  -- only the counts matter
-  pub drawn_counts : (σ τ : ℕ → Section) → ((i : ℕ) → (σ i).count ≡ (τ i).count) → (m : ℕ) → (drawn_to σ m ≡ drawn_to τ m) × (reached σ m ≡ reached τ m)
-  unfolding table
-  drawn_counts σ τ same zero = (refl, refl)
-  drawn_counts σ τ same (suc m) =
-      let ih = drawn_counts σ τ same m in (
-        drawn-one_more (table m ρ) (table m σ) (ρ m) (σ m) x (same_lengths σ m)
-            ∙ ap₂ (λ l w. l ++ (w ∷ [])) ih.0 (ap₂ (words_by (ρ m)) ih.1 (same m))
-            ∙ sym (drawn-one_more (table m ρ) (table m τ) (ρ m) (τ m) x (same_lengths τ m)),
-        after-one_more (table m ρ) (table m σ) (ρ m) (σ m) x (same_lengths σ m)
-            ∙ ap₂ (state_by (ρ m)) ih.1 (same m)
-            ∙ sym (after-one_more (table m ρ) (table m τ) (ρ m) (τ m) x (same_lengths τ m)),
-      )
+-- rule m and section m of a slice
+abbrev pub rule_at : List C.Rule → ℕ → Rule
+rule_at rules m = rule_of (get_or rules m R.Word)
 
--- one more section of a table takes no more than all of them
-pub room_next : (s : Sections) (m : ℕ) → m < s.len → Σ m (λ i. 1 + get_or s.counts i 0) + (1 + get_or s.counts m 0) ≤ span (listed s)
-room_next s m h = simp zero-add at (span-next s 0 m (omega arith))
+abbrev pub section_at : List S.Section → ℕ → Section
+section_at ss m = section_of (item ss m)
+
+-- sections and rules by their index
+pub listed-table : (ss : List S.Section) (n : ℕ) → length ss ≡ n → listed ss ≡ table n (section_at ss)
+unfolding listed
+listed-table ss n e = ap (map section_of) (sym (table-get_or n ss (record { count = 0; greatest = 0 }) e)) ∙ map-table section_of n (item ss)
+
+pub rules-table : (rules : List C.Rule) (n : ℕ) → length rules ≡ n → rules_of rules ≡ table n (rule_at rules)
+unfolding rules_of
+rules-table rules n e = ap (map rule_of) (sym (table-get_or n rules R.Word e)) ∙ map-table rule_of n (λ i. get_or rules i R.Word)
+
+-- the words of the sections before section m, and one more
+pub span-before : (ss : List S.Section) (m : ℕ) → m ≤ length ss → span (listed (take m ss)) ≡ span (table m (section_at ss))
+span-before ss m h = ap span (sym (take-listed m ss) ∙ ap (take m) (listed-table ss (length ss) refl) ∙ take-table m (length ss) (section_at ss) h)
+
+pub span-more : (ss : List S.Section) (m : ℕ) → span (table (m + 1) (section_at ss)) ≡ span (table m (section_at ss)) + (1 + (item ss m).count)
+unfolding span
+span-more ss m = ap span (table-suc m (section_at ss)) ∙ span-append (table m (section_at ss)) (section_at ss m ∷ []) ∙ omega arith
+
+-- one more section takes no more than all of them
+pub room_next : (ss : List S.Section) (m : ℕ) → m < length ss → span (table m (section_at ss)) + (1 + (item ss m).count) ≤ span (listed ss)
+room_next ss m h = omega (arith, span-before ss m (omega arith), span-room ss m h)

@@ -1,11 +1,11 @@
 -- What the rules of the code stand for.
-use Rattle.std.specs.Prelude.{List, ℕ, get_or}
-use Rattle.math.specs.lists.Table.{table}
+use Rattle.std.specs.Prelude.{List, ℕ, map}
 use Rattle.spec_protocol.specs.Load as S
 use Rattle.spec_protocol.specs.Load.{by, later, word, sign, ternary, next}
 use Rattle.load_draw.specs.declared.Rule.{Rule}
 use Rattle.load_draw.specs.declared.Rule.TheVariants as R
 
+-- a rule
 abbrev pub rule_of : Rule → S.Rule
 rule_of R.Word = by word
 rule_of R.Sign = by sign
@@ -21,6 +21,6 @@ abbrev pub value_by : S.Rule → ℕ → ℕ
 value_by (by f) x = f x
 value_by later x = 0
 
--- the first rules of a list
-abbrev pub rules_of : List Rule → ℕ → List S.Rule
-rules_of rules n = table n (λ m. rule_of (get_or rules m R.Word))
+-- the rules of a slice's sections
+unfoldable pub rules_of : List Rule → List S.Rule
+rules_of rules = map rule_of rules

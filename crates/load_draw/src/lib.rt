@@ -9,7 +9,7 @@ ghost use Rattle.spec_protocol.specs.Load as S;
 ghost use Rattle.layout_sections.specs.Sections.{listed};
 ghost use Rattle.load_draw.specs.Rules.{rule_of, step, value_by, rules_of};
 
-use layout_sections::sections::Sections;
+use layout_sections::sections::Section;
 use ring_zq::zq::Zq;
 
 // How the words of a section come about.
@@ -30,18 +30,6 @@ fn next(state: u32) -> u32
     ensures { result ≡ S.next state }
 {
     ((state as u64 * 1664525 + 1013904223) % 4294967296) as u32
-}
-
-// The state before the next word.
-fn advance(rule: Rule, state: u32) -> u32
-    ensures { result ≡ step (rule_of rule) state }
-{
-    match rule {
-        Rule::Word => next(state),
-        Rule::Sign => next(state),
-        Rule::Ternary => next(state),
-        Rule::Later => state,
-    }
 }
 
 // "a word equal to Q is written as 0 while the state keeps it"
@@ -72,15 +60,28 @@ fn ternary(state: u32) -> u32
     (((state % 3) as u64 + MINUS_ONE) % MODULUS) as u32
 }
 
-// The word that a state gives.
-fn value(rule: Rule, state: u32) -> u32
-    ensures { result ≡ value_by (rule_of rule) state }
-{
-    match rule {
-        Rule::Word => word(state),
-        Rule::Sign => sign(state),
-        Rule::Ternary => ternary(state),
-        Rule::Later => 0,
+// A kind and not a closure: the rules of a slice's sections stand in one array.
+impl Rule {
+    // The state before the next word.
+    fn advance(self, state: u32) -> u32
+        ensures { result ≡ step (rule_of self) state }
+    {
+        match self {
+            Rule::Word | Rule::Sign | Rule::Ternary => next(state),
+            Rule::Later => state,
+        }
+    }
+
+    // The word that a state gives.
+    fn word_at(self, state: u32) -> u32
+        ensures { result ≡ value_by (rule_of self) state }
+    {
+        match self {
+            Rule::Word => word(state),
+            Rule::Sign => sign(state),
+            Rule::Ternary => ternary(state),
+            Rule::Later => 0,
+        }
     }
 }
 
@@ -90,12 +91,10 @@ fn fill(out: &mut [u32], at: usize, count: usize, rule: Rule, state: u32) -> u32
     ensures { (out.new ≡ splice out.old at (words_by (rule_of rule) state count)) × (result ≡ state_by (rule_of rule) state count) }
 {
     let mut x = state;
-    let mut k = 0;
-    while k < count {
-        let reached = advance(rule, x);
-        out[at + k] = value(rule, reached);
+    for k in 0..count {
+        let reached = rule.advance(x);
+        out[at + k] = rule.word_at(reached);
         x = reached;
-        k += 1;
     }
     x
 }
@@ -109,23 +108,23 @@ fn section(out: &mut [u32], at: usize, count: usize, rule: Rule, state: u32) -> 
     fill(out, at + 1, count, rule, state)
 }
 
-// All sections, one after the other.
-pub fn sections(out: &mut [u32], at: usize, s: Sections, rules: [Rule; 10], state: u32) -> u32
-    requires { (at + L.span (listed s) ≤ length out.old) × (s.len ≤ 10) × (L.span (listed s) < 2 ^ 32) }
-    ensures { (out.new ≡ splice out.old at (L.sections (drawn state (rules_of rules s.len) (listed s)))) × (result ≡ after state (rules_of rules s.len) (listed s)) }
+// All sections, one after the other, each by its rule; the state after them.
+pub fn sections<const N: usize>(
+    out: &mut [u32],
+    at: usize,
+    sections: &[Section; N],
+    rules: &[Rule; N],
+    state: u32,
+) -> u32
+    requires { (at + L.span (listed sections.now) ≤ length out.old) × (L.span (listed sections.now) < 2 ^ 32) }
+    ensures { (out.new ≡ splice out.old at (L.sections (drawn state (rules_of rules.now) (listed sections.now)))) × (result ≡ after state (rules_of rules.now) (listed sections.now)) }
 {
-    let counts = s.counts;
-    let len = s.len;
     let mut x = state;
     let mut place = at;
-    let mut m = 0;
-    while m < len {
-        let rule = rules[m];
-        let count = counts[m];
-        let reached = section(out, place, count, rule, x);
-        x = reached;
+    for m in 0..N {
+        let count = sections[m].count;
+        x = section(out, place, count, rules[m], x);
         place += 1 + count;
-        m += 1;
     }
     x
 }

@@ -44,10 +44,6 @@ fits_refusal P job witness randomness =
     then output_refusal (witness_sections P) witness
     then output_refusal (randomness_sections P) randomness
 
--- the parameters handed on are those that were read
-abbrev pub Unchanged : EnvironmentParameters → EnvironmentParameters → Type 0
-Unchanged params q = q ≡ params
-
 -- what the work needs of the parameters
 pub record Ready (G : Given) (params : EnvironmentParameters) : Type 0 where
   pub same : parameters_of params ≡ load_parameters G

@@ -1,16 +1,14 @@
 // The parameters of a test load, what is refused of them, and the lengths that the three buffers need (document 02, Item 1).
 #![tactic(auto)]
 
-ghost use Rattle.std.specs.Prelude.{◌≡◌, ◌∷◌, ◌<◌, ◌^◌};
-ghost use Rattle.spec_protocol.specs.Load.{load_refusal, needs_refusal};
+ghost use Rattle.std.specs.Prelude.{◌≡◌, IfOk};
+ghost use Rattle.spec_leaves.specs.Answer.{of_result};
+ghost use Rattle.spec_protocol.specs.Load.{load_parameters, load_refusal, needs_refusal};
 ghost use Rattle.relation_env_params.specs.Parameters.{parameters_of};
-ghost use Rattle.layout_section_one.specs.SectionOne.{of_section_one, Reads};
 ghost use Rattle.layout_sizes.specs.Sizes.{Sized};
-ghost use Rattle.admission_slices.specs.Admission.{of_admitted, At};
-ghost use Rattle.load_needs.specs.Given.{given, one_of, Lengths, fits_refusal, Ready, Unchanged};
+ghost use Rattle.load_needs.specs.Given.{given, one_of, Lengths, fits_refusal, Ready};
 
-use admission_slices::answers::Admitted;
-use layout_section_one::SectionOne;
+use admission_buffers::output;
 use layout_sections::sections;
 use layout_sizes::slices;
 use relation_env_params::env_params::EnvironmentParameters;
@@ -46,8 +44,8 @@ pub struct Needs {
 pub fn section_one_words(g: LabradorParameters) -> [u32; 31]
     ensures { result ≡ one_of (given g) }
 {
-    let greatest = 4294967295;
-    [
+    let mut words = [u32::MAX; 31];
+    words[..13].copy_from_slice(&[
         30,
         g.n,
         g.r,
@@ -61,33 +59,16 @@ pub fn section_one_words(g: LabradorParameters) -> [u32; 31]
         g.t_1,
         g.t_2,
         g.const_agg_length,
-        greatest,
-        greatest,
-        greatest,
-        greatest,
-        greatest,
-        greatest,
-        greatest,
-        greatest,
-        greatest,
-        greatest,
-        greatest,
-        greatest,
-        greatest,
-        greatest,
-        greatest,
-        greatest,
-        greatest,
-        greatest,
-    ]
+    ]);
+    words
 }
 
 // "Parameters are refused by 4 and 5 with section one's places"
-pub fn read(g: LabradorParameters) -> SectionOne
-    ensures { (of_section_one result ≡ needs_refusal (given g)) × Reads (one_of (given g)) result }
+pub fn read(g: LabradorParameters) -> Result<EnvironmentParameters, Refusal>
+    ensures found { of_result result ≡ needs_refusal (given g) }
+    ensures read { IfOk result (λ params. parameters_of params ≡ load_parameters (given g)) }
 {
-    let words = section_one_words(g);
-    layout_section_one::read(&words)
+    layout_section_one::read(&section_one_words(g))
 }
 
 pub fn lengths(params: EnvironmentParameters) -> Needs
@@ -95,38 +76,39 @@ pub fn lengths(params: EnvironmentParameters) -> Needs
     ensures { Lengths (parameters_of params) result }
 {
     Needs {
-        job: 31 + sections::span(slices::job_sections(params), 0, 10),
-        witness: sections::span(slices::witness_sections(params), 0, 1),
-        randomness: sections::span(slices::randomness_sections(params, 7), 0, 7),
+        job: 31 + sections::span(&slices::job_sections(params)),
+        witness: sections::span(&slices::witness_sections(params)),
+        randomness: sections::span(&slices::randomness_sections(params)),
     }
 }
 
 // "then the first output too short by 2, in the order job, witness, randomness"
-fn fits(params: EnvironmentParameters, job: usize, witness: usize, randomness: usize) -> Admitted
+fn fits(
+    params: EnvironmentParameters,
+    job: usize,
+    witness: usize,
+    randomness: usize,
+) -> Result<(), Refusal>
     requires { Sized (parameters_of params) }
-    ensures result_value { of_admitted result ≡ fits_refusal (parameters_of params) job witness randomness }
-    ensures at { At result (Unchanged params) }
+    ensures { of_result result ≡ fits_refusal (parameters_of params) job witness randomness }
 {
     let needs = lengths(params);
-    if job < needs.job {
-        return Admitted::Refused(Refusal::OutputTooShort(needs.job));
-    }
-    if witness < needs.witness {
-        return Admitted::Refused(Refusal::OutputTooShort(needs.witness));
-    }
-    if randomness < needs.randomness {
-        return Admitted::Refused(Refusal::OutputTooShort(needs.randomness));
-    }
-    Admitted::Fit(params)
+    output::check_length(job, needs.job)?;
+    output::check_length(witness, needs.witness)?;
+    output::check_length(randomness, needs.randomness)
 }
 
 // All refusals of a load.
-pub fn admit(g: LabradorParameters, job: usize, witness: usize, randomness: usize) -> Admitted
-    ensures result_value { of_admitted result ≡ load_refusal (given g) job witness randomness }
-    ensures at { At result (Ready (given g)) }
+pub fn admit(
+    g: LabradorParameters,
+    job: usize,
+    witness: usize,
+    randomness: usize,
+) -> Result<EnvironmentParameters, Refusal>
+    ensures result_value { of_result result ≡ load_refusal (given g) job witness randomness }
+    ensures at { IfOk result (Ready (given g)) }
 {
-    match read(g) {
-        SectionOne::Refused(refusal) => Admitted::Refused(refusal),
-        SectionOne::Read(params) => fits(params, job, witness, randomness),
-    }
+    let params = read(g)?;
+    fits(params, job, witness, randomness)?;
+    Ok(params)
 }

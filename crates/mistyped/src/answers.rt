@@ -3,7 +3,7 @@ ghost use Rattle.std.specs.Prelude.{◌≡◌};
 ghost use Rattle.spec_leaves.specs.Answer.{refused as refusal, of_refusal};
 ghost use Rattle.mistyped.specs.Told.{mistyped_answer, counted_answer};
 
-use api_answers::numbers::number_of;
+use api_answers::numbers::Numbered;
 use spec_leaves::answers::Refusal;
 
 // A refusal's number and place, or 0 and 0 with the number of entries in the list.
@@ -26,12 +26,13 @@ pub fn refused(number: u32, place: usize) -> MistypedAnswer
     }
 }
 
-// A refusal of document 01's list.
-pub fn refusal_of(refusal: Refusal) -> MistypedAnswer
-    ensures { result ≡ mistyped_answer (of_refusal refusal) 0 }
-{
-    let found = number_of(refusal);
-    refused(found.number, found.place)
+impl From<Refusal> for MistypedAnswer {
+    ghost from_gives = { λ refusal answer. answer ≡ mistyped_answer (of_refusal refusal) 0 };
+
+    fn from(refusal: Refusal) -> MistypedAnswer {
+        let found = Numbered::from(refusal);
+        refused(found.number, found.place)
+    }
 }
 
 // How many entries there are: "33 where the list would be empty".

@@ -1,6 +1,6 @@
 // The call for every input.
 ghost use Rattle.std.specs.Prelude.{◌≡◌, ◌*◌, ◌≤◌, length};
-ghost use Rattle.spec_leaves.specs.Answer.{of_verdict, of_failed};
+ghost use Rattle.spec_leaves.specs.Answer.{of_judged, of_failed};
 ghost use Rattle.spec_protocol.specs.Parameters.{parameters};
 ghost use Rattle.spec_protocol.specs.Layout.{scratch_need};
 ghost use Rattle.spec_protocol.specs.Prover.{zeroed};
@@ -11,9 +11,8 @@ ghost use Rattle.mistyped.specs.Told.{Judged, Worked, MistypedCall};
 
 use crate::answers;
 use crate::answers::MistypedAnswer;
-use admission_slices::answers::Admitted;
 use relation_env_params::env_params::EnvironmentParameters;
-use spec_leaves::answers::{FailedCheck, Verdict};
+use spec_leaves::answers::{FailedCheck, Rejection};
 use verifier::verify;
 
 // The list where check 22 is the failed one, and 32 where it is another.
@@ -42,17 +41,19 @@ fn judge(
     randomness: &[u32],
     transcript: &[u32],
     params: EnvironmentParameters,
-    verdict: Verdict,
+    judged: Result<usize, Rejection>,
     list: &mut [u32],
 ) -> MistypedAnswer
     requires sent { Sent job.now randomness.now transcript.now params × (2 * params.constraint_l ≤ length list.old) }
-    requires verdict_value { of_verdict verdict ≡ verdict_of job.now randomness.now transcript.now }
+    requires verdict_value { of_judged judged ≡ verdict_of job.now randomness.now transcript.now }
     ensures { Judged job.now randomness.now transcript.now list.old list.new result }
 {
-    match verdict {
-        Verdict::Accepted(_) => answers::refused(32, 0),
-        Verdict::Refused(refusal) => answers::refusal_of(refusal),
-        Verdict::Failed(check) => judge_failed(job, randomness, transcript, params, check, list),
+    match judged {
+        Ok(_) => answers::refused(32, 0),
+        Err(Rejection::Refused(refusal)) => MistypedAnswer::from(refusal),
+        Err(Rejection::Failed(check)) => {
+            judge_failed(job, randomness, transcript, params, check, list)
+        }
     }
 }
 
@@ -70,8 +71,8 @@ fn work(
     ensures scratch_after { scratch.new ≡ zeroed (scratch_need (parameters job.now)) scratch.old }
 {
     ring_words::clear(list, 2 * params.constraint_l);
-    let verdict = verify::work_and_clear(job, randomness, transcript, params, scratch);
-    judge(job, randomness, transcript, params, verdict, list)
+    let judged = verify::work_and_clear(job, randomness, transcript, params, scratch);
+    judge(job, randomness, transcript, params, judged, list)
 }
 
 // "lists each index l for which adding one number to b0[l] alone would let check 22 pass".
@@ -85,8 +86,8 @@ pub fn mistyped(
     ensures { MistypedCall job.now randomness.now transcript.now scratch.old list.old scratch.new list.new result }
 {
     match admission_order::verifier::admit(job, randomness, transcript, scratch.len()) {
-        Admitted::Refused(refusal) => answers::refusal_of(refusal),
-        Admitted::Fit(params) => {
+        Err(refusal) => MistypedAnswer::from(refusal),
+        Ok(params) => {
             let need = 2 * params.constraint_l;
             if list.len() < need {
                 return answers::refused(2, need);

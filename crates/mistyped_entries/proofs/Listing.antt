@@ -21,8 +21,7 @@ use Rattle.spec_protocol.proofs.Mistyped.{passes_supplies, supplies_passes}
 use Rattle.spec_protocol.proofs.MistypedList.{before_other}
 use Rattle.relation_env_params.specs.declared.env_params.EnvironmentParameters.{EnvironmentParameters}
 use Rattle.relation_env_params.specs.Parameters.{parameters_of}
-use Rattle.mistyped_solve.specs.declared.congruence.Solution.{Solution}
-use Rattle.mistyped_solve.specs.declared.congruence.Solution.TheVariants as S
+use Rattle.std.specs.Prelude.{Option, Some, None}
 use Rattle.mistyped_solve.specs.Congruence.{Found}
 use Rattle.mistyped_solve.specs.Rows.{Supplies}
 use Rattle.mistyped_solve.specs.Insert.{entry, insert}
@@ -137,9 +136,9 @@ module _ {J R T : List ℕ} {params : EnvironmentParameters} (w : Sent J R T par
         ap (λ v. (v * x) % Q) (weight k) ∙ f k (subst (λ n. k < n) (rows_are w) g) ∙ sym (lack k g few)
 
     -- the entries after one more index
-    pub entered_next : (list₀ : List ℕ) (count : ℕ) (list : List ℕ) (s : Solution) → 2 * count + 2 ≤ length list₀ → Found RowsGive s → Entered J R T i list₀ count list
+    pub entered_next : (list₀ : List ℕ) (count : ℕ) (list : List ℕ) (s : Option ℕ) → 2 * count + 2 ≤ length list₀ → Found RowsGive s → Entered J R T i list₀ count list
         → Entered J R T (i + 1) list₀ (entered_count s count) (entered_list s i count list)
-    entered_next list₀ count list (S.Number x) room (c, (g, f)) e =
+    entered_next list₀ count list (Some x) room (c, (g, f)) e =
         let small : Smallest X M i x = record {
           mends = (c, supplies_passes X M i inside x (give_supplies x g));
           none_smaller = λ y m. f y m.0 (supplies_give y (passes_supplies X M i inside y m.1));
@@ -153,9 +152,9 @@ module _ {J R T : List ℕ} {params : EnvironmentParameters} (w : Sent J R T par
         }
       where
         again : (list : List ℕ) → list ≡ splice list₀ 0 (entry_words e.found)
-            → entered_list (S.Number x) i count list ≡ entered_list (S.Number x) i count (splice list₀ 0 (entry_words e.found))
-        again list f = ap (λ l. entered_list (S.Number x) i count l) f
-    entered_next list₀ count list S.None room f e = record {
+            → entered_list (Some x) i count list ≡ entered_list (Some x) i count (splice list₀ 0 (entry_words e.found))
+        again list f = ap (λ l. entered_list (Some x) i count l) f
+    entered_next list₀ count list None room f e = record {
       found = e.found;
       listed = listed_skip X M i e.found e.listed (λ y m. f y (supplies_give y (passes_supplies X M i inside y m.1)));
       size = e.size;

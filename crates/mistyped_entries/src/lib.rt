@@ -7,7 +7,6 @@ ghost use Rattle.mistyped_entries.specs.Lacking.{lacking, all_lacking};
 ghost use Rattle.mistyped_entries.specs.Entered.{entered_count, entered_list, Entered};
 
 use layout_sizes::{names, offsets};
-use mistyped_solve::congruence::Solution;
 use mistyped_solve::{list, rows};
 use relation_env_params::env_params::EnvironmentParameters;
 use ring_zq::zq::Zq;
@@ -55,26 +54,24 @@ fn rows_lacking(
     ensures { result ≡ all_lacking job.now randomness.now transcript.now params.const_agg_length }
 {
     let mut rows = [0u32; 32];
-    let mut k = 0;
-    while k < params.const_agg_length {
+    for k in 0..params.const_agg_length {
         rows[k] = row_lacking(job, randomness, transcript, params, k);
-        k += 1;
     }
     rows
 }
 
 // What is found of an index put into the list; how many entries there are then.
-fn enter(list: &mut [u32], count: usize, index: u32, found: Solution) -> usize
+fn enter(list: &mut [u32], count: usize, index: u32, found: Option<u32>) -> usize
     requires { 2 * count + 2 ≤ length list.old }
     ensures value { result ≡ entered_count found count }
     ensures list_after { list.new ≡ entered_list found index count list.old }
 {
     match found {
-        Solution::Number(number) => {
+        Some(number) => {
             list::insert(list, count, index, number);
             count + 1
         }
-        Solution::None => count,
+        None => count,
     }
 }
 
@@ -93,11 +90,9 @@ pub fn enter_all(
     let psi = offsets::of_randomness(params, names::PSI);
     let l = params.constraint_l;
     let mut count = 0;
-    let mut i = 0;
-    while i < l {
+    for i in 0..l {
         let found = rows::smallest_for(randomness, psi + i, l, rows, params.const_agg_length);
         count = enter(list, count, i as u32, found);
-        i += 1;
     }
     count
 }

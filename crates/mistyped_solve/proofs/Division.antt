@@ -1,5 +1,5 @@
 -- Euclid's algorithm on two congruences: a division keeps their common solutions.
-use mathlib.Core.Path.{◌≡◌, sym, ap, ◌∙◌}
+use mathlib.Core.Path.{◌≡◌, sym, ap, subst, ◌∙◌}
 use mathlib.Core.Logic.{◌↔◌}
 use Prim.Native.Nat.{ℕ, ◌+◌, ◌*◌, ◌/◌, ◌%◌, ◌∣◌}
 use native.Mathlib.Nat.{div-add-mod', dvd-mod_iff, dvd_refl, dvd-zero, dvd_trans, zero-mul, mod-lt}
@@ -24,45 +24,45 @@ divided u v s t h x e =
     out q v r x = omega arith
 
 -- two congruences have the solutions of two others, whose common divisors divide Q
-pub record Carried (a b : Congruence) (upper us lower ls : ℕ) : Type 0 where
-  pub upper-canonical : Canonical us
-  pub lower_canonical : Canonical ls
-  pub common : (t : ℕ) → t ∣ upper → t ∣ lower → t ∣ Q
-  pub both : (x : ℕ) → (Solves a x × Solves b x) ↔ (((upper * x) % Q ≡ us) × ((lower * x) % Q ≡ ls))
+pub record Carried (a b upper lower : Congruence) : Type 0 where
+  pub upper_canonical : Canonical upper.value
+  pub lower_canonical : Canonical lower.value
+  pub common : (t : ℕ) → t ∣ upper.factor → t ∣ lower.factor → t ∣ Q
+  pub both : (x : ℕ) → (Solves a x × Solves b x) ↔ (Solves upper x × Solves lower x)
 
 module _ (a b : Congruence) where
   -- the two themselves
-  pub carried-start : Reduced a → Canonical b.value → Carried a b b.factor b.value a.factor a.value
+  pub carried-start : Reduced a → Canonical b.value → Carried a b b a
   carried-start r h = record {
-    upper-canonical = h;
+    upper_canonical = h;
     lower_canonical = r.canonical;
     common = λ t p q. dvd_trans t q r.divides;
     both = λ x. (λ s. (s.1, s.0), λ s. (s.1, s.0));
   }
 
-  module _ {upper us lower ls : ℕ} (c : Carried a b upper us lower ls) where
+  module _ {upper lower : Congruence} (c : Carried a b upper lower) where
     -- after a division
-    pub carried-next : Carried a b lower ls (upper % lower) (zsub us (zmul (upper / lower) ls))
-    carried-next = record {
-      upper-canonical = c.lower_canonical;
+    pub carried-next : (v : ℕ) → v ≡ zsub upper.value (zmul (upper.factor / lower.factor) lower.value) → Carried a b lower (record { factor = upper.factor % lower.factor; value = v })
+    carried-next v e = subst (λ (v : ℕ). Carried a b lower (record { factor = upper.factor % lower.factor; value = v })) (sym e) (record {
+      upper_canonical = c.lower_canonical;
       lower_canonical = mod-lt _ (omega arith);
       common = λ t p q. c.common t ((dvd-mod_iff t p).0 q) p;
       both = λ x. (
-        λ s. let k = (c.both x).0 s in (k.1, (divided upper lower us ls c.upper-canonical x k.1).0 k.0),
-        λ k. (c.both x).1 ((divided upper lower us ls c.upper-canonical x k.0).1 k.1, k.0),
+        λ s. let k = (c.both x).0 s in (k.1, (divided upper.factor lower.factor upper.value lower.value c.upper_canonical x k.1).0 k.0),
+        λ k. (c.both x).1 ((divided upper.factor lower.factor upper.value lower.value c.upper_canonical x k.0).1 k.1, k.0),
       );
-    }
+    })
 
     -- nothing is left of the second factor, and 0 would have to be something else
-    pub carried_none : lower ≡ 0 → (ls ≡ 0 → ⊥) → (x : ℕ) → Solves a x → Solves b x → ⊥
+    pub carried_none : lower.factor ≡ 0 → (lower.value ≡ 0 → ⊥) → (x : ℕ) → Solves a x → Solves b x → ⊥
     carried_none e d x p q = d (sym ((c.both x).0 (p, q)).1 ∙ ap (λ k. (k * x) % Q) e ∙ ap (λ k. k % Q) (zero-mul x))
 
     -- the first congruence alone is left
-    pub carried-one : lower ≡ 0 → ls ≡ 0 → (r : Congruence) → r.factor ≡ upper → r.value ≡ us → Reduced r × ((x : ℕ) → (Solves a x × Solves b x) ↔ Solves r x)
-    carried-one e f r g v = (
-      record { divides = rw g (c.common upper (dvd_refl upper) (rw e (dvd-zero upper))); canonical = rw v c.upper-canonical },
+    pub carried-one : lower.factor ≡ 0 → lower.value ≡ 0 → Reduced upper × ((x : ℕ) → (Solves a x × Solves b x) ↔ Solves upper x)
+    carried-one e f = (
+      record { divides = c.common upper.factor (dvd_refl upper.factor) (rw e (dvd-zero upper.factor)); canonical = c.upper_canonical },
       λ x. (
-        λ s. ap (λ k. (k * x) % Q) g ∙ ((c.both x).0 s).0 ∙ sym v,
-        λ s. (c.both x).1 (ap (λ k. (k * x) % Q) (sym g) ∙ s ∙ v, ap (λ k. (k * x) % Q) e ∙ ap (λ k. k % Q) (zero-mul x) ∙ sym f),
+        λ s. ((c.both x).0 s).0,
+        λ s. (c.both x).1 (s, ap (λ k. (k * x) % Q) e ∙ ap (λ k. k % Q) (zero-mul x) ∙ sym f),
       ),
     )

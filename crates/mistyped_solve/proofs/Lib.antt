@@ -3,3 +3,4 @@ pub mod Class
 pub mod Taken
 pub mod Inserted
 pub mod Words
+pub mod Order

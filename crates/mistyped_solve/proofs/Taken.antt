@@ -9,17 +9,14 @@ use borrow.Author.Count.{below_more}
 use lib.ListN.{get_or}
 use Rattle.spec_leaves.specs.Zq.{Q}
 use Rattle.mistyped_solve.specs.declared.congruence.Congruence.{Congruence}
-use Rattle.mistyped_solve.specs.declared.congruence.Combined.{Combined}
-use Rattle.mistyped_solve.specs.declared.congruence.Combined.TheVariants as J
-use Rattle.mistyped_solve.specs.declared.congruence.Solution.{Solution}
-use Rattle.mistyped_solve.specs.declared.congruence.Solution.TheVariants as S
+use Rattle.std.specs.Prelude.{Option, Some, None}
 use Rattle.mistyped_solve.specs.Congruence.{Solves, Reduced, Combines, Found}
 use Rattle.mistyped_solve.specs.Rows.{Supplies}
 
 -- what is found of one fact is found of another that holds of the same numbers
-pub found-same : (p q : ℕ → Type 0) → ((x : ℕ) → p x ↔ q x) → (s : Solution) → Found p s → Found q s
-found-same p q e (S.Number x) (c, (h, f)) = (c, ((e x).0 h, λ y k g. f y k ((e y).1 g)))
-found-same p q e S.None f = λ y g. f y ((e y).1 g)
+pub found-same : (p q : ℕ → Type 0) → ((x : ℕ) → p x ↔ q x) → (s : Option ℕ) → Found p s → Found q s
+found-same p q e (Some x) (c, (h, f)) = (c, ((e x).0 h, λ y k g. f y k ((e y).1 g)))
+found-same p q e None f = λ y g. f y ((e y).1 g)
 
 module _ (R : List ℕ) (at width : ℕ) (lacking : List ℕ) where
   -- the congruence of row k
@@ -40,9 +37,9 @@ module _ (R : List ℕ) (at width : ℕ) (lacking : List ℕ) where
 
   module _ {k : ℕ} {c : Congruence} (t : Taken k c) where
     -- one more row
-    pub taken_next : (j : Combined) (both : Congruence) → j ≡ J.One both → Combines c (row k) j → Taken (k + 1) both
+    pub taken_next : (j : Option Congruence) (both : Congruence) → j ≡ Some both → Combines c (row k) j → Taken (k + 1) both
     taken_next j both e g =
-        let m : Combines c (row k) (J.One both) = subst (λ j. Combines c (row k) j) e g in
+        let m : Combines c (row k) (Some both) = subst (λ j. Combines c (row k) j) e g in
         record {
           reduced = m.0;
           same = λ x. (
@@ -52,11 +49,11 @@ module _ (R : List ℕ) (at width : ℕ) (lacking : List ℕ) where
         }
 
     -- one more row that no solution meets
-    pub taken_stop : (j : Combined) → j ≡ J.None → Combines c (row k) j → (n : ℕ) → k < n → (y : ℕ) → Supplies R at width lacking n y → ⊥
+    pub taken_stop : (j : Option Congruence) → j ≡ None → Combines c (row k) j → (n : ℕ) → k < n → (y : ℕ) → Supplies R at width lacking n y → ⊥
     taken_stop j e g n h y f =
-        let m : Combines c (row k) J.None = subst (λ j. Combines c (row k) j) e g in
+        let m : Combines c (row k) None = subst (λ j. Combines c (row k) j) e g in
         m y ((t.same y).0 (λ i l. f i (omega arith))) (f k h)
 
     -- all rows
-    pub taken-all : (n : ℕ) → k ≡ n → (s : Solution) → Found (Solves c) s → Found (Supplies R at width lacking n) s
+    pub taken-all : (n : ℕ) → k ≡ n → (s : Option ℕ) → Found (Solves c) s → Found (Supplies R at width lacking n) s
     taken-all n e s f = subst (λ n. Found (Supplies R at width lacking n) s) e (found-same (Solves c) (Supplies R at width lacking k) (λ x. ((t.same x).1, (t.same x).0)) s f)

@@ -2,6 +2,7 @@
 use Rattle.std.specs.Prelude.{cond, List, [], ◌∷◌, ℕ, ◌+◌, ◌*◌, get_or}
 use Rattle.math.specs.lists.Table.{table}
 use Rattle.spec_protocol.specs.Mistyped.{Entry, comes_before}
+use Rattle.mistyped_solve.specs.declared.list.Entry as list
 
 -- the one of two entries that comes first
 abbrev pub first_of : Entry → Entry → Entry
@@ -19,6 +20,10 @@ insert e (f ∷ fs) = first_of e f ∷ insert (later_of e f) fs
 -- an entry of an index and a number
 abbrev pub entry : (index number : ℕ) → Entry
 entry index number = record { index = index; number = number }
+
+-- the code's struct as an entry
+abbrev pub entry_of : list.Entry → Entry
+entry_of e = entry e.index e.number
 
 -- entry j of a list's words
 abbrev pub entry_at : List ℕ → ℕ → Entry

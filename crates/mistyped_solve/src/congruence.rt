@@ -11,62 +11,45 @@ pub struct Congruence {
     pub value: u32,
 }
 
-// Two congruences as one, or that no number solves both.
-#[derive(Clone, Copy)]
-pub enum Combined {
-    One(Congruence),
-    None,
-}
-
-// The solution of smallest centred size, or that there is none.
-#[derive(Clone, Copy)]
-pub enum Solution {
-    Number(u32),
-    None,
-}
-
 // Two congruences as one, the first with a factor that divides Q: Euclid's algorithm on the factors, with the values carried along.
-pub fn combine(first: Congruence, second: Congruence) -> Combined
+// None where no number solves both.
+pub fn combine(first: Congruence, second: Congruence) -> Option<Congruence>
     requires { Reduced first × Canonical second.value }
     ensures { Combines first second result }
 {
-    let mut upper = second.factor;
-    let mut upper_value = second.value;
-    let mut lower = first.factor;
-    let mut lower_value = first.value;
-    while lower != 0 {
-        let rest = upper % lower;
-        let rest_value = Zq(upper_value).sub(Zq(upper / lower).mul(Zq(lower_value)));
+    let mut upper = second;
+    let mut lower = first;
+    while lower.factor != 0 {
+        let times = Zq(upper.factor / lower.factor);
+        let rest = Congruence {
+            factor: upper.factor % lower.factor,
+            value: Zq(upper.value).sub(times.mul(Zq(lower.value))).0,
+        };
         upper = lower;
-        upper_value = lower_value;
         lower = rest;
-        lower_value = rest_value.0;
     }
-    if lower_value != 0 {
-        return Combined::None;
+    if lower.value != 0 {
+        return None;
     }
-    Combined::One(Congruence {
-        factor: upper,
-        value: upper_value,
-    })
+    Some(upper)
 }
 
-// The solution of smallest centred size: the least one, or the greatest one below Q.
+// The solution of smallest centred size, if there is one: the least one, or the greatest one below Q.
 #[tactic(auto, using(crate::proofs::Class::smallest_steps))]
-pub fn smallest(c: Congruence) -> Solution
+pub fn smallest(c: Congruence) -> Option<u32>
     requires { Reduced c }
     ensures { Found (Solves c) result }
 {
     let factor = c.factor;
     let value = c.value;
     if value % factor != 0 {
-        return Solution::None;
+        return None;
     }
     let least = value / factor;
     let step = Zq::Q / factor;
     if least <= step - least {
-        Solution::Number(least)
+        Some(least)
     } else {
-        Solution::Number(Zq::Q - (step - least))
+        Some(Zq::Q - (step - least))
     }
 }

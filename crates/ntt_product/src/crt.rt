@@ -3,8 +3,7 @@ ghost use Rattle.std.specs.Prelude.{◌≡◌, ◌<◌};
 ghost use Rattle.spec_leaves.specs.Zq.{Q};
 ghost use Rattle.ntt_product.specs.Crt.{crt_of, crt_all_of, Remainders};
 
-use ntt_layers::fold;
-use ring_zq::wide::wide;
+use ntt_transform::moduli::{SECOND, THIRD};
 use ring_zq::zq::Zq;
 
 // Q as a u64.
@@ -18,10 +17,9 @@ pub fn crt(first: u64, second: u64, third: u64) -> u64
     requires { (first < 134217089) × (second < 134215681) × (third < 134215553) }
     ensures { (result ≡ crt_of first second third) × (result < Q) }
 {
-    let middle = fold::remainder((second + 268431362 - first) * 36508953, 2047);
-    let top = fold::remainder(
+    let middle = SECOND.remainder((second + 268431362 - first) * 36508953);
+    let top = THIRD.remainder(
         (third + 268431106 - first) * 32067747 + (268431106 - middle) * 133166994,
-        2175,
     );
     (first + 134217089 * middle + PAIR * top) % MODULUS
 }
@@ -33,7 +31,11 @@ pub fn crt_all(first: [u32; 64], second: [u32; 64], third: [u32; 64]) -> [u32; 6
 {
     let mut out = [0u32; 64];
     for k in 0..64 {
-        out[k] = crt(wide(first[k]), wide(second[k]), wide(third[k])) as u32;
+        out[k] = crt(
+            u64::from(first[k]),
+            u64::from(second[k]),
+            u64::from(third[k]),
+        ) as u32;
     }
     out
 }

@@ -1,13 +1,13 @@
 // Elements in NTT form: an inner product of up to 512 elements is a sum of products of their values, with one inverse NTT.
 ghost use Rattle.std.specs.Prelude.{◌≡◌, replicate};
-ghost use Rattle.ntt_transform.specs.Roots.{twiddle_table};
 ghost use Rattle.ntt_product.specs.NttForm.{ProductsFit, Transform, values_added, inverse_ntt_of};
 
 use crate::crt;
 use crate::crt::MODULUS;
 use ntt_layers::words;
+use ntt_transform::moduli::{FIRST, SECOND, THIRD};
+use ntt_transform::table::Twiddles;
 use ntt_transform::transforms;
-use ring_zq::wide::wide;
 
 // The values of an element modulo the three primes.
 #[derive(Clone, Copy)]
@@ -36,13 +36,12 @@ pub fn no_sums() -> Sums
     }
 }
 
-pub fn transform(a: [u32; 64], w: &[u32]) -> Transformed
-    requires { w.now ≡ twiddle_table }
+pub fn transform(a: [u32; 64], w: &Twiddles) -> Transformed
     ensures { Transform a result.first result.second result.third }
 {
-    let first = transforms::forward(a, w, 0, 639, 3898195327);
-    let second = transforms::forward(a, w, 192, 2047, 130021375);
-    let third = transforms::forward(a, w, 384, 2175, 2442639231);
+    let first = transforms::forward(a, &w.words, 0, FIRST);
+    let second = transforms::forward(a, &w.words, 192, SECOND);
+    let third = transforms::forward(a, &w.words, 384, THIRD);
     Transformed {
         first,
         second,
@@ -57,7 +56,7 @@ pub fn add_values(s: [u64; 64], x: [u32; 64], y: [u32; 64]) -> [u64; 64]
 {
     let mut out = [0u64; 64];
     for k in 0..64 {
-        out[k] = s[k] + wide(x[k]) * wide(y[k]);
+        out[k] = s[k] + u64::from(x[k]) * u64::from(y[k]);
     }
     out
 }
@@ -102,30 +101,29 @@ const THIRD_OFFSET: u64 = (MODULUS % 134215553) * (MODULUS % 134215553) % 134215
 
 // From sums of products of values to the coefficients of the inner product. The factors are the inverses of 64, and the offsets the remainders of
 // 512·64·Q², which makes every sum of 512 products positive.
-pub fn inverse(sums: Sums, w: &[u32]) -> [u32; 64]
-    requires { w.now ≡ twiddle_table }
+pub fn inverse(sums: Sums, w: &Twiddles) -> [u32; 64]
     ensures { result ≡ inverse_ntt_of sums.first sums.second sums.third }
 {
     let s = sums.first;
     let t = sums.second;
     let u = sums.third;
     let first = words::remainders(
-        transforms::inverse(s, w, 576, 639, 3898195327),
+        transforms::inverse(s, &w.words, 576, FIRST),
         132119947,
         FIRST_OFFSET,
-        639,
+        FIRST,
     );
     let second = words::remainders(
-        transforms::inverse(t, w, 768, 2047, 130021375),
+        transforms::inverse(t, &w.words, 768, SECOND),
         132118561,
         SECOND_OFFSET,
-        2047,
+        SECOND,
     );
     let third = words::remainders(
-        transforms::inverse(u, w, 960, 2175, 2442639231),
+        transforms::inverse(u, &w.words, 960, THIRD),
         132118435,
         THIRD_OFFSET,
-        2175,
+        THIRD,
     );
     crt::crt_all(first, second, third)
 }

@@ -3,13 +3,13 @@ ghost use Rattle.std.specs.Prelude.{◌≡◌};
 ghost use Rattle.spec_leaves.specs.Rq.{rmul};
 
 use crate::ntt_form;
-use ntt_transform::table;
+use ntt_transform::table::Twiddles;
 use ring_rq::rq::Rq;
 
 pub fn multiply(a: [u32; 64], b: [u32; 64]) -> [u32; 64]
     ensures { result ≡ rmul a b }
 {
-    let w = table::twiddles();
+    let w = Twiddles::new();
     let x = ntt_form::transform(a, &w);
     let y = ntt_form::transform(b, &w);
     let sums = ntt_form::add_product(ntt_form::no_sums(), x, y);

@@ -17,14 +17,14 @@ use Rattle.ntt_layers.specs.Words.{folded_of, reduced_sum, reduced_of}
 use Rattle.ntt_layers.proofs.Residues.{Below, res, ModOps, mod_ring, res_add}
 use Rattle.ntt_layers.proofs.Folds.{fold_word, res_fold, res_sum, sum_bound}
 use Rattle.ntt_layers.proofs.Layer.{Turns, layer-bound, res_layer, inverse-layer-bound, res_inverse_layer}
-use Rattle.ntt_transform.specs.Transforms.{Twiddles, layers_of, forward_of, inverse_layers_of, inverse_transform_of}
+use Rattle.ntt_transform.specs.Transforms.{TwiddlesFit, layers_of, forward_of, inverse_layers_of, inverse_transform_of}
 
 -- a layer sees the first 64 entries alone
 layer_ext : (O : Ops) (g : O.Carrier) (j : ℕ) (f f' : ℕ → O.Carrier) → ((i : ℕ) → i < 64 → f i ≡ f' i) → (k : ℕ) → k < 64 → layer O g j f k ≡ layer O g j f' k
 unfolding layer
 layer_ext O g j f f' h k l = ap₂ (λ x y. O.add x (O.mul (pow O g (exponent (suc j) k)) y)) (h (k / 2) (omega arith)) (h (k / 2 + 32) (omega arith))
 
-module _ (d neginv : ℕ) (w : List ℕ) (at : ℕ) (tw : Twiddles d neginv w at) where
+module _ (d neginv : ℕ) (w : List ℕ) (at : ℕ) (tw : TwiddlesFit d neginv w at) where
   -- each layer finds its powers
   pub powers-fit : (j : ℕ) → j < 6 → Powers d neginv w (at + 32 * j)
   powers-fit j h = record {

@@ -16,7 +16,7 @@ use Rattle.ntt_layers.proofs.Residues.{Below, res, ModOps, res_mod, res_less, re
 use Rattle.ntt_layers.proofs.Folds.{prime_pos, inverse32_is}
 use Rattle.ntt_layers.proofs.Layer.{Turns}
 use Rattle.ntt_transform.specs.Roots.{delta, root, opposite, next, entry, scaled, layer_index, index_of, twiddle, twiddle_table}
-use Rattle.ntt_transform.specs.Transforms.{Twiddles}
+use Rattle.ntt_transform.specs.Transforms.{TwiddlesFit}
 use Rattle.ntt_transform.proofs.Rule.{half_way}
 
 -- each prime is 2^27 less at most 2175
@@ -165,7 +165,7 @@ entry-small (suc k) = by (ℕ_discrete (suc k % 128) 0)
         (omega (arith, Nat.mod-lt (entry k * root (suc k / 128)) (positive (suc k / 128))))
 
 -- each prime finds its twiddles in the table
-fit_at : (i at : ℕ) → i < 3 → at + 192 ≤ 1152 → Twiddles (delta i) (opposite i) twiddle_table at
+fit_at : (i at : ℕ) → i < 3 → at + 192 ≤ 1152 → TwiddlesFit (delta i) (opposite i) twiddle_table at
 unfolding twiddle_table twiddle
 fit_at i at h l = record {
   small = delta-small i;
@@ -174,8 +174,8 @@ fit_at i at h l = record {
   below = λ m k. rw (get_or-table 1152 twiddle (at + m) 0 (omega arith)) (scaled_small (index_of (at + m)));
 }
 
-pub twiddles_fit : (i : ℕ) → i < 3 → Twiddles (delta i) (opposite i) twiddle_table (192 * i)
+pub twiddles_fit : (i : ℕ) → i < 3 → TwiddlesFit (delta i) (opposite i) twiddle_table (192 * i)
 twiddles_fit i h = fit_at i (192 * i) h (omega arith)
 
-pub inverses_fit : (i : ℕ) → i < 3 → Twiddles (delta i) (opposite i) twiddle_table (576 + 192 * i)
+pub inverses_fit : (i : ℕ) → i < 3 → TwiddlesFit (delta i) (opposite i) twiddle_table (576 + 192 * i)
 inverses_fit i h = fit_at i (576 + 192 * i) h (omega arith)

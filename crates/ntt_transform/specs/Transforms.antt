@@ -23,7 +23,7 @@ unfoldable pub inverse_transform_of : ℕ → ℕ → List ℕ → ℕ → List 
 inverse_transform_of d neginv w at s = inverse_layers_of d neginv w at (reduced_of d s) 6
 
 -- 192 powers from `at` on, each below 2^27
-pub record Twiddles (d neginv : ℕ) (w : List ℕ) (at : ℕ) : Type 0 where
+pub record TwiddlesFit (d neginv : ℕ) (w : List ℕ) (at : ℕ) : Type 0 where
   pub small : d ≤ 2175
   pub opposite : Opposite d neginv
   pub within : at + 192 ≤ length w

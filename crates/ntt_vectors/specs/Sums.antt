@@ -6,13 +6,21 @@ use Rattle.math.specs.lists.Sum.{Σ}
 use Rattle.ntt_product.specs.NttForm.{inverse_ntt_of}
 use Rattle.ntt_vectors.specs.NttForm.{ntt_form}
 
+-- sum k from a place on with its product added
+abbrev pub product_added : List ℕ → ℕ → List ℕ → ℕ → List ℕ → ℕ → ℕ → ℕ
+product_added sums at x x-at y y-at k = get_or sums (at + k) 0 + get_or x (x-at + k) 0 * get_or y (y-at + k) 0
+
+-- there is room for the products of n values
+abbrev pub ProductsRoom : ℕ → List ℕ → ℕ → List ℕ → ℕ → List ℕ → ℕ → Type 0
+ProductsRoom n sums at x x-at y y-at = (k : ℕ) → k < n → product_added sums at x x-at y y-at k < 2 ^ 64
+
 -- there is room for the products of 192 values
 abbrev pub NttRoom : List ℕ → ℕ → List ℕ → ℕ → List ℕ → ℕ → Type 0
-NttRoom sums at x x-at y y-at = (k : ℕ) → k < 192 → get_or sums (at + k) 0 + get_or x (x-at + k) 0 * get_or y (y-at + k) 0 < 2 ^ 64
+NttRoom = ProductsRoom 192
 
 -- those products added
 unfoldable pub added : List ℕ → ℕ → List ℕ → ℕ → List ℕ → ℕ → List ℕ
-added sums at x x-at y y-at = table 192 (λ k. get_or sums (at + k) 0 + get_or x (x-at + k) 0 * get_or y (y-at + k) 0)
+added sums at x x-at y y-at = table 192 (product_added sums at x x-at y y-at)
 
 -- the words of the element whose values the sums are
 unfoldable pub inverse_from : List ℕ → ℕ → List ℕ

@@ -5,9 +5,7 @@ use Prim.Native.Nat.{ℕ, ◌≤◌}
 use lib.ListN.{length, take, drop, replicate}
 use Rattle.math.specs.lists.Part.{splice}
 use Rattle.spec_leaves.specs.declared.answers.Refusal.{Refusal}
-use Rattle.spec_leaves.specs.declared.answers.Proved.{Proved}
-use Rattle.spec_leaves.specs.declared.answers.Proved.TheVariants as E
-use Rattle.spec_leaves.specs.Answer.{result_of, of_proved}
+use Rattle.spec_leaves.specs.Answer.{fine, result_of, of_refusal}
 use Rattle.spec_protocol.specs.Parameters.{parameters}
 use Rattle.spec_protocol.specs.Layout.{span, transcript_sections, scratch_need}
 use Rattle.spec_protocol.specs.Prover.{made_sections, zeroed}
@@ -47,22 +45,14 @@ module _ (call : Call) (J R W : List ℕ) (params : EnvironmentParameters) (S O 
     scratch_cleared S₂ f = f ∙ ap (λ k. splice S₁ 0 (replicate k 0)) scratch-size ∙ unchanged_clear (scratch_need (parameters J)) S S₁ unchanged h.handed.scratch_fits
 
   -- the output that it leaves where something was made
-  module _ (k : Proved) (told : k ≡ E.Made) (e : of_proved k ≡ work J R W (call_of call)) where
-    pub answer-made : of_proved E.Made ≡ work J R W (call_of call)
-    answer-made = sym (ap of_proved told) ∙ e
-
-    pub output_left : (O₁ : List ℕ) → O₁ ≡ splice O 0 (makes J R W (call_of call)) → O₁ ≡ worked (call_of call) J R W O
-    output_left O₁ stored =
-        stored
-        ∙ output-made J R W (call_of call) O h.output_fits
-        ∙ ap (λ a. result_of a (makes J R W (call_of call) ++ drop (span (made_sections (call_of call) (parameters J))) O) (zeroed (span (made_sections (call_of call) (parameters J))) O)) answer-made
+  pub output_left : fine ≡ work J R W (call_of call) → (O₁ : List ℕ) → O₁ ≡ splice O 0 (makes J R W (call_of call)) → O₁ ≡ worked (call_of call) J R W O
+  output_left e O₁ stored =
+      stored
+      ∙ output-made J R W (call_of call) O h.output_fits
+      ∙ ap (λ a. result_of a (makes J R W (call_of call) ++ drop (span (made_sections (call_of call) (parameters J))) O) (zeroed (span (made_sections (call_of call) (parameters J))) O)) e
 
   -- and where it is refused
-  module _ (k : Proved) (r : Refusal) (told : k ≡ E.Refused r) (e : of_proved k ≡ work J R W (call_of call))
-      (n from count : ℕ) (size : n ≡ span (take count (drop from (transcript_sections (parameters_of params))))) (f : from ≡ (call_of call).from) (g : count ≡ (call_of call).makes) where
-    pub answer-refused : of_proved (E.Refused r) ≡ work J R W (call_of call)
-    answer-refused = sym (ap of_proved told) ∙ e
-
+  module _ (n from count : ℕ) (size : n ≡ span (take count (drop from (transcript_sections (parameters_of params))))) (f : from ≡ (call_of call).from) (g : count ≡ (call_of call).makes) where
     output-size : n ≡ span (made_sections (call_of call) (parameters J))
     output-size =
         size
@@ -73,9 +63,9 @@ module _ (call : Call) (J R W : List ℕ) (params : EnvironmentParameters) (S O 
     output-room = subst (λ k. k ≤ length O) (sym output-size) h.output_fits
 
     -- set to zero
-    pub output_cleared : (O₂ : List ℕ) → O₂ ≡ splice O 0 (replicate n 0) → O₂ ≡ worked (call_of call) J R W O
-    output_cleared O₂ c =
+    pub output_cleared : (r : Refusal) → of_refusal r ≡ work J R W (call_of call) → (O₂ : List ℕ) → O₂ ≡ splice O 0 (replicate n 0) → O₂ ≡ worked (call_of call) J R W O
+    output_cleared r e O₂ c =
         c
         ∙ ap (λ k. splice O 0 (replicate k 0)) output-size
         ∙ output-zeroed (span (made_sections (call_of call) (parameters J))) O h.output_fits
-        ∙ refused_is r (makes J R W (call_of call) ++ drop (span (made_sections (call_of call) (parameters J))) O) (zeroed (span (made_sections (call_of call) (parameters J))) O) answer-refused
+        ∙ refused_is r (makes J R W (call_of call) ++ drop (span (made_sections (call_of call) (parameters J))) O) (zeroed (span (made_sections (call_of call) (parameters J))) O) e

@@ -1,35 +1,23 @@
--- The answers of the prover's work: a refusal is passed on, and what is made goes on.
+-- The answers of the prover's work.
+use Rattle.std.specs.Prelude.{Result, OnOk}
 use mathlib.Core.Path.{◌≡◌, refl, sym, ap, subst, ◌∙◌}
 use mathlib.Core.Bool.{true, false, cond}
 use mathlib.Core.List.{List}
 use Prim.Native.Nat.{ℕ}
-use Rattle.spec_leaves.specs.declared.answers.Proved.{Proved}
-use Rattle.spec_leaves.specs.declared.answers.Proved.TheVariants as E
 use Rattle.spec_leaves.specs.declared.answers.Refusal.{Refusal}
-use Rattle.spec_leaves.specs.Answer.{Answer, fine, of_proved, ◌then◌}
+use Rattle.spec_leaves.specs.Answer.{fine, of_result, ◌then◌}
 use Rattle.spec_protocol.specs.Parameters.{parameters}
 use Rattle.spec_protocol.specs.Layout.{scratch_need}
 use Rattle.spec_protocol.specs.Formulas as F
 use Rattle.spec_protocol.specs.Prover.{Call, witness_norm, t_norm, g_norm, work_refusal}
 use Rattle.spec_protocol.proofs.Checks.{then_fine}
-use Rattle.layout_sections.proofs.Then.{goes_on}
 use Rattle.admission_slices.specs.declared.calls.Call as Code
 use Rattle.admission_slices.specs.Admission.{call_of}
-use Rattle.admission_slices.proofs.Stages.{stops_at}
 use Rattle.layout_regions.specs.declared.Regions.{Regions}
 use Rattle.core_workspace.specs.Ready.{Drawn}
 use Rattle.core_workspace.specs.Holds.{Unchanged}
 use Rattle.prover_commit.specs.Refusals.{t_refusal, g_refusal, h_refusal, first_refusal, work}
-use Rattle.prover_commit.specs.Work.{WhereMade, Filled}
-
--- a refusal is the answer, whatever follows; K is what else is ensured
-pub passed_on : (k : Proved) (r : Refusal) {a : Answer} (rest : Answer) {b : Answer} {K : Type 0} → k ≡ E.Refused r → of_proved k ≡ a → a then rest ≡ b → K
-    → (of_proved (E.Refused r) ≡ b) × (K × Unit {0})
-passed_on k r rest told e same unchanged = (stops_at r rest (sym (ap of_proved told) ∙ e) ∙ same, (unchanged, tt))
-
--- after what was made the next one is the answer
-pub gone_on : (k z : Proved) {a rest b : Answer} → k ≡ E.Made → of_proved k ≡ a → of_proved z ≡ rest → a then rest ≡ b → of_proved z ≡ b
-gone_on k z told e f same = goes_on (sym (ap of_proved told) ∙ e) f ∙ same
+use Rattle.prover_commit.specs.Work.{Filled}
 
 module _ (J R W : List ℕ) where
   -- "Prover: 13, 14, 15, 16."; 16 only where h is worked out
@@ -53,11 +41,11 @@ module _ (J R W : List ℕ) where
   same-work c d e = then_fine (work J R W c) ∙ sym (work_is c) ∙ ap (λ b. first_refusal J W then cond b (h_refusal J R W) fine) e ∙ work_is d
 
 -- what the filling of the scratch for a call answers and leaves
-abbrev pub Fills : Code.Call → (J R W : List ℕ) → Regions → Proved → (S S' : List ℕ) → Type 0
-Fills call J R W regions r S S' = (of_proved r ≡ work J R W (call_of call)) × (Unchanged (scratch_need (parameters J)) S S' × WhereMade r (Filled J R W regions S' call))
+abbrev pub Fills : Code.Call → (J R W : List ℕ) → Regions → Result Unit Refusal → (S S' : List ℕ) → Type 0
+Fills call J R W regions r S S' = (of_result r ≡ work J R W (call_of call)) × (Unchanged (scratch_need (parameters J)) S S' × OnOk r (Filled J R W regions S' call))
 
 -- where the call is known
-pub fills : (call known : Code.Call) (J R W : List ℕ) (regions : Regions) (r : Proved) (S S' : List ℕ) → call ≡ known → Fills known J R W regions r S S' → Fills call J R W regions r S S'
+pub fills : (call known : Code.Call) (J R W : List ℕ) (regions : Regions) (r : Result Unit Refusal) (S S' : List ℕ) → call ≡ known → Fills known J R W regions r S S' → Fills call J R W regions r S S'
 fills call known J R W regions r S S' e = subst (λ c. Fills c J R W regions r S S') (sym e)
 
 pub drawn_known : (call known : Code.Call) (J R : List ℕ) → call ≡ known → Drawn (call_of call).handed J R → Drawn (call_of known).handed J R

@@ -1,8 +1,9 @@
 -- What the steps of the prover's commitments need, store and answer.
+use Rattle.std.specs.Prelude.{Result, Ok, Err, OnOk}
 use mathlib.Core.Path.{◌≡◌, refl, sym, ap, subst, ◌∙◌}
 use mathlib.Core.Bool.{Bool, cond}
 use mathlib.Core.List.{List, []}
-use Prim.Native.Nat.{ℕ, ◌+◌, ◌*◌, ◌≤◌, ◌<◌, ◌^◌}
+use Prim.Native.Nat.{ℕ, ◌+◌, ◌*◌, ◌≤◌, ◌<◌}
 use native.Mathlib.Nat.{le-div_iff_mul-le, mul-le-mul_right}
 use native.Mathlib.Decide.{dec_le}
 use native.Mathlib.Omega.{arith}
@@ -12,9 +13,8 @@ use Rattle.math.specs.lists.Table.{table}
 use Rattle.math.specs.lists.Part.{splice}
 use Rattle.math.proofs.lists.Table.{table_ext}
 use Rattle.math.proofs.lists.Splice.{length-splice}
-use Rattle.spec_leaves.specs.declared.answers.Proved.{Proved}
-use Rattle.spec_leaves.specs.declared.answers.Proved.TheVariants as E
-use Rattle.spec_leaves.specs.Answer.{Answer, fine, refused, value128, ◌then◌}
+use Rattle.spec_leaves.specs.declared.answers.Refusal.{Refusal}
+use Rattle.spec_leaves.specs.Answer.{Answer, fine, refused, ◌then◌}
 use Rattle.spec_protocol.specs.Checks.{require, first}
 use Rattle.spec_protocol.specs.Parameters.{Parameters, parameters, T, triangular}
 use Rattle.spec_protocol.specs.Layout.{start, job_sections, witness_sections, scratch_need}
@@ -50,7 +50,7 @@ use Rattle.core_workspace.proofs.Aggregated.{a''_symmetric}
 use Rattle.core_workspace.proofs.Ready.{ready-changed, regions_end, A-within, φ''-end, a''-end, φ-end, a-end, g_end, c-end, t-end, u-end, b''-end}
 use Rattle.prover_commit.specs.Words.{statement, X, s, t_words, g_words, b''_words, h_words}
 use Rattle.prover_commit.specs.Refusals.{t_refusal, g_refusal, h_refusal, first_refusal, t_check, g_check, h_check}
-use Rattle.prover_commit.specs.Work.{WorkGiven, WhereMade, ReadyForH, with_h}
+use Rattle.prover_commit.specs.Work.{WorkGiven, ReadyForH, with_h}
 use Rattle.prover_commit.proofs.Lengths.{length-h}
 use Rattle.prover_commit.proofs.Room.{placed}
 
@@ -72,20 +72,13 @@ pub held_after : (S S' : List ℕ) (to : ℕ) (new : List ℕ) → S' ≡ splice
 held_after S S' to new e at ws l h = subst (λ x. Holds x at ws) (sym e) (holds_after S at ws to new l h)
 
 -- a fact that holds in any case
-pub where_made : (r : Proved) {fact : Type 0} → fact → WhereMade r fact
-where_made E.Made h = h
-where_made (E.Refused r) h = tt
-
--- a fact that holds where something was made
-pub from-made : (r : Proved) (fact : Type 0) → r ≡ E.Made → WhereMade r fact → fact
-from-made r fact e h = subst (λ x. WhereMade x fact) e h
+pub where_made : (r : Result Unit Refusal) {fact : Type 0} → fact → OnOk r fact
+where_made (Ok v) h = h
+where_made (Err e) h = tt
 
 -- a test of the norm of cells' digits as a boolean
-pub bounded : (number at cells n parts base : ℕ) (S : List ℕ) (bound : ℕ) → cells ≡ n → (b : Bool) → b ≡ leb (norm_of (digits_at S (digits at cells parts) base)) bound
-    → (v : Bool) → b ≡ v → cond v fine (refused number 0) ≡ require (dec_le (norm_of (digits_at S (digits at n parts) base)) bound) (refused number 0)
-bounded number at cells n parts base S bound same b e v w =
-    ap (λ x. cond x fine (refused number 0)) (sym w ∙ e ∙ ap (λ k. leb (norm_of (digits_at S (digits at k parts) base)) bound) same)
-    ∙ sym (require-leb (norm_of (digits_at S (digits at n parts) base)) bound (refused number 0))
+pub bounded : (norm bound : ℕ) (answer : Answer) (b : Bool) → b ≡ leb norm bound → (v : Bool) → b ≡ v → cond v fine answer ≡ require (dec_le norm bound) answer
+bounded norm bound answer b e v w = ap (λ x. cond x fine answer) (sym w ∙ e) ∙ sym (require-leb norm bound answer)
 
 -- what a call hands the steps
 module _ (J W : List ℕ) (params : EnvironmentParameters) (regions : Regions) (S : List ℕ) (h : WorkGiven J W params regions S) where
@@ -110,11 +103,11 @@ module _ (J W : List ℕ) (params : EnvironmentParameters) (regions : Regions) (
   a-room = omega (arith, a-end J params regions S h.ready, g_room)
 
   -- 13: what `check_witness` needs, and what it answers
-  pub witness-checks : (1 + 64 * (params.multiplicity * params.rank) ≤ length W) × (params.rank ≤ 2 ^ 18)
-  witness-checks = subst (λ Q. (1 + 64 * (Q.r * Q.n) ≤ length W) × (Q.n ≤ 2 ^ 18)) (sym h.ready.same) (witness_fits, omega (arith, h.ready.sound.within.n.1))
+  pub witness-checks : 1 + 64 * (params.multiplicity * params.rank) ≤ length W
+  witness-checks = subst (λ Q. 1 + 64 * (Q.r * Q.n) ≤ length W) (sym h.ready.same) witness_fits
 
   abbrev tested : Answer
-  tested = first params.multiplicity (vector_norm W 1 params.rank (value128 params.bound_a))
+  tested = first params.multiplicity (vector_norm W 1 params.rank params.bound_a)
 
   witness-answer : tested ≡ witness_norm (statement J) (s J W)
   witness-answer =

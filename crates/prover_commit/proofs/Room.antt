@@ -95,7 +95,7 @@ module _ (params : EnvironmentParameters) (regions : Regions) (S : List ℕ) (h 
   pub base-room : 1 < params.b
   base-room = let k : 2 ≤ params.b = h.sized.within.b.0 in omega arith
 
-  -- the cells of t, g and h
+  -- the cells of t
   pub t_cells : Cells S (digits regions.t (params.multiplicity * params.kappa) params.t_1)
   t_cells = record {
     within = h.t;
@@ -107,14 +107,14 @@ module _ (params : EnvironmentParameters) (regions : Regions) (S : List ℕ) (h 
       up : (n : ℕ) → n ≤ 256 → n ≤ 2 ^ 18
       up n l = omega arith
 
-  few : (n : ℕ) → n ≤ 136 → n ≤ 2 ^ 18
-  few n l = omega arith
-
-  pub g_cells : (cells : ℕ) → (cells ≡ triangular params.multiplicity) × (cells ≤ 136) → Cells S (digits regions.g cells params.t_2)
-  g_cells cells e = record { within = subst (λ k. regions.g + 64 * k ≤ length S) (sym e.0) h.g; few_cells = few cells e.1; few_parts = h.sized.within.t₂.1 }
-
-  pub h_cells : (cells : ℕ) → (cells ≡ triangular params.multiplicity) × (cells ≤ 136) → Cells S (digits regions.a_or_h cells params.t_1)
-  h_cells cells e = record { within = subst (λ k. regions.a_or_h + 64 * k ≤ length S) (sym e.0) h.h; few_cells = few cells e.1; few_parts = h.sized.within.t₁.1 }
+-- the cells of a triangle
+pub triangle-cells : (params : EnvironmentParameters) (at parts cells : ℕ) (S : List ℕ) → at + 64 * triangular params.multiplicity ≤ length S → parts ≤ 32
+    → (cells ≡ triangular params.multiplicity) × (cells ≤ 136) → Cells S (digits at cells parts)
+triangle-cells params at parts cells S h l e =
+    record { within = subst (λ k. at + 64 * k ≤ length S) (sym e.0) h; few_cells = few cells e.1; few_parts = l }
+  where
+    few : (n : ℕ) → n ≤ 136 → n ≤ 2 ^ 18
+    few n l = omega arith
 
 -- the witness by the code's parameters
 pub s-room : (J W : List ℕ) (params : EnvironmentParameters) (regions : Regions) (S : List ℕ) → WorkGiven J W params regions S → 1 + 64 * (params.multiplicity * params.rank) ≤ length W

@@ -1,17 +1,18 @@
 -- What the steps of t and g answer and leave.
-use mathlib.Core.Path.{◌≡◌, refl, ap, ◌∙◌}
+use Rattle.std.specs.Prelude.{Result, OnOk}
+use mathlib.Core.Path.{◌≡◌, ap, ◌∙◌}
 use mathlib.Core.List.{List}
 use Prim.Native.Nat.{ℕ}
 use native.Mathlib.Omega.{arith}
 use lib.ListN.{length}
 use Rattle.math.specs.lists.Part.{splice}
 use Rattle.math.proofs.lists.Splice.{length-splice}
-use Rattle.spec_leaves.specs.declared.answers.Proved.{Proved}
-use Rattle.spec_leaves.specs.declared.answers.Proved.TheVariants as E
 use Rattle.spec_leaves.specs.declared.answers.Refusal.{Refusal}
-use Rattle.spec_leaves.specs.Answer.{of_proved, ◌then◌}
+use Rattle.spec_leaves.specs.Answer.{fine, of_refusal, of_result, ◌then◌}
 use Rattle.spec_protocol.specs.Parameters.{Parameters, parameters}
 use Rattle.spec_protocol.specs.Layout.{scratch_need}
+use Rattle.layout_sections.proofs.Then.{goes_on}
+use Rattle.admission_slices.proofs.Stages.{stops_at}
 use Rattle.layout_regions.specs.declared.Regions.{Regions}
 use Rattle.relation_env_params.specs.declared.env_params.EnvironmentParameters.{EnvironmentParameters}
 use Rattle.core_workspace.specs.Holds.{Holds, Unchanged}
@@ -19,9 +20,8 @@ use Rattle.core_workspace.proofs.Unchanged.{unchanged_stored}
 use Rattle.core_workspace.proofs.Ready.{g_end, c-end}
 use Rattle.prover_commit.specs.Words.{t_words, g_words}
 use Rattle.prover_commit.specs.Refusals.{t_refusal, g_refusal, t_check, g_check}
-use Rattle.prover_commit.specs.Work.{WorkGiven, WhereMade, Committed}
+use Rattle.prover_commit.specs.Work.{WorkGiven, Committed}
 use Rattle.prover_commit.proofs.Lengths.{length-t, length-g}
-use Rattle.prover_commit.proofs.Answers.{passed_on, gone_on}
 use Rattle.prover_commit.proofs.Commitments.{held-stored, held_after, where_made, given-changed, t_room, g_room, t_checked, g_checked}
 
 -- a scratch of which needed words changed, into which t was stored
@@ -39,7 +39,7 @@ module _ (J W : List ℕ) (params : EnvironmentParameters) (regions : Regions) (
   held-t : Holds S₁ regions.t (t_words J W)
   held-t = held-stored S₀ S₁ regions.t (t_words J W) e (omega (arith, length-t J W, t_room J W params regions S h, h.ready.room, unchanged.size))
 
-  unchanged_t : Unchanged (scratch_need P) S S₁
+  pub unchanged_t : Unchanged (scratch_need P) S S₁
   unchanged_t = unchanged_stored (scratch_need P) S S₀ S₁ regions.t (t_words J W) unchanged e (omega (arith, length-t J W, t_room J W params regions S h))
 
   -- and then g
@@ -60,15 +60,14 @@ module _ (J W : List ℕ) (params : EnvironmentParameters) (regions : Regions) (
           g = held-g;
         }
 
-  -- what is answered and left where t is refused
-  pub t-refused : (k : Proved) (r : Refusal) → k ≡ E.Refused r → of_proved k ≡ t_check params regions S₁
-      → (of_proved (E.Refused r) ≡ t_refusal J W then g_refusal J W) × (Unchanged (scratch_need P) S S₁ × Unit {0})
-  t-refused k r told w = passed_on k r (g_refusal J W) told (w ∙ t_checked J W params regions S₁ given-t held-t) refl unchanged_t
+  -- what is answered where t is refused
+  pub t-refused : (r : Refusal) → of_refusal r ≡ t_check params regions S₁ → of_refusal r ≡ t_refusal J W then g_refusal J W
+  t-refused r w = stops_at r (g_refusal J W) (w ∙ t_checked J W params regions S₁ given-t held-t)
 
-  -- and where it is not
-  pub t_and-g : (k z : Proved) → k ≡ E.Made → of_proved k ≡ t_check params regions S₁ → (L : List ℕ) → L ≡ splice S₁ regions.g (g_words J W) → of_proved z ≡ g_check params regions L
-      → (of_proved z ≡ t_refusal J W then g_refusal J W) × (Unchanged (scratch_need P) S L × WhereMade z (Committed J W regions L))
-  t_and-g k z told w L e' v = (
-    gone_on k z told (w ∙ t_checked J W params regions S₁ given-t held-t) (v ∙ g_checked J W params regions L (given-g L e') (held-g L e')) refl,
+  -- and where it is not, with what is left
+  pub t_and-g : (z : Result Unit Refusal) → fine ≡ t_check params regions S₁ → (L : List ℕ) → L ≡ splice S₁ regions.g (g_words J W) → of_result z ≡ g_check params regions L
+      → (of_result z ≡ t_refusal J W then g_refusal J W) × (Unchanged (scratch_need P) S L × OnOk z (Committed J W regions L))
+  t_and-g z w L e' v = (
+    goes_on (w ∙ t_checked J W params regions S₁ given-t held-t) (v ∙ g_checked J W params regions L (given-g L e') (held-g L e')),
     (unchanged_g L e', where_made z (committed L e')),
   )

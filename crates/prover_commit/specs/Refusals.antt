@@ -1,7 +1,9 @@
 -- What the prover's work refuses, and what a call makes, of a job, a randomness and a witness.
 use Rattle.std.specs.Prelude.{List, ℕ, ◌*◌}
 use Rattle.std.proofs.Math.Decide.{dec_le}
-use Rattle.spec_leaves.specs.Answer.{Answer, refused, value128, ◌then◌}
+use Rattle.spec_leaves.specs.Answer.{Answer, of_refusal, ◌then◌}
+use Rattle.spec_leaves.specs.declared.answers.Refusal.{Refusal}
+use Rattle.spec_leaves.specs.declared.answers.Refusal.TheVariants as R
 use Rattle.spec_protocol.specs.Checks.{require}
 use Rattle.spec_protocol.specs.Parameters.{triangular}
 use Rattle.spec_protocol.specs.Formulas as F
@@ -38,16 +40,20 @@ module _ (J R W : List ℕ) where
   abbrev pub makes : Call → List ℕ
   makes call = P.made (X J R) call (s J W)
 
--- 14, 15 and 16 of the cells that stand in a region
-module _ (params : EnvironmentParameters) (regions : Regions) (scratch : List ℕ) where
-  abbrev above : ℕ → Digits → ℕ → Answer
-  above number d bound = require (dec_le (norm_of (digits_at scratch d params.b)) bound) (refused number 0)
+-- 14 of the cells of t that stand in a region, 15 and 16 of the triangle of cells of a region
+module _ (params : EnvironmentParameters) where
+  abbrev above : Refusal → Digits → ℕ → List ℕ → Answer
+  above refusal d bound scratch = require (dec_le (norm_of (digits_at scratch d params.b)) bound) (of_refusal refusal)
 
-  abbrev pub t_check : Answer
-  t_check = above 14 (record { at = regions.t; cells = params.multiplicity * params.kappa; parts = params.t_1 }) (value128 params.bound_b)
+  abbrev pub triangle_check : (at parts bound : ℕ) → Refusal → List ℕ → Answer
+  triangle_check at parts bound refusal = above refusal (record { at = at; cells = triangular params.multiplicity; parts = parts }) bound
 
-  abbrev pub g_check : Answer
-  g_check = above 15 (record { at = regions.g; cells = triangular params.multiplicity; parts = params.t_2 }) (value128 params.bound_c)
+  module _ (regions : Regions) where
+    abbrev pub t_check : List ℕ → Answer
+    t_check = above R.DigitsOfT (record { at = regions.t; cells = params.multiplicity * params.kappa; parts = params.t_1 }) params.bound_b
 
-  abbrev pub h_check : Answer
-  h_check = above 16 (record { at = regions.a_or_h; cells = triangular params.multiplicity; parts = params.t_1 }) (value128 params.bound_d)
+    abbrev pub g_check : List ℕ → Answer
+    g_check = triangle_check regions.g params.t_2 params.bound_c R.DigitsOfG
+
+    abbrev pub h_check : List ℕ → Answer
+    h_check = triangle_check regions.a_or_h params.t_1 params.bound_d R.DigitsOfH

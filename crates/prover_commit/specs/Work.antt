@@ -1,8 +1,6 @@
 -- What the steps of the prover's work stand on, and what they leave in the scratch.
 use Rattle.std.specs.Prelude.{Bool, ◌||◌, List, ℕ, ◌+◌, ◌*◌, ◌≤◌, eqb, leb, length}
 use Rattle.math.specs.lists.Part.{splice}
-use Rattle.spec_leaves.specs.declared.answers.Proved.{Proved}
-use Rattle.spec_leaves.specs.declared.answers.Proved.TheVariants as P
 use Rattle.spec_protocol.specs.Parameters.{parameters, triangular}
 use Rattle.spec_protocol.specs.Layout.{start, witness_sections}
 use Rattle.spec_protocol.specs.Formulas.{flat, triangle}
@@ -32,11 +30,6 @@ pub record Placed (params : EnvironmentParameters) (regions : Regions) (scratch 
   pub h : regions.a_or_h + 64 * triangular params.multiplicity ≤ length scratch
   pub b'' : regions.b2 + 64 * params.const_agg_length ≤ length scratch
   pub challenges : regions.challenges + 64 * params.multiplicity ≤ length scratch
-
--- a fact that holds where something was made
-abbrev pub WhereMade : Proved → Type 0 → Type 0
-WhereMade P.Made fact = fact
-WhereMade (P.Refused r) fact = Unit {0}
 
 -- t and g stand in their regions
 pub record Committed (J W : List ℕ) (regions : Regions) (scratch : List ℕ) : Type 0 where

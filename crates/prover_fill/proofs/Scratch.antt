@@ -1,5 +1,6 @@
 -- What the scratch holds after each step of a round.
 use mathlib.Core.Path.{◌≡◌, sym, ap, subst, ◌∙◌}
+use mathlib.Core.Bool.{Bool, true, false}
 use mathlib.Core.List.{List, ◌++◌}
 use Prim.Native.Nat.{ℕ, ◌+◌, ◌*◌, ◌≤◌}
 use native.Mathlib.Omega.{arith}
@@ -17,7 +18,8 @@ use Rattle.core_workspace.proofs.Holds.{holds-first, holds-second}
 use Rattle.core_workspace.proofs.Unchanged.{unchanged_refl, unchanged_trans, unchanged_stored}
 use Rattle.core_workspace.proofs.Ready.{regions_end, φ''-end, a''-end, φ-end, a-end, g_end, c-end, t-end, u-end, length-φ'', length-a'', length-c, c_requires, c-made}
 use Rattle.prover_commit.specs.Words.{t_words, g_words, b''_words, h_words}
-use Rattle.prover_commit.specs.Work.{WorkGiven, Committed, Aggregated}
+use Rattle.prover_commit.specs.Work.{WorkGiven, Committed, Aggregated, Filled}
+use Rattle.prover_fill.specs.Stored.{MadeWith, last_call}
 use Rattle.prover_commit.proofs.Commitments.{held-stored, held-before, held_after, given-changed}
 use Rattle.prover_commit.proofs.Lengths.{length-t, length-g, length-h, length-b''}
 
@@ -171,3 +173,19 @@ module _ (J R W : List ℕ) (params : EnvironmentParameters) (regions : Regions)
     -- b'' stands as it did
     pub b_stands : Holds S₁ regions.b2 (b''_words J R W) → Holds S₂ regions.b2 (b''_words J R W)
     b_stands = c-beside-b J R W params regions S₁ given₇ S₂ e
+
+-- t, g and h, and b'' where it is asked for
+pub aggregated_of : (with-b : Bool) (J R W : List ℕ) (regions : Regions) (S : List ℕ) → MadeWith with-b J R W regions S → Aggregated J R W regions S
+aggregated_of true J R W regions S k = k.0
+aggregated_of false J R W regions S k = k
+
+-- with the challenges they are what the last calls are filled with
+pub last_filled : (with-b : Bool) (J R W : List ℕ) (params : EnvironmentParameters) (regions : Regions) (S : List ℕ) (h : WorkGiven J W params regions S) (d : Drawn 7 J R)
+    (S₁ : List ℕ) (unchanged : Unchanged (scratch_need (parameters J)) S S₁) (S₂ : List ℕ)
+    → S₂ ≡ splice S₁ regions.challenges (challenge_words (parameters_of params) R) → MadeWith with-b J R W regions S₁ → Filled J R W regions S₂ (last_call with-b)
+last_filled true J R W params regions S h d S₁ unchanged S₂ stored k = (
+  c-others J R W params regions S h d S₁ unchanged k.0 S₂ stored,
+  (b_stands J R W params regions S h d S₁ unchanged k.0 S₂ stored k.1, c_there J R W params regions S h d S₁ unchanged k.0 S₂ stored),
+)
+last_filled false J R W params regions S h d S₁ unchanged S₂ stored k =
+    (c-others J R W params regions S h d S₁ unchanged k S₂ stored, c_there J R W params regions S h d S₁ unchanged k S₂ stored)

@@ -1,14 +1,12 @@
 -- What the steps up to φ find and leave in the scratch, and b'' and h after it.
-use mathlib.Core.Path.{◌≡◌, ap, ◌∙◌}
-use mathlib.Core.Bool.{Bool, true, false}
+use mathlib.Core.Path.{◌≡◌, refl, ap, ◌∙◌}
+use mathlib.Core.Bool.{Bool, true, false, cond}
 use mathlib.Core.List.{List, ◌++◌}
 use Prim.Native.Nat.{ℕ, ◌+◌, ◌≤◌}
 use native.Mathlib.Omega.{arith}
 use lib.ListN.{length, length-append}
 use Rattle.math.specs.lists.Part.{splice}
 use Rattle.math.proofs.lists.Splice.{length-splice}
-use Rattle.spec_leaves.specs.declared.answers.Proved.{Proved}
-use Rattle.spec_leaves.specs.declared.answers.Proved.TheVariants as E
 use Rattle.spec_protocol.specs.Parameters.{Parameters, parameters}
 use Rattle.spec_protocol.specs.Layout.{scratch_need}
 use Rattle.layout_regions.specs.declared.Regions.{Regions}
@@ -20,10 +18,10 @@ use Rattle.core_workspace.proofs.Unchanged.{unchanged_stored, unchanged_trans}
 use Rattle.core_workspace.proofs.Ready.{drawn_fewer, φ''-end, a''-end, φ-end, a-end, g_end, c-end, length-φ'', length-a'', length-φ}
 use Rattle.prover_commit.specs.Words.{t_words, g_words, b''_words, h_words}
 use Rattle.prover_commit.specs.Refusals.{h_refusal, h_check}
-use Rattle.prover_commit.specs.Work.{WorkGiven, WhereMade, Committed, Weighed, Aggregated, AllMade, with_h}
-use Rattle.prover_commit.proofs.Commitments.{from-made, held-stored, held-before, held_after, given-changed, a-room, given-h, unchanged_h, stands_h, held-h, h_checked}
+use Rattle.prover_commit.specs.Work.{WorkGiven, Committed, Weighed, Aggregated, AllMade, with_h}
+use Rattle.prover_commit.proofs.Commitments.{b''-made, held-stored, held-before, held_after, given-changed, a-room, given-h, unchanged_h, stands_h, held-h, h_checked}
 use Rattle.prover_commit.proofs.Lengths.{length-h}
-use Rattle.prover_fill.specs.Stored.{with_φ, weighed_scratch}
+use Rattle.prover_fill.specs.Stored.{with_φ, with_b'', weighed_scratch, MadeWith}
 use Rattle.prover_fill.proofs.Scratch as Scratch
 
 -- φ and b'' leave the scratch's length
@@ -91,11 +89,11 @@ module _ (J R W : List ℕ) (params : EnvironmentParameters) (regions : Regions)
         unchanged_φ = unchanged_stored (scratch_need P) S S₂ S₃ regions.phi (φ_words J R)
             (unchanged_stored (scratch_need P) S S₁ S₂ 0 both unchanged e₂ (omega (arith, both_end, φ_stop, h_room))) e₃ (omega (arith, φ_stop, h_room))
 
-        pub weighed : (r : Proved) → r ≡ E.Made → WhereMade r (Committed J W regions S₁) → Weighed J R W regions S₃
-        weighed r made w =
+        pub weighed : Committed J W regions S₁ → Weighed J R W regions S₃
+        weighed w =
             record {
               committed = committed-after S₂ S₃ regions.phi (φ_words J R) e₃ (omega (arith, φ_stop, a_stop))
-                  (committed-after S₁ S₂ 0 both e₂ (omega (arith, both_end, φ_stop, a_stop)) (from-made r (Committed J W regions S₁) made w));
+                  (committed-after S₁ S₂ 0 both e₂ (omega (arith, both_end, φ_stop, a_stop)) w);
               phi2 =
                   held-before S₂ S₃ regions.phi (φ_words J R) e₃ regions.phi2 (φ''_words J R)
                   (omega (arith, length-φ'' J R, φ''-end J params regions S h.ready, a''-end J params regions S h.ready)) φ''-held;
@@ -172,3 +170,14 @@ module _ (J R W : List ℕ) (params : EnvironmentParameters) (regions : Regions)
         },
         stands_h J W params regions S₂ b-given R S₃ φ_stands e' regions.b2 (b''_words J R W) (omega (arith, g-place)) (Scratch.b''-held J R W params regions S₁ weighed-given S₂ e),
       )
+
+  -- what h leaves after φ and, where it is asked for, b''
+  abbrev pub After : (with-b : Bool) → List ℕ → Type 0
+  After with-b E = (h_check params regions E ≡ h_refusal J R W) × (Unchanged (scratch_need (parameters J)) S E × MadeWith with-b J R W regions E)
+
+  pub weighed_after : (with-b : Bool) (E : List ℕ) → Unchanged regions.phi (with_h W params regions (cond with-b (with_b'' S₁ W params regions) S₁)) E → After with-b E
+  weighed_after true E u =
+      let b = with_b'' S₁ W params regions in
+      let e = b''-made J W params regions S₁ weighed-given R b k.phi2 k.a2 k.committed.g refl in
+      (all_answered b e E u, (all_unchanged b e E u, all_made b e E u))
+  weighed_after false E u = (h_answered E u, (h_unchanged E u, h-aggregated E u))

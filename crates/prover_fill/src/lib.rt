@@ -3,48 +3,28 @@
 
 pub mod phi_and_b;
 
-ghost use Rattle.std.specs.Prelude.{◌≡◌};
-ghost use Rattle.spec_leaves.specs.Answer.{of_proved};
+ghost use Rattle.std.specs.Prelude.{◌≡◌, OnOk};
+ghost use Rattle.spec_leaves.specs.Answer.{of_result};
 ghost use Rattle.spec_protocol.specs.Parameters.{parameters};
 ghost use Rattle.spec_protocol.specs.Layout.{scratch_need};
-ghost use Rattle.spec_protocol.specs.Prover.{round₃, round₄, round₅, whole};
+ghost use Rattle.spec_protocol.specs.Prover.{round₃, round₄, round₅};
 ghost use Rattle.admission_slices.specs.Admission.{call_of};
 ghost use Rattle.admission_slices.specs.declared.calls.Call.TheVariants as C;
 ghost use Rattle.core_workspace.specs.Ready.{Drawn};
 ghost use Rattle.core_workspace.specs.Holds.{Holds, Unchanged};
 ghost use Rattle.core_workspace.specs.Aggregated.{φ''_words};
 ghost use Rattle.prover_commit.specs.Refusals.{work, h_check};
-ghost use Rattle.prover_commit.specs.Work.{WorkGiven, Placed, WhereMade, AllMade, Filled, ReadyForH, with_h};
-ghost use Rattle.prover_fill.specs.Stored.{weighed_with_h};
+ghost use Rattle.prover_commit.specs.Work.{WorkGiven, Filled, ReadyForH, with_h};
+ghost use Rattle.prover_fill.specs.Stored.{weighed_with_h, MadeWith, last_call};
 
 use admission_slices::calls::Call;
-use commitments_bounds::common_instances;
-use commitments_outer::outer_commitments::Digits;
 use core_aggregate;
 use core_garbage_polynomials::h;
 use core_workspace;
 use layout_regions::Regions;
-use layout_sizes::slices;
-use prover_commit::{commit, plain_is_faster};
+use prover_commit::{check_triangle, commit, plain_is_faster};
 use relation_env_params::env_params::EnvironmentParameters;
-use spec_leaves::answers::{Proved, Refusal};
-
-// "16 of h above D's"
-fn check_h(params: EnvironmentParameters, regions: Regions, scratch: &[u32]) -> Proved
-    requires { Placed params regions scratch.now }
-    ensures { of_proved result ≡ h_check params regions scratch.now }
-{
-    let digits = Digits {
-        at: regions.a_or_h,
-        cells: slices::triangle(params.multiplicity),
-        parts: params.t_1,
-    };
-    if common_instances::digits_within(scratch, digits, params.b, params.bound_d) {
-        Proved::Made
-    } else {
-        Proved::Refused(Refusal::DigitsOfH)
-    }
-}
+use spec_leaves::answers::Refusal;
 
 // Round 3: "b''_k = Σ a''_k,ij·⟨s_i,s_j⟩ + Σ⟨φ''_k,i,s_i⟩" after t and g.
 fn commit_with_b_double_prime(
@@ -54,31 +34,27 @@ fn commit_with_b_double_prime(
     params: EnvironmentParameters,
     regions: Regions,
     scratch: &mut [u32],
-) -> Proved
+) -> Result<(), Refusal>
     requires { WorkGiven job.now witness.now params regions scratch.old × Drawn 3 job.now randomness.now }
-    ensures result_value { of_proved result ≡ work job.now randomness.now witness.now round₃ }
+    ensures result_value { of_result result ≡ work job.now randomness.now witness.now round₃ }
     ensures unchanged { Unchanged (scratch_need (parameters job.now)) scratch.old scratch.new }
-    ensures where_made { WhereMade result (Filled job.now randomness.now witness.now regions scratch.new C.Round3) }
+    ensures made { OnOk result (Filled job.now randomness.now witness.now regions scratch.new C.Round3) }
 {
-    match commit(job, witness, params, regions, scratch) {
-        Proved::Refused(refusal) => Proved::Refused(refusal),
-        Proved::Made => {
-            core_workspace::double_prime(job, randomness, params, regions, scratch);
-            core_aggregate::b_double_prime(
-                scratch,
-                regions.a2,
-                regions.g,
-                regions.phi2,
-                params.multiplicity,
-                params.rank,
-                witness,
-                1,
-                params.const_agg_length,
-                regions.b2,
-            );
-            Proved::Made
-        }
-    }
+    commit(job, witness, params, regions, scratch)?;
+    core_workspace::double_prime(job, randomness, params, regions, scratch);
+    core_aggregate::b_double_prime(
+        scratch,
+        regions.a2,
+        regions.g,
+        regions.phi2,
+        params.multiplicity,
+        params.rank,
+        witness,
+        1,
+        params.const_agg_length,
+        regions.b2,
+    );
+    Ok(())
 }
 
 // "h_ij = ⟨φ_i,s_j⟩+⟨φ_j,s_i⟩, not halved", by the faster way; the NTT forms stand where φ'' and a'' stood.
@@ -111,19 +87,27 @@ fn compute_h(witness: &[u32], params: EnvironmentParameters, regions: Regions, s
     }
 }
 
-// h, with 16.
+// h, with 16. Not inlined: its buffers lie beside those of φ and φ'', and not above them.
+#[inline(never)]
 fn add_h(
     witness: &[u32],
     params: EnvironmentParameters,
     regions: Regions,
     scratch: &mut [u32],
-) -> Proved
+) -> Result<(), Refusal>
     requires { ReadyForH witness.now params regions scratch.old }
-    ensures result_value { of_proved result ≡ h_check params regions scratch.new }
+    ensures result_value { of_result result ≡ h_check params regions scratch.new }
     ensures unchanged { Unchanged regions.phi (with_h witness.now params regions scratch.old) scratch.new }
 {
     compute_h(witness, params, regions, scratch);
-    check_h(params, regions, scratch)
+    check_triangle(
+        params,
+        regions.a_or_h,
+        params.t_1,
+        params.bound_d,
+        Refusal::DigitsOfH,
+        scratch,
+    )
 }
 
 // φ, with b'' where it is asked for, and then h.
@@ -135,9 +119,9 @@ fn weigh(
     regions: Regions,
     scratch: &mut [u32],
     with_b: bool,
-) -> Proved
+) -> Result<(), Refusal>
     requires { WorkGiven job.now witness.now params regions scratch.old × Drawn 5 job.now randomness.now × Holds scratch.old regions.phi2 (φ''_words job.now randomness.now) }
-    ensures result_value { of_proved result ≡ h_check params regions scratch.new }
+    ensures result_value { of_result result ≡ h_check params regions scratch.new }
     ensures unchanged { Unchanged regions.phi (weighed_with_h with_b job.now randomness.now witness.now params regions scratch.old)
         scratch.new }
 {
@@ -145,7 +129,7 @@ fn weigh(
     add_h(witness, params, regions, scratch)
 }
 
-// Round 4: h after φ: "Prover: 13, 14, 15, 16."
+// Round 4: h after φ, and with them b'' where the whole call asks for it: "Prover: 13, 14, 15, 16."
 fn commit_with_h(
     job: &[u32],
     randomness: &[u32],
@@ -153,45 +137,19 @@ fn commit_with_h(
     params: EnvironmentParameters,
     regions: Regions,
     scratch: &mut [u32],
-) -> Proved
+    with_b: bool,
+) -> Result<(), Refusal>
     requires { WorkGiven job.now witness.now params regions scratch.old × Drawn 5 job.now randomness.now }
-    ensures result_value { of_proved result ≡ work job.now randomness.now witness.now round₄ }
+    ensures result_value { of_result result ≡ work job.now randomness.now witness.now round₄ }
     ensures unchanged { Unchanged (scratch_need (parameters job.now)) scratch.old scratch.new }
-    ensures where_made { WhereMade result (Filled job.now randomness.now witness.now regions scratch.new C.Round4) }
+    ensures made { OnOk result (MadeWith with_b job.now randomness.now witness.now regions scratch.new) }
 {
-    match commit(job, witness, params, regions, scratch) {
-        Proved::Refused(refusal) => Proved::Refused(refusal),
-        Proved::Made => {
-            core_workspace::double_prime(job, randomness, params, regions, scratch);
-            weigh(job, randomness, witness, params, regions, scratch, false)
-        }
-    }
+    commit(job, witness, params, regions, scratch)?;
+    core_workspace::double_prime(job, randomness, params, regions, scratch);
+    weigh(job, randomness, witness, params, regions, scratch, with_b)
 }
 
-// φ and b'' together, and then h, for the whole call.
-fn commit_with_b_and_h(
-    job: &[u32],
-    randomness: &[u32],
-    witness: &[u32],
-    params: EnvironmentParameters,
-    regions: Regions,
-    scratch: &mut [u32],
-) -> Proved
-    requires { WorkGiven job.now witness.now params regions scratch.old × Drawn 5 job.now randomness.now }
-    ensures result_value { of_proved result ≡ work job.now randomness.now witness.now round₄ }
-    ensures unchanged { Unchanged (scratch_need (parameters job.now)) scratch.old scratch.new }
-    ensures where_made { WhereMade result (AllMade job.now randomness.now witness.now regions scratch.new) }
-{
-    match commit(job, witness, params, regions, scratch) {
-        Proved::Refused(refusal) => Proved::Refused(refusal),
-        Proved::Made => {
-            core_workspace::double_prime(job, randomness, params, regions, scratch);
-            weigh(job, randomness, witness, params, regions, scratch, true)
-        }
-    }
-}
-
-// Round 5: the challenges after h.
+// Round 5, and the whole call with b'': the challenges after h.
 fn commit_with_challenges(
     job: &[u32],
     randomness: &[u32],
@@ -199,45 +157,20 @@ fn commit_with_challenges(
     params: EnvironmentParameters,
     regions: Regions,
     scratch: &mut [u32],
-) -> Proved
+    with_b: bool,
+) -> Result<(), Refusal>
     requires { WorkGiven job.now witness.now params regions scratch.old × Drawn 7 job.now randomness.now }
-    ensures result_value { of_proved result ≡ work job.now randomness.now witness.now round₅ }
+    ensures result_value { of_result result ≡ work job.now randomness.now witness.now round₅ }
     ensures unchanged { Unchanged (scratch_need (parameters job.now)) scratch.old scratch.new }
-    ensures where_made { WhereMade result (Filled job.now randomness.now witness.now regions scratch.new C.Round5) }
+    ensures made { OnOk result (Filled job.now randomness.now witness.now regions scratch.new (last_call with_b)) }
 {
-    match commit_with_h(job, randomness, witness, params, regions, scratch) {
-        Proved::Refused(refusal) => Proved::Refused(refusal),
-        Proved::Made => {
-            core_workspace::generate_challenges(randomness, params, regions, scratch);
-            Proved::Made
-        }
-    }
-}
-
-// The whole call: each thing once.
-fn commit_for_all(
-    job: &[u32],
-    randomness: &[u32],
-    witness: &[u32],
-    params: EnvironmentParameters,
-    regions: Regions,
-    scratch: &mut [u32],
-) -> Proved
-    requires { WorkGiven job.now witness.now params regions scratch.old × Drawn 7 job.now randomness.now }
-    ensures result_value { of_proved result ≡ work job.now randomness.now witness.now whole }
-    ensures unchanged { Unchanged (scratch_need (parameters job.now)) scratch.old scratch.new }
-    ensures where_made { WhereMade result (Filled job.now randomness.now witness.now regions scratch.new C.Whole) }
-{
-    match commit_with_b_and_h(job, randomness, witness, params, regions, scratch) {
-        Proved::Refused(refusal) => Proved::Refused(refusal),
-        Proved::Made => {
-            core_workspace::generate_challenges(randomness, params, regions, scratch);
-            Proved::Made
-        }
-    }
+    commit_with_h(job, randomness, witness, params, regions, scratch, with_b)?;
+    core_workspace::generate_challenges(randomness, params, regions, scratch);
+    Ok(())
 }
 
 // All that the sections of a call are made of.
+// A match: which call is asked for comes in as a value, and closures would be chosen by the same arms.
 pub fn fill(
     call: Call,
     job: &[u32],
@@ -246,20 +179,24 @@ pub fn fill(
     params: EnvironmentParameters,
     regions: Regions,
     scratch: &mut [u32],
-) -> Proved
+) -> Result<(), Refusal>
     requires { WorkGiven job.now witness.now params regions scratch.old × Drawn (call_of call).handed job.now randomness.now }
-    ensures result_value { of_proved result ≡ work job.now randomness.now witness.now (call_of call) }
+    ensures result_value { of_result result ≡ work job.now randomness.now witness.now (call_of call) }
     ensures unchanged { Unchanged (scratch_need (parameters job.now)) scratch.old scratch.new }
-    ensures where_made { WhereMade result (Filled job.now randomness.now witness.now regions scratch.new call) }
+    ensures made { OnOk result (Filled job.now randomness.now witness.now regions scratch.new call) }
 {
     match call {
-        Call::Whole => commit_for_all(job, randomness, witness, params, regions, scratch),
+        Call::Whole => commit_with_challenges(
+            job, randomness, witness, params, regions, scratch, true,
+        ),
         Call::Round1 => commit(job, witness, params, regions, scratch),
         Call::Round2 => commit(job, witness, params, regions, scratch),
         Call::Round3 => commit_with_b_double_prime(
             job, randomness, witness, params, regions, scratch,
         ),
-        Call::Round4 => commit_with_h(job, randomness, witness, params, regions, scratch),
-        Call::Round5 => commit_with_challenges(job, randomness, witness, params, regions, scratch),
+        Call::Round4 => commit_with_h(job, randomness, witness, params, regions, scratch, false),
+        Call::Round5 => commit_with_challenges(
+            job, randomness, witness, params, regions, scratch, false,
+        ),
     }
 }

@@ -13,6 +13,8 @@ use relation_env_params::env_params::EnvironmentParameters;
 use ring_inner_product::Strided;
 
 // φ of the ring constraints and of the φ'' in its region, and then, where it is asked for, b'' of the a'', φ'' and g in theirs.
+// Not inlined: its buffers lie beside those of φ'' and h, and not above them.
+#[inline(never)]
 pub fn phi_and_b(
     job: &[u32],
     randomness: &[u32],

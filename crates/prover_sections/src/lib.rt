@@ -20,7 +20,7 @@ use commitments_outer::outer_commitments;
 use commitments_outer::outer_commitments::Digits;
 use layout_regions::Regions;
 use layout_sizes::{names, offsets, slices};
-use prover_p_and_b::{compute_p, put_b_double_prime};
+use prover_p_and_b::{compute_p, put_b_double_prime, put_section};
 use relation_env_params::env_params::EnvironmentParameters;
 
 // "u1 = B·digits(t) + C·digits(g)"
@@ -142,9 +142,9 @@ fn put_t_g_h(
     let count = 64 * slices::triangle(params.multiplicity);
     let g_at = at + 1 + cells;
     let h_at = g_at + 1 + count;
-    ring_words::put_section(output, at, scratch, regions.t, cells);
-    ring_words::put_section(output, g_at, scratch, regions.g, count);
-    ring_words::put_section(output, h_at, scratch, regions.a_or_h, count);
+    put_section(output, at, scratch, regions.t, cells);
+    put_section(output, g_at, scratch, regions.g, count);
+    put_section(output, h_at, scratch, regions.a_or_h, count);
     h_at + 1 + count
 }
 
@@ -189,6 +189,7 @@ fn put_all(
 }
 
 // The sections of a call, from what stands in the scratch.
+// A match: which call is asked for comes in as a value, and closures would be chosen by the same arms.
 pub fn put(
     call: Call,
     job: &[u32],

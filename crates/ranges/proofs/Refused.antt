@@ -1,7 +1,7 @@
 -- Refusals as answers of the call on ranges.
 use mathlib.Core.Path.{◌≡◌, sym, ap, ◌∙◌}
 use mathlib.Core.List.{List}
-use Prim.Native.Nat.{ℕ, ◌<◌, min}
+use Prim.Native.Nat.{ℕ, min}
 use native.Mathlib.Decide.{ℕ_discrete}
 use native.Mathlib.Omega.{arith}
 use lib.IntN.{ℤ}
@@ -15,15 +15,14 @@ use Rattle.spec_protocol.proofs.Fine.{require-holds, require_fails, refused_not-
 use Rattle.admission_slices.proofs.Fit.{refusal_none}
 use Rattle.ranges_vectors.specs.Vectors.{range_norms}
 use Rattle.ranges.specs.declared.answers.RangesAnswer.{RangesAnswer}
-use Rattle.ranges.specs.Answers.{refused_ranges, ranges_answer, Ranges}
+use Rattle.ranges.specs.declared.answers.RangesError.{RangesError}
+use Rattle.ranges.specs.declared.answers.RangesError.TheVariants as E
+use Rattle.ranges.specs.Answers.{refused_ranges, ranges_answer, of_ranges_error, Ranges}
 
--- a list that is too short, too long, or right
+-- a list that is of another length, or right
 module _ (need handed : ℕ) where
-  pub too_short : handed < need → refused 11 handed ≡ length_refusal need handed
-  too_short h = let m : handed ≡ min handed need = omega arith in ap (refused 11) m ∙ sym (require_fails (ℕ_discrete handed need) (refused 11 (min handed need)) (λ e. omega arith))
-
-  pub too_long : need < handed → refused 11 need ≡ length_refusal need handed
-  too_long h = let m : need ≡ min handed need = omega arith in ap (refused 11) m ∙ sym (require_fails (ℕ_discrete handed need) (refused 11 (min handed need)) (λ e. omega arith))
+  pub other_length : (shorter : ℕ) → shorter ≡ min handed need → (handed ≡ need → ⊥) → refused 11 shorter ≡ length_refusal need handed
+  other_length shorter e n = ap (refused 11) e ∙ sym (require_fails (ℕ_discrete handed need) (refused 11 (min handed need)) n)
 
   pub right_length : handed ≡ need → fine ≡ length_refusal need handed
   right_length e = sym (require-holds (ℕ_discrete handed need) (refused 11 (min handed need)) e)
@@ -49,9 +48,15 @@ module _ (P : Parameters) (lows highs : List ℤ) (a : Answer) (x : RangesAnswer
       }
 
   -- 36 and 37
-  pub numbered_ranges : (n p : ℕ) → refused n p ≡ a → x ≡ refused_ranges n p → Ranges P lows highs a x
+  numbered_ranges : (n p : ℕ) → refused n p ≡ a → x ≡ refused_ranges n p → Ranges P lows highs a x
   numbered_ranges n p q h = record {
     vectors = λ i. unused;
     hold = λ e. absurd (refused_not-fine n p (q ∙ e));
     answer = h ∙ ap (λ b. ranges_answer b P.r (λ i. unused)) q;
   }
+
+  -- what is refused of the lows and the highs
+  pub error_ranges : (e : RangesError) → of_ranges_error e ≡ a → x ≡ refused_ranges (number (of_ranges_error e)) (place (of_ranges_error e)) → Ranges P lows highs a x
+  error_ranges (E.Refused r) = refusal_ranges r
+  error_ranges (E.Crossed p) = numbered_ranges 36 p
+  error_ranges (E.Beyond p) = numbered_ranges 37 p

@@ -1,20 +1,24 @@
 -- The struct of the call on ranges as an answer, and what its tests stand for (document 02, Item 14).
-use Rattle.std.specs.Prelude.{◌≡◌, List, ℕ, ℤ, length, replicate}
+use Rattle.std.specs.Prelude.{◌≡◌, List, ℕ, ℤ, length, replicate, Result, Ok, Err}
 use Rattle.math.specs.lists.Table.{padded}
 use Rattle.spec_leaves.specs.Answer.{Answer, fine, refused, number, place, result_of, of_refusal, ◌then◌}
 use Rattle.spec_protocol.specs.Parameters.{Parameters, parameters}
 use Rattle.spec_protocol.specs.Ranges.{Answered, unused, AllHold, length_refusal, beyond_refusal, crossed_refusal, pairs_refusal, ranges_refusal}
 use Rattle.ranges_vectors.specs.Vectors.{range_norms}
 use Rattle.ranges.specs.declared.answers.RangesAnswer.{RangesAnswer}
-use Rattle.ranges.specs.declared.answers.RangesChecked.{RangesChecked}
-use Rattle.ranges.specs.declared.answers.RangesChecked.TheVariants as C
+use Rattle.ranges.specs.declared.answers.RangesError.{RangesError}
+use Rattle.ranges.specs.declared.answers.RangesError.TheVariants as E
 
--- "36 a pair whose low is above its high", "37 a number beyond ±2147483647": the numbers and places of what is found
-abbrev pub of_ranges_checked : RangesChecked → Answer
-of_ranges_checked C.Fine = fine
-of_ranges_checked (C.Refused r) = of_refusal r
-of_ranges_checked (C.Crossed p) = refused 36 p
-of_ranges_checked (C.Beyond p) = refused 37 p
+-- "36 a pair whose low is above its high", "37 a number beyond ±2147483647": the numbers and places of what is refused
+abbrev pub of_ranges_error : RangesError → Answer
+of_ranges_error (E.Refused r) = of_refusal r
+of_ranges_error (E.Crossed p) = refused 36 p
+of_ranges_error (E.Beyond p) = refused 37 p
+
+-- what is found of the lows and the highs
+abbrev pub of_ranges_checked : {T : Type 0} → Result T RangesError → Answer
+of_ranges_checked (Ok value) = fine
+of_ranges_checked (Err e) = of_ranges_error e
 
 -- the refusals of the lows and the highs, of which there should be so many
 abbrev pub lists_refusal : ℕ → (lows highs : List ℤ) → Answer

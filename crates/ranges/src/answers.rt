@@ -1,9 +1,10 @@
 // What the call on ranges answers.
 ghost use Rattle.std.specs.Prelude.{◌≡◌};
 ghost use Rattle.spec_leaves.specs.Answer.{number, place, of_refusal};
-ghost use Rattle.ranges.specs.Answers.{refused_ranges};
+ghost use Rattle.ranges.specs.declared.answers.RangesError.TheVariants as Error;
+ghost use Rattle.ranges.specs.Answers.{refused_ranges, of_ranges_error};
 
-use api_answers::numbers::number_of;
+use api_answers::numbers::Numbered;
 use ranges_vectors::vectors::RangeNorms;
 use spec_leaves::answers::Refusal;
 
@@ -16,37 +17,50 @@ pub struct RangesAnswer {
     pub vectors: [RangeNorms; 16],
 }
 
-// What is found of the lows and the highs.
-#[derive(Clone, Copy)]
-pub enum RangesChecked {
-    Fine,
+// Why the lows and the highs are refused. The number held is the place.
+#[derive(Clone, Copy, Debug, PartialEq, Eq)]
+pub enum RangesError {
     Refused(Refusal),
     Crossed(usize),
     Beyond(usize),
 }
 
-// A number and a place alone.
-pub fn refused(number: u32, place: usize) -> RangesAnswer
-    ensures { result ≡ refused_ranges number place }
-{
-    let vectors = [RangeNorms {
-        meets: 0,
-        least_hi: 0,
-        least_lo: 0,
-        greatest_hi: 0,
-        greatest_lo: 0,
-    }; 16];
-    RangesAnswer {
-        number,
-        place: place as u64,
-        vectors,
+impl From<Refusal> for RangesError {
+    ghost from_gives = { λ refusal error. error ≡ Error.Refused refusal };
+
+    fn from(refusal: Refusal) -> RangesError {
+        RangesError::Refused(refusal)
     }
 }
 
-// A refusal of document 01's list.
-pub fn refusal_of(refusal: Refusal) -> RangesAnswer
-    ensures { result ≡ refused_ranges (number (of_refusal refusal)) (place (of_refusal refusal)) }
+// A number and a place alone.
+fn refused(number: u32, place: usize) -> RangesAnswer
+    ensures { result ≡ refused_ranges number place }
 {
-    let found = number_of(refusal);
-    refused(found.number, found.place)
+    RangesAnswer {
+        number,
+        place: place as u64,
+        vectors: [RangeNorms::UNUSED; 16],
+    }
+}
+
+impl From<Refusal> for RangesAnswer {
+    ghost from_gives = { λ refusal answer. answer ≡ refused_ranges (number (of_refusal refusal)) (place (of_refusal refusal)) };
+
+    fn from(refusal: Refusal) -> RangesAnswer {
+        let found = Numbered::from(refusal);
+        refused(found.number, found.place)
+    }
+}
+
+impl From<RangesError> for RangesAnswer {
+    ghost from_gives = { λ error answer. answer ≡ refused_ranges (number (of_ranges_error error)) (place (of_ranges_error error)) };
+
+    fn from(error: RangesError) -> RangesAnswer {
+        match error {
+            RangesError::Refused(refusal) => RangesAnswer::from(refusal),
+            RangesError::Crossed(place) => refused(36, place),
+            RangesError::Beyond(place) => refused(37, place),
+        }
+    }
 }

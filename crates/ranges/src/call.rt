@@ -3,9 +3,8 @@ ghost use Rattle.relation_env_params.specs.Parameters.{parameters_of};
 ghost use Rattle.layout_sizes.specs.Sizes.{Sized};
 ghost use Rattle.ranges.specs.Answers.{RangesCall, RangesOf};
 
-use crate::answers::{RangesAnswer, RangesChecked, refusal_of, refused};
+use crate::answers::RangesAnswer;
 use crate::checks;
-use admission_slices::answers::Admitted;
 use admission_slices::job;
 use ranges_vectors::vectors::vectors;
 use relation_env_params::env_params::EnvironmentParameters;
@@ -18,17 +17,12 @@ fn of_parameters(params: EnvironmentParameters, lows: &[i64], highs: &[i64]) -> 
     let count = 64 * params.rank;
     let r = params.multiplicity;
     match checks::check(lows, highs, 64 * (r * params.rank)) {
-        RangesChecked::Refused(refusal) => refusal_of(refusal),
-        RangesChecked::Crossed(place) => refused(36, place),
-        RangesChecked::Beyond(place) => refused(37, place),
-        RangesChecked::Fine => {
-            let found = vectors(lows, highs, count, r, params.bound_a);
-            RangesAnswer {
-                number: 0,
-                place: 0,
-                vectors: found,
-            }
-        }
+        Ok(()) => RangesAnswer {
+            number: 0,
+            place: 0,
+            vectors: vectors(lows, highs, count, r, params.bound_a),
+        },
+        Err(error) => RangesAnswer::from(error),
     }
 }
 
@@ -38,7 +32,7 @@ pub fn ranges(job: &[u32], lows: &[i64], highs: &[i64]) -> RangesAnswer
     ensures { RangesCall job.now lows.now highs.now result }
 {
     match job::check(job) {
-        Admitted::Refused(refusal) => refusal_of(refusal),
-        Admitted::Fit(params) => of_parameters(params, lows, highs),
+        Ok(params) => of_parameters(params, lows, highs),
+        Err(refusal) => RangesAnswer::from(refusal),
     }
 }

@@ -1,53 +1,42 @@
 // The refusals after the job's: 11, 37 and 36.
 ghost use Rattle.std.specs.Prelude.{◌≡◌, ◌≤◌, length};
-ghost use Rattle.spec_leaves.specs.Answer.{◌then◌};
+ghost use Rattle.spec_leaves.specs.Answer.{of_result, ◌then◌};
 ghost use Rattle.spec_protocol.specs.Ranges.{length_refusal, beyond_refusal, crossed_refusal};
-ghost use Rattle.admission_slices.specs.Admission.{of_slice_checked};
 ghost use Rattle.ranges.specs.Answers.{of_ranges_checked, lists_refusal};
 
-use crate::answers::RangesChecked;
-use admission_slices::answers::SliceChecked;
+use crate::answers::RangesError;
 use ranges_vectors::pairs::{first_beyond, first_crossed};
 use spec_leaves::answers::Refusal;
 
 // 11: a list of another length than needed.
-fn check_length(need: usize, handed: usize) -> SliceChecked
-    ensures { of_slice_checked result ≡ length_refusal need handed }
+fn check_length(need: usize, handed: usize) -> Result<(), Refusal>
+    ensures { of_result result ≡ length_refusal need handed }
 {
-    if handed < need {
-        return SliceChecked::Refused(Refusal::WitnessLayout(handed));
+    if handed != need {
+        return Err(Refusal::WitnessLayout(handed.min(need)));
     }
-    if need < handed {
-        return SliceChecked::Refused(Refusal::WitnessLayout(need));
-    }
-    SliceChecked::Fine
+    Ok(())
 }
 
 // 37 over all pairs, then 36.
-fn check_pairs(lows: &[i64], highs: &[i64], count: usize) -> RangesChecked
+fn check_pairs(lows: &[i64], highs: &[i64], count: usize) -> Result<(), RangesError>
     requires { (count ≤ length lows.now) × (count ≤ length highs.now) }
     ensures { of_ranges_checked result ≡ beyond_refusal count lows.now highs.now then crossed_refusal count lows.now highs.now }
 {
-    let beyond = first_beyond(lows, highs, count);
-    if beyond < count {
-        return RangesChecked::Beyond(beyond);
+    if let Some(place) = first_beyond(lows, highs, count) {
+        return Err(RangesError::Beyond(place));
     }
-    let crossed = first_crossed(lows, highs, count);
-    if crossed < count {
-        return RangesChecked::Crossed(crossed);
+    if let Some(place) = first_crossed(lows, highs, count) {
+        return Err(RangesError::Crossed(place));
     }
-    RangesChecked::Fine
+    Ok(())
 }
 
 // "a wrong length is an 11, lows before highs"; then the pairs.
-pub fn check(lows: &[i64], highs: &[i64], count: usize) -> RangesChecked
+pub fn check(lows: &[i64], highs: &[i64], count: usize) -> Result<(), RangesError>
     ensures { of_ranges_checked result ≡ lists_refusal count lows.now highs.now }
 {
-    match check_length(count, lows.len()) {
-        SliceChecked::Refused(refusal) => RangesChecked::Refused(refusal),
-        SliceChecked::Fine => match check_length(count, highs.len()) {
-            SliceChecked::Refused(refusal) => RangesChecked::Refused(refusal),
-            SliceChecked::Fine => check_pairs(lows, highs, count),
-        },
-    }
+    check_length(count, lows.len())?;
+    check_length(count, highs.len())?;
+    check_pairs(lows, highs, count)
 }

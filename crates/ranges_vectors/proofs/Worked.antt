@@ -1,16 +1,13 @@
 -- What the code works out holds of the choices.
-use mathlib.Core.Path.{◌≡◌, refl, ap, ◌∙◌}
+use mathlib.Core.Path.{◌≡◌, refl}
 use mathlib.Core.Bool.{Bool, true, false, cond}
 use mathlib.Core.List.{List}
-use Prim.Native.Nat.{ℕ, ◌+◌, ◌/◌, ◌%◌, ◌^◌, ◌≤◌, ◌<◌}
+use Prim.Native.Nat.{ℕ, ◌+◌, ◌≤◌}
 use borrow.Author.Tests.{leb-true, leb-false}
 use lib.Dec.{leb}
 use lib.IntN.{ℤ}
 use lib.ListN.{length}
 use Rattle.math.specs.lists.Part.{part}
-use Rattle.spec_leaves.specs.declared.answers.U128.{U128}
-use Rattle.spec_leaves.specs.Answer.{value128}
-use Rattle.spec_leaves.proofs.Modulo.{upper-part, lower_part}
 use Rattle.spec_protocol.specs.Ranges.{norm, SmallestNorm, LargestNorm, Meets, Holds}
 use Rattle.spec_protocol.proofs.Ranges.{meets-every, meets-some, meets-none}
 use Rattle.ranges_vectors.specs.Ends.{nearest, farthest, picked}
@@ -37,13 +34,3 @@ worked-holds bound lows highs from count f g ordered =
       least = s;
       greatest = l;
     }
-
--- the two u64 of a value
-module _ (x : U128) (v : ℕ) (fits : x.lo < 2 ^ 64) (same : value128 x ≡ v) where
-  pub hi_is : x.hi ≡ v / 2 ^ 64
-  unfolding value128
-  hi_is = upper-part x.hi x.lo fits ∙ ap (λ n. n / 2 ^ 64) same
-
-  pub lo_is : x.lo ≡ v % 2 ^ 64
-  unfolding value128
-  lo_is = lower_part x.hi x.lo fits ∙ ap (λ n. n % 2 ^ 64) same

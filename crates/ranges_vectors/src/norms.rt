@@ -1,19 +1,17 @@
 // The smallest and the largest squared norm of numbers that are known within ranges.
-ghost use Rattle.std.specs.Prelude.{◌≡◌, ◌+◌, ◌≤◌, ◌<◌, ◌^◌, nat_abs, length};
+ghost use Rattle.std.specs.Prelude.{◌≡◌, ◌+◌, ◌*◌, ◌≤◌, ◌<◌, ◌^◌, nat_abs, length};
 ghost use Rattle.std.specs.Int.{w64};
 ghost use Rattle.std.proofs.Common.{SFits};
-ghost use Rattle.spec_leaves.specs.Answer.{value128};
 ghost use Rattle.spec_protocol.specs.Ranges.{number_at, square, norm};
 ghost use Rattle.ranges_vectors.specs.Ends.{Centred, AllCentred, nearest, farthest, picked};
 
 use ring_zq::norm;
-use spec_leaves::answers::U128;
 
 // The smallest and the largest norm.
 #[derive(Clone, Copy)]
 pub struct Norms {
-    pub least: U128,
-    pub greatest: U128,
+    pub least: u128,
+    pub greatest: u128,
 }
 
 // The size of a centred number.
@@ -21,7 +19,7 @@ fn size(x: i64) -> u32
     requires { Centred x }
     ensures { result ≡ nat_abs x }
 {
-    if x < 0 { (0 - x) as u32 } else { x as u32 }
+    x.unsigned_abs() as u32
 }
 
 // The smallest size in a range.
@@ -43,9 +41,7 @@ fn largest(low: i64, high: i64) -> u32
     requires { Centred low × Centred high }
     ensures { result ≡ nat_abs (farthest low high) }
 {
-    let below = size(low);
-    let above = size(high);
-    if below < above { above } else { below }
+    size(low).max(size(high))
 }
 
 // Number `at` of a slice.
@@ -58,29 +54,29 @@ pub fn number(xs: &[i64], at: usize) -> i64
 
 // The norms with those of one more range added.
 fn add_range(sum: Norms, low: i64, high: i64) -> Norms
-    requires { (sum.least.hi + 1 < 2 ^ 64) × (sum.greatest.hi + 1 < 2 ^ 64) × Centred low × Centred high }
-    ensures least_value { (value128 result.least ≡ value128 sum.least + square (nearest low high)) × (result.least.hi ≤ sum.least.hi + 1) }
-    ensures greatest_value { (value128 result.greatest ≡ value128 sum.greatest + square (farthest low high)) × (result.greatest.hi ≤ sum.greatest.hi + 1) }
+    requires room { (sum.least + 2 ^ 64 ≤ 2 ^ 128) × (sum.greatest + 2 ^ 64 ≤ 2 ^ 128) }
+    requires centred { Centred low × Centred high }
+    ensures least_value { (result.least ≡ sum.least + square (nearest low high)) × (result.least ≤ sum.least + 2 ^ 64) }
+    ensures greatest_value { (result.greatest ≡ sum.greatest + square (farthest low high)) × (result.greatest ≤ sum.greatest + 2 ^ 64) }
 {
-    let least = norm::add_square(sum.least, smallest(low, high));
-    let greatest = norm::add_square(sum.greatest, largest(low, high));
-    Norms { least, greatest }
+    Norms {
+        least: norm::add_square(sum.least, smallest(low, high)),
+        greatest: norm::add_square(sum.greatest, largest(low, high)),
+    }
 }
 
 // The norms of the `count` ranges from `at` on.
 pub fn norms_of(lows: &[i64], highs: &[i64], at: usize, count: usize) -> Norms
     requires { AllCentred lows.now highs.now × (at + count ≤ length lows.now) × (at + count ≤ length highs.now) }
-    ensures least_value { value128 result.least ≡ norm (picked nearest lows.now highs.now at count) }
-    ensures greatest_value { value128 result.greatest ≡ norm (picked farthest lows.now highs.now at count) }
+    ensures least_value { result.least ≡ norm (picked nearest lows.now highs.now at count) }
+    ensures greatest_value { result.greatest ≡ norm (picked farthest lows.now highs.now at count) }
 {
     let mut total = Norms {
-        least: U128 { hi: 0, lo: 0 },
-        greatest: U128 { hi: 0, lo: 0 },
+        least: 0,
+        greatest: 0,
     };
-    let mut j = 0;
-    while j < count {
+    for j in 0..count {
         total = add_range(total, number(lows, at + j), number(highs, at + j));
-        j += 1;
     }
     total
 }

@@ -11,21 +11,14 @@ use spec_leaves::modulus;
 fn is_beyond(x: i64) -> bool
     ensures { result ≡ is_beyond x }
 {
-    if x < 0 {
-        x < modulus::MINUS_HALF
-    } else {
-        modulus::HALF_I64 < x
-    }
+    x < modulus::MINUS_HALF || modulus::HALF_I64 < x
 }
 
-// Whether one of a pair does.
+// Whether one of a pair is.
 fn either_beyond(low: i64, high: i64) -> bool
     ensures { result ≡ is_beyond low || is_beyond high }
 {
-    if is_beyond(low) {
-        return true;
-    }
-    is_beyond(high)
+    is_beyond(low) || is_beyond(high)
 }
 
 // Whether a low is at most its high.
@@ -35,33 +28,28 @@ fn in_order(low: i64, high: i64) -> bool
     low <= high
 }
 
-// 37: the first pair with a number that is no centre, or the count where there is none.
-pub fn first_beyond(lows: &[i64], highs: &[i64], count: usize) -> usize
+// 37: the first pair with a number that is no centre.
+pub fn first_beyond(lows: &[i64], highs: &[i64], count: usize) -> Option<usize>
     requires { (count ≤ length lows.now) × (count ≤ length highs.now) }
-    ensures { found 37 result count ≡ beyond_refusal count lows.now highs.now }
+    ensures { found 37 result ≡ beyond_refusal count lows.now highs.now }
 {
-    let mut j = 0;
-    while j < count {
+    for j in 0..count {
         if either_beyond(number(lows, j), number(highs, j)) {
-            return j;
+            return Some(j);
         }
-        j += 1;
     }
-    count
+    None
 }
 
-// 36: the first pair whose low is above its high, or the count where there is none.
-pub fn first_crossed(lows: &[i64], highs: &[i64], count: usize) -> usize
+// 36: the first pair whose low is above its high.
+pub fn first_crossed(lows: &[i64], highs: &[i64], count: usize) -> Option<usize>
     requires { (count ≤ length lows.now) × (count ≤ length highs.now) }
-    ensures { found 36 result count ≡ crossed_refusal count lows.now highs.now }
+    ensures { found 36 result ≡ crossed_refusal count lows.now highs.now }
 {
-    let mut j = 0;
-    while j < count {
-        if in_order(number(lows, j), number(highs, j)) {
-            j += 1;
-        } else {
-            return j;
+    for j in 0..count {
+        if !in_order(number(lows, j), number(highs, j)) {
+            return Some(j);
         }
     }
-    count
+    None
 }

@@ -1,5 +1,4 @@
 -- What the record of the code stands for.
-use Rattle.spec_leaves.specs.Answer.{value128}
 use Rattle.spec_protocol.specs.Parameters.{Parameters}
 use Rattle.relation_env_params.specs.declared.env_params.EnvironmentParameters.{EnvironmentParameters}
 
@@ -18,10 +17,10 @@ parameters_of params = record {
   t₁ = params.t_1;
   t₂ = params.t_2;
   L = params.const_agg_length;
-  beta_sq = value128 params.beta_sq;
-  beta_prime_sq = value128 params.beta_prime_sq;
-  bound_A = value128 params.bound_a;
-  bound_B = value128 params.bound_b;
-  bound_C = value128 params.bound_c;
-  bound_D = value128 params.bound_d;
+  beta_sq = params.beta_sq;
+  beta_prime_sq = params.beta_prime_sq;
+  bound_A = params.bound_a;
+  bound_B = params.bound_b;
+  bound_C = params.bound_c;
+  bound_D = params.bound_d;
 }

@@ -1,11 +1,8 @@
 // The parameters (relation/env_params.rs), read from the words of the job's section one.
+// A slice is passed whole with the place of its run: contracts speak of places in the whole slice, and a struct of the two would be built anew at each call.
 ghost use Rattle.std.specs.Prelude.{◌≡◌, ◌+◌, ◌≤◌, ◌<◌, length, get_or};
-ghost use Rattle.spec_leaves.specs.Answer.{value128};
 ghost use Rattle.spec_protocol.specs.Parameters.{three_words, rounded_up, parameters};
 ghost use Rattle.relation_env_params.specs.Parameters.{parameters_of};
-
-use ring_zq::wide::wide;
-use spec_leaves::answers::U128;
 
 // The Rust's record, less what neither prover nor verifier reads (b_1, b_2 and the gammas), with the norm bounds of A, B, C and D.
 #[derive(Clone, Copy)]
@@ -18,8 +15,8 @@ pub struct EnvironmentParameters {
     pub b: u32,
     pub t_1: usize,
     pub t_2: usize,
-    pub beta_sq: U128,
-    pub beta_prime_sq: U128,
+    pub beta_sq: u128,
+    pub beta_prime_sq: u128,
     // the rows of A, of B and C, and of D
     pub kappa: usize,
     pub kappa_1: usize,
@@ -29,14 +26,15 @@ pub struct EnvironmentParameters {
     pub constraint_l: usize,
     pub const_agg_length: usize,
     pub log_q: usize,
-    pub bound_a: U128,
-    pub bound_b: U128,
-    pub bound_c: U128,
-    pub bound_d: U128,
+    pub bound_a: u128,
+    pub bound_b: u128,
+    pub bound_c: u128,
+    pub bound_d: u128,
 }
 
 const SECURITY_PARAMETER: usize = 128;
 
+// A word as a usize: Rust has no `From<u32>` for usize.
 fn size(job: &[u32], at: usize) -> usize
     requires { at < length job.now }
     ensures { result ≡ get_or job.now at 0 }
@@ -45,14 +43,14 @@ fn size(job: &[u32], at: usize) -> usize
 }
 
 // "each three words, least first"
-fn bound(job: &[u32], at: usize) -> U128
+fn bound(job: &[u32], at: usize) -> u128
     requires { at + 2 < length job.now }
-    ensures { value128 result ≡ three_words job.now at }
+    ensures { result ≡ three_words job.now at }
 {
-    U128 {
-        hi: wide(job[at + 2]),
-        lo: wide(job[at]) + wide(job[at + 1]) * 4294967296,
-    }
+    let least = u128::from(job[at]);
+    let middle = u128::from(job[at + 1]);
+    let most = u128::from(job[at + 2]);
+    least + middle * 4294967296 + most * 18446744073709551616
 }
 
 // "128 divided by log_q, rounded up": the least L.
@@ -60,7 +58,7 @@ pub fn least_aggregations(log_q: usize) -> usize
     requires { (16 ≤ log_q) × (log_q ≤ 32) }
     ensures { result ≡ rounded_up log_q }
 {
-    (SECURITY_PARAMETER - 1 + log_q) / log_q
+    SECURITY_PARAMETER.div_ceil(log_q)
 }
 
 impl EnvironmentParameters {

@@ -1,5 +1,6 @@
 // The left side of one constraint (`calculate_b_constraint` of relation/statement.rs): Σ a_ij·⟨s_i, s_j⟩ + Σ ⟨φ_i, s_i⟩, of a triangle a and r vectors
 // φ_i and s_i of n elements.
+// A slice is passed whole with the place of its run: contracts speak of places in the whole slice, and a struct of the two would be built anew at each call.
 #![tactic(auto)]
 
 ghost use Rattle.std.specs.Prelude.{◌≡◌, ◌+◌, ◌*◌, ◌≤◌, ◌<◌, length};
@@ -22,14 +23,12 @@ fn left_of_diagonal(a: &[u32], row: usize, s: &[u32], s_at: usize, n: usize, i: 
     let mut total = Rq::zero();
     let mut place = row;
     let mut s_j = s_at;
-    let mut j = 0;
-    while j < i {
+    for j in 0..i {
         let product = ring_inner_product::inner_product(s, s_i, 64, s, s_j, 64, n);
         let next = total.add(ring_words::load(a, place).mul(product));
         total = next;
         place += 64;
         s_j += 64 * n;
-        j += 1;
     }
     total
 }
@@ -53,12 +52,10 @@ pub fn quadratic(a: &[u32], a_at: usize, s: &[u32], s_at: usize, r: usize, n: us
 {
     let mut total = Rq::zero();
     let mut row = a_at;
-    let mut i = 0;
-    while i < r {
+    for i in 0..r {
         let next = total.add(constraint_row(a, row, s, s_at, n, i));
         total = next;
-        i += 1;
-        row += 64 * i;
+        row += 64 * (i + 1);
     }
     total
 }

@@ -20,6 +20,5 @@ pub fn same_zq(body: &[u8], k: usize, answer: WordAnswer) -> bool
 pub fn same_rq(body: &[u8], k: usize, answer: ElementAnswer) -> bool
     requires { k < 4000 }
 {
-    let coeffs = answer.coeffs;
-    same_refusal(body, k, answer.number, answer.place) && words::same(body, k + 2, &coeffs)
+    same_refusal(body, k, answer.number, answer.place) && words::same(body, k + 2, &answer.coeffs)
 }

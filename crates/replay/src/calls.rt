@@ -1,32 +1,25 @@
 // Each recorded call on whole slices, made again: its answer and the words that it leaves are compared with the recorded ones.
 use api_answers::verdicts::{LabradorAnswer, LabradorVerdict};
 use labrador::{calls, needs};
-use replay_records::sections::VERIFY;
-use replay_records::{marks, sections, slices, words};
+use replay_records::sections::Call;
+use replay_records::slices::{Run, Slice};
+use replay_records::{marks, sections, words};
 
 // What a call leaves: both buffers as they were, zeros in the output, or words of the transcript in the output.
-const UNTOUCHED: u32 = 0;
+#[derive(Clone, Copy)]
+enum Left {
+    Untouched,
+    Zeros,
+    OfTranscript,
+}
 
-const ZEROS: u32 = 1;
-
-const OF_TRANSCRIPT: u32 = 2;
-
-// The prover or one of its rounds.
-fn prove(
-    call: u32,
-    job: &[u32],
-    randomness: &[u32],
-    witness: &[u32],
-    scratch: &mut [u32],
-    output: &mut [u32],
-) -> LabradorAnswer {
-    match call {
-        1 => calls::labrador_round_1(job, randomness, witness, scratch, output),
-        2 => calls::labrador_round_2(job, randomness, witness, scratch, output),
-        3 => calls::labrador_round_3(job, randomness, witness, scratch, output),
-        4 => calls::labrador_round_4(job, randomness, witness, scratch, output),
-        5 => calls::labrador_round_5(job, randomness, witness, scratch, output),
-        _ => calls::labrador_prove(job, randomness, witness, scratch, output),
+// What the recorded call leaves; none where the record says nothing known.
+fn left_of(body: &[u8]) -> Option<Left> {
+    match words::at(body, 15) {
+        0 => Some(Left::Untouched),
+        1 => Some(Left::Zeros),
+        2 => Some(Left::OfTranscript),
+        _ => None,
     }
 }
 
@@ -45,27 +38,27 @@ fn verdict_of(answer: LabradorAnswer) -> LabradorVerdict {
 }
 
 // The recorded call with buffers of the recorded lengths.
-fn answer(body: &[u8], run: &[u32], scratch: &mut [u32], output: &mut [u32]) -> LabradorVerdict {
-    let call = words::at(body, 0);
-    let job = slices::slice(run, 0);
-    let randomness = slices::slice(run, 1);
-    if call == VERIFY {
-        calls::labrador_verify(job, randomness, slices::slice(run, 3), scratch)
-    } else {
-        verdict_of(prove(
-            call,
-            job,
-            randomness,
-            slices::slice(run, 2),
-            scratch,
-            output,
-        ))
-    }
+fn answer(body: &[u8], run: &Run, scratch: &mut [u32], output: &mut [u32]) -> LabradorVerdict {
+    let job = run.slice(Slice::Job);
+    let randomness = run.slice(Slice::Randomness);
+    let witness = run.slice(Slice::Witness);
+    let made = match sections::call_of(body) {
+        Call::Prove => calls::labrador_prove(job, randomness, witness, scratch, output),
+        Call::Round1 => calls::labrador_round_1(job, randomness, witness, scratch, output),
+        Call::Round2 => calls::labrador_round_2(job, randomness, witness, scratch, output),
+        Call::Round3 => calls::labrador_round_3(job, randomness, witness, scratch, output),
+        Call::Round4 => calls::labrador_round_4(job, randomness, witness, scratch, output),
+        Call::Round5 => calls::labrador_round_5(job, randomness, witness, scratch, output),
+        Call::Verify => {
+            return calls::labrador_verify(job, randomness, run.slice(Slice::Transcript), scratch);
+        }
+    };
+    verdict_of(made)
 }
 
 // Whether an answer is the recorded one.
 fn same_answer(body: &[u8], found: LabradorVerdict) -> bool {
-    found.number == words::at(body, 3)
+    found.number == number(body)
         && found.index == words::at(body, 4)
         && found.place == words::at_64(body, 5)
         && found.first_lo == words::at_64(body, 7)
@@ -76,43 +69,34 @@ fn same_answer(body: &[u8], found: LabradorVerdict) -> bool {
 }
 
 // Makes the recorded call with the first words of two buffers, and compares its answer; false where a buffer is too short.
-fn same_call(body: &[u8], run: &[u32], scratch: &mut [u32], output: &mut [u32]) -> bool {
-    let scratch_length = words::at(body, 1) as usize;
-    let output_length = words::at(body, 2) as usize;
-    if scratch_length > scratch.len() {
+fn same_call(body: &[u8], run: &Run, scratch: &mut [u32], output: &mut [u32]) -> bool {
+    let Some(scratch) = scratch.get_mut(..words::at(body, 1) as usize) else {
         return false;
-    }
-    if output_length > output.len() {
+    };
+    let Some(output) = output.get_mut(..words::at(body, 2) as usize) else {
         return false;
-    }
-    let found = answer(
-        body,
-        run,
-        &mut scratch[..scratch_length],
-        &mut output[..output_length],
-    );
-    same_answer(body, found)
+    };
+    same_answer(body, answer(body, run, scratch, output))
 }
 
-// Whether a worked call leaves what is recorded in the output.
-fn same_output(body: &[u8], run: &[u32], output: &[u32]) -> bool {
-    match words::at(body, 15) {
-        ZEROS => marks::zero_to(output, words::at(body, 17) as usize),
-        OF_TRANSCRIPT => sections::same_made(body, run, output),
-        _ => false,
-    }
+// Whether a worked call leaves the scratch zero to the length needed, and was handed whole sections.
+fn same_worked(body: &[u8], run: &Run, scratch: &[u32]) -> bool {
+    let need = needs::labrador_scratch_need(run.slice(Slice::Job));
+    need.number == 0 && marks::zero_to(scratch, need.words as usize) && sections::whole(body, run)
 }
 
 // Whether the two buffers, which were all marks, hold what is recorded.
-fn same_left(body: &[u8], run: &[u32], scratch: &[u32], output: &[u32]) -> bool {
-    if words::at(body, 15) == UNTOUCHED {
-        return marks::zero_to(scratch, 0) && marks::zero_to(output, 0);
+fn same_left(body: &[u8], run: &Run, scratch: &[u32], output: &[u32]) -> bool {
+    match left_of(body) {
+        Some(Left::Untouched) => marks::zero_to(scratch, 0) && marks::zero_to(output, 0),
+        Some(Left::Zeros) => {
+            same_worked(body, run, scratch) && marks::zero_to(output, words::at(body, 17) as usize)
+        }
+        Some(Left::OfTranscript) => {
+            same_worked(body, run, scratch) && sections::same_made(body, run, output)
+        }
+        None => false,
     }
-    let need = needs::labrador_scratch_need(slices::slice(run, 0));
-    need.number == 0
-        && marks::zero_to(scratch, need.words as usize)
-        && sections::whole(body, run)
-        && same_output(body, run, output)
 }
 
 // The recorded number.
@@ -122,11 +106,11 @@ pub fn number(body: &[u8]) -> u32 {
 
 // Whether the recorded call is the verifier's.
 pub fn verifies(body: &[u8]) -> bool {
-    words::at(body, 0) == VERIFY
+    sections::call_of(body) == Call::Verify
 }
 
 // Whether the recorded call gives the recorded answer and leaves the recorded words.
-pub fn same(body: &[u8], run: &[u32]) -> bool {
+pub fn same(body: &[u8], run: &Run) -> bool {
     let mut scratch = [marks::MARK; 16384];
     let mut output = [marks::MARK; 8192];
     same_call(body, run, &mut scratch, &mut output) && same_left(body, run, &scratch, &output)

@@ -1,25 +1,38 @@
-// The leaf calls on elements, of kinds 8 to 16.
+// The leaf calls on elements: whether each gives the recorded answer.
 use crate::answers;
 use labrador::elements::ChallengeWords;
 use labrador::{digits, elements};
 use replay_records::words;
 
-fn two_elements(kind: u32, body: &[u8]) -> bool {
-    let a = words::element(body, 0);
-    let b = words::element(body, 64);
-    match kind {
-        8 => answers::same_rq(body, 128, elements::labrador_rq_add(a, b)),
-        9 => answers::same_rq(body, 128, elements::labrador_rq_sub(a, b)),
-        _ => answers::same_rq(body, 128, elements::labrador_rq_mul(a, b)),
-    }
+pub fn add(body: &[u8]) -> bool {
+    let answer = elements::labrador_rq_add(words::element(body, 0), words::element(body, 64));
+    answers::same_rq(body, 128, answer)
 }
 
-fn scaled(body: &[u8]) -> bool {
+pub fn sub(body: &[u8]) -> bool {
+    let answer = elements::labrador_rq_sub(words::element(body, 0), words::element(body, 64));
+    answers::same_rq(body, 128, answer)
+}
+
+pub fn mul(body: &[u8]) -> bool {
+    let answer = elements::labrador_rq_mul(words::element(body, 0), words::element(body, 64));
+    answers::same_rq(body, 128, answer)
+}
+
+pub fn scale(body: &[u8]) -> bool {
     let answer = elements::labrador_rq_scale(words::element(body, 0), words::at(body, 64));
     answers::same_rq(body, 65, answer)
 }
 
-fn norm(body: &[u8]) -> bool {
+pub fn conj(body: &[u8]) -> bool {
+    answers::same_rq(
+        body,
+        64,
+        elements::labrador_rq_conj(words::element(body, 0)),
+    )
+}
+
+pub fn norm(body: &[u8]) -> bool {
     let answer = elements::labrador_rq_norm(words::element(body, 0));
     answers::same_refusal(body, 64, answer.number, answer.place)
         && answer.lo == words::at_64(body, 66)
@@ -27,7 +40,7 @@ fn norm(body: &[u8]) -> bool {
 }
 
 // The rows are compared over a buffer that the call must overwrite.
-fn digit_rows(body: &[u8]) -> bool {
+pub fn digit_rows(body: &[u8]) -> bool {
     let mut rows = [1u32; 2048];
     let answer = digits::labrador_rq_digits(
         words::at(body, 0),
@@ -38,7 +51,7 @@ fn digit_rows(body: &[u8]) -> bool {
     answers::same_refusal(body, 66, answer.number, answer.place) && words::same(body, 68, &rows)
 }
 
-fn left_over(body: &[u8]) -> bool {
+pub fn left_over(body: &[u8]) -> bool {
     let answer = digits::labrador_rq_left(
         words::at(body, 0),
         words::at(body, 1),
@@ -47,27 +60,9 @@ fn left_over(body: &[u8]) -> bool {
     answers::same_rq(body, 66, answer)
 }
 
-fn challenge(body: &[u8]) -> bool {
+pub fn challenge(body: &[u8]) -> bool {
     let mut drawn = [0u32; 104];
     words::copy(body, 0, &mut drawn);
     let answer = elements::labrador_challenge(ChallengeWords { words: drawn });
     answers::same_rq(body, 104, answer)
-}
-
-// Whether the call of a record's kind gives the recorded answer.
-pub fn same(kind: u32, body: &[u8]) -> bool {
-    match kind {
-        8 | 9 | 10 => two_elements(kind, body),
-        11 => scaled(body),
-        12 => answers::same_rq(
-            body,
-            64,
-            elements::labrador_rq_conj(words::element(body, 0)),
-        ),
-        13 => norm(body),
-        14 => digit_rows(body),
-        15 => challenge(body),
-        16 => left_over(body),
-        _ => false,
-    }
 }

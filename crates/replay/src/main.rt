@@ -9,115 +9,67 @@ mod leaves;
 mod numbers;
 
 use anyhow::{Context, Result};
-use replay_records::reading::Next;
-use replay_records::{counts, reading, report, slices, words};
+use replay_records::counts::Tally;
+use replay_records::kinds::Kind;
+use replay_records::slices::Run;
+use replay_records::{reading, report, words};
 use std::io::Read;
 use std::rt::Files;
 use std::{fs, io};
 
-// The kind of a file's last record, whose body counts the others.
-const END: u32 = 63;
-
-// Words put into a slice, a slice's length, and a call.
-const PUT: u32 = 32;
-
-const LENGTH: u32 = 33;
-
-const CALL: u32 = 34;
-
-// Counts a leaf call.
-fn take_leaf(
-    rt: &impl Print,
-    kind: u32,
-    body: &[u8],
-    record: u64,
-    tally: &mut [u64],
-) -> io::Result<()> {
-    counts::bump(tally, counts::all_of(kind));
-    if leaves::same(kind, body) {
-        counts::bump(tally, counts::same_of(kind));
+// Tells of a call that is not the same.
+fn told(rt: &impl Print, kind: Kind, same: bool, record: u64) -> io::Result<()> {
+    if same {
         Ok(())
     } else {
         report::differs(rt, kind, record)
     }
 }
 
-// Makes a call on whole slices, and counts it.
-fn take_call(
-    rt: &impl Print,
-    body: &[u8],
-    record: u64,
-    run: &[u32],
-    tally: &mut [u64],
-) -> io::Result<()> {
-    let row = counts::row_of(calls::number(body), calls::verifies(body));
-    counts::bump(tally, counts::all_calls_of(row));
-    if calls::same(body, run) {
-        counts::bump(tally, counts::same_calls_of(row));
-        Ok(())
-    } else {
-        report::differs(rt, CALL, record)
-    }
-}
-
-// Ends a file.
-fn end(body: &[u8], tally: &mut [u64]) {
-    let records = counts::read(tally, counts::RECORDS);
-    counts::clear(tally, counts::RECORDS);
-    if words::at(body, 0) as u64 == records {
-        counts::bump(tally, counts::WHOLE);
-    }
-}
-
 // Replays a record and counts it. Answers whether more records can follow.
 fn take(
     rt: &impl Print,
-    kind: u32,
+    kind: Kind,
     body: &[u8],
-    run: &mut [u32],
-    tally: &mut [u64],
+    run: &mut Run,
+    tally: &mut Tally,
 ) -> io::Result<bool> {
-    let record = counts::read(tally, counts::RECORDS);
-    if kind == END {
-        end(body, tally);
-        return Ok(false);
-    }
-    counts::bump(tally, counts::RECORDS);
     match kind {
-        PUT => slices::put(body, run),
-        LENGTH => slices::resize(body, run),
-        CALL => take_call(rt, body, record, run, tally)?,
-        _ => take_leaf(rt, kind, body, record, tally)?,
+        Kind::Put => run.put(body),
+        Kind::Length => run.resize(body),
+        Kind::Call => {
+            let same = calls::same(body, run);
+            tally.add_call(calls::number(body), calls::verifies(body), same);
+            told(rt, kind, same, tally.records)?;
+        }
+        Kind::Leaf(number) => {
+            let same = leaves::same(number, body);
+            tally.add_leaf(number, same);
+            told(rt, kind, same, tally.records)?;
+        }
+        Kind::End => {
+            tally.end(u64::from(words::at(body, 0)));
+            return Ok(false);
+        }
     }
+    tally.add_record();
     Ok(true)
-}
-
-// Replays a record whose body is the first bytes of a buffer.
-fn take_part(
-    rt: &impl Print,
-    kind: u32,
-    length: usize,
-    bytes: &[u8],
-    run: &mut [u32],
-    tally: &mut [u64],
-) -> io::Result<bool> {
-    if length > bytes.len() {
-        return Ok(false);
-    }
-    take(rt, kind, &bytes[..length], run, tally)
 }
 
 // Reads one record and replays it. Answers whether more records can follow.
 fn read_record<I: Read>(
     rt: &impl Print,
     input: &mut I,
-    run: &mut [u32],
-    tally: &mut [u64],
+    run: &mut Run,
+    tally: &mut Tally,
 ) -> io::Result<bool> {
     let mut bytes = [0u8; 16384];
-    match reading::read(input, &mut bytes)? {
-        Next::Record(kind, length) => take_part(rt, kind, length, &bytes, run, tally),
-        Next::Nothing => Ok(false),
+    let Some(record) = reading::read(input, &mut bytes)? else {
+        return Ok(false);
+    };
+    match bytes.get(..record.length) {
+        Some(body) => take(rt, record.kind, body, run, tally),
+        None => Ok(false),
     }
 }
 
@@ -125,8 +77,8 @@ fn read_record<I: Read>(
 fn read_all<I: Read>(
     rt: &impl Print,
     input: &mut I,
-    run: &mut [u32],
-    tally: &mut [u64],
+    run: &mut Run,
+    tally: &mut Tally,
 ) -> io::Result<()> {
     for _ in 0..u64::MAX {
         if !read_record(rt, input, run, tally)? {
@@ -137,7 +89,7 @@ fn read_all<I: Read>(
 }
 
 // Replays the records of a file.
-fn read_file(rt: &(impl Files + Print + Eprint), path: &str, tally: &mut [u64]) -> Result<()> {
+fn read_file(rt: &(impl Files + Print + Eprint), path: &str, tally: &mut Tally) -> Result<()> {
     let mut file = match fs::open(rt, path) {
         Ok(file) => file,
         Err(e) => {
@@ -145,12 +97,12 @@ fn read_file(rt: &(impl Files + Print + Eprint), path: &str, tally: &mut [u64]) 
             return Ok(());
         }
     };
-    let mut run = [0u32; slices::WORDS];
+    let mut run = Run::new();
     read_all(rt, &mut file, &mut run, tally).context(path)
 }
 
 fn main(rt: HostRuntime) -> Result<()> {
-    let mut tally = [0u64; counts::COUNTS];
+    let mut tally = Tally::new();
     read_file(&rt, "leaves", &mut tally)?;
     read_file(&rt, "calls", &mut tally)?;
     report::leaves(&rt, &tally)?;

@@ -2,8 +2,8 @@
 #![tactic(auto)]
 
 pub mod counts;
+pub mod kinds;
 pub mod marks;
-mod names;
 pub mod reading;
 pub mod report;
 pub mod sections;

@@ -1,110 +1,119 @@
 // The sections of the recorded calls' slices, read by the section reader.
+use crate::slices::{Run, Slice};
 use crate::{marks, slices, words};
 use layout_section_reader::Read;
 
-// The verifier's number among the calls; 0 is the prover, 1 to 5 its rounds.
-pub const VERIFY: u32 = 6;
-
-// The position behind sections, or that there are fewer.
-#[derive(Clone, Copy)]
-enum Found {
-    At(usize),
-    Fewer,
+// The calls on whole slices, as records number them.
+#[derive(Clone, Copy, PartialEq, Eq)]
+pub enum Call {
+    Prove,
+    Round1,
+    Round2,
+    Round3,
+    Round4,
+    Round5,
+    Verify,
 }
 
-// The position behind so many sections.
-fn behind(words: &[u32], number: usize) -> Found {
-    let mut position = 0;
-    let mut k = 0;
-    while k < number {
-        match layout_section_reader::section_from(words, position) {
-            Read::Section(place, count) => {
-                position = place + count;
-            }
-            Read::Short => {
-                return Found::Fewer;
-            }
-            Read::End => {
-                return Found::Fewer;
-            }
+impl From<u32> for Call {
+    fn from(number: u32) -> Call {
+        match number {
+            1 => Call::Round1,
+            2 => Call::Round2,
+            3 => Call::Round3,
+            4 => Call::Round4,
+            5 => Call::Round5,
+            6 => Call::Verify,
+            _ => Call::Prove,
         }
-        k += 1;
     }
-    Found::At(position)
+}
+
+impl Call {
+    // How many sections of the randomness the call is handed.
+    fn handed(self) -> usize {
+        match self {
+            Call::Round1 => 0,
+            Call::Round2 => 1,
+            Call::Round3 => 3,
+            Call::Round4 => 5,
+            Call::Round5 | Call::Prove | Call::Verify => 7,
+        }
+    }
+
+    // How many sections of the transcript stand before those that the call makes.
+    fn before_made(self) -> usize {
+        match self {
+            Call::Round2 => 1,
+            Call::Round3 => 2,
+            Call::Round4 => 3,
+            Call::Round5 => 4,
+            Call::Round1 | Call::Prove | Call::Verify => 0,
+        }
+    }
+
+    // The same with those that it makes; the verifier makes none.
+    fn to_made(self) -> usize {
+        match self {
+            Call::Round1 => 1,
+            Call::Round2 => 2,
+            Call::Round3 => 3,
+            Call::Round4 => 4,
+            Call::Verify => 0,
+            Call::Round5 | Call::Prove => 8,
+        }
+    }
+}
+
+// The recorded call.
+pub fn call_of(body: &[u8]) -> Call {
+    Call::from(words::at(body, 0))
+}
+
+// The position behind so many sections; none where there are fewer.
+fn behind(words: &[u32], number: usize) -> Option<usize> {
+    let mut position = 0;
+    for _ in 0..number {
+        match layout_section_reader::section_from(words, position) {
+            Read::Section(place, count) => position = place + count,
+            Read::Short | Read::End => return None,
+        }
+    }
+    Some(position)
 }
 
 // Whether words are so many sections and nothing behind them.
 fn are(words: &[u32], number: usize) -> bool {
-    match behind(words, number) {
-        Found::At(position) => position == words.len(),
-        Found::Fewer => false,
-    }
-}
-
-// How many sections of the randomness a call is handed.
-fn handed(call: u32) -> usize {
-    match call {
-        1 => 0,
-        2 => 1,
-        3 => 3,
-        4 => 5,
-        _ => 7,
-    }
-}
-
-// How many sections of the transcript stand before those that a call makes.
-fn before_made(call: u32) -> usize {
-    match call {
-        2 => 1,
-        3 => 2,
-        4 => 3,
-        5 => 4,
-        _ => 0,
-    }
-}
-
-// The same with those that it makes; the verifier makes none.
-fn to_made(call: u32) -> usize {
-    match call {
-        1 => 1,
-        2 => 2,
-        3 => 3,
-        4 => 4,
-        VERIFY => 0,
-        _ => 8,
-    }
+    behind(words, number) == Some(words.len())
 }
 
 // Whether the slices of a call that works are whole sections: the job's eleven, those of the randomness, and the transcript's eight or the witness's one.
-pub fn whole(body: &[u8], run: &[u32]) -> bool {
-    let call = words::at(body, 0);
-    let third = if call == VERIFY {
-        are(slices::slice(run, 3), 8)
+pub fn whole(body: &[u8], run: &Run) -> bool {
+    let call = call_of(body);
+    let third = if call == Call::Verify {
+        are(run.slice(Slice::Transcript), 8)
     } else {
-        are(slices::slice(run, 2), 1)
+        are(run.slice(Slice::Witness), 1)
     };
-    third && are(slices::slice(run, 0), 11) && are(slices::slice(run, 1), handed(call))
+    third && are(run.slice(Slice::Job), 11) && are(run.slice(Slice::Randomness), call.handed())
 }
 
 // Whether a part of the transcript stands where it is recorded, and the output starts with it.
 fn same_part(body: &[u8], transcript: &[u32], from: usize, to: usize, output: &[u32]) -> bool {
     let length = words::at(body, 17) as usize;
-    if to < from {
-        return false;
-    }
     from == words::at(body, 16) as usize
-        && to - from == length
+        && to.checked_sub(from) == Some(length)
         && marks::starts_with(output, slices::part(transcript, from, length), length)
 }
 
 // Whether the output is the transcript's sections that the call makes, which stand where it is recorded.
-pub fn same_made(body: &[u8], run: &[u32], output: &[u32]) -> bool {
-    let call = words::at(body, 0);
-    let transcript = slices::transcript(run);
-    let Found::At(from) = behind(transcript, before_made(call)) else {
+pub fn same_made(body: &[u8], run: &Run, output: &[u32]) -> bool {
+    let call = call_of(body);
+    let transcript = run.transcript();
+    let Some(from) = behind(transcript, call.before_made()) else {
         return false;
     };
-    let Found::At(to) = behind(transcript, to_made(call)) else {
+    let Some(to) = behind(transcript, call.to_made()) else {
         return false;
     };
     same_part(body, transcript, from, to, output)

@@ -1,4 +1,5 @@
 // The powers of X of which elements with few small coefficients are the sums, as places in the list that `products` makes of an element.
+// A slice is passed whole with the place of its run: contracts speak of places in the whole slice, and a struct of the two would be built anew at each call.
 ghost use Rattle.std.specs.Prelude.{◌≡◌, cond, ◌+◌, ◌*◌, ◌≤◌, ◌<◌, eqb, length};
 ghost use Rattle.spec_leaves.specs.Zq.{is_larger_than_half, size};
 ghost use Rattle.ring_challenge_products.specs.Powers.{place, taken, Sparse, AllSparse, RowOf, PowersOf};
@@ -61,10 +62,8 @@ pub fn store(c: &[u32], at: usize, r: usize, powers: &mut [u32])
     requires { AllSparse c.now at r × (at + 64 * r ≤ length c.now) × (64 * r ≤ length powers.old) }
     ensures { PowersOf powers.new c.now at r × (length powers.new ≡ length powers.old) }
 {
-    let mut i = 0;
-    while i < r {
+    for i in 0..r {
         let a = ring_words::load(c, at + 64 * i).coeffs;
         ring_words::store(powers, 64 * i, Rq { coeffs: row(a) });
-        i += 1;
     }
 }

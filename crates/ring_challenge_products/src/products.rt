@@ -1,4 +1,5 @@
 // Sums of elements from places on: with the coefficients of −a, a and −a one after the other, those of X^j·a start j places before a, and those of −X^j·a j places before the second −a.
+// A slice is passed whole with the place of its run: contracts speak of places in the whole slice, and a struct of the two would be built anew at each call.
 ghost use Rattle.std.specs.Prelude.{◌≡◌, ◌+◌, ◌*◌, ◌≤◌, ◌^◌, length, get_or};
 ghost use Rattle.math.specs.lists.Table.{table};
 ghost use Rattle.math.specs.lists.Part.{splice};
@@ -27,10 +28,8 @@ fn copy(e: &mut [u64], at: usize, from: &[u64], count: usize)
     requires { (at + count ≤ length e.old) × (count ≤ length from.now) }
     ensures { e.new ≡ splice e.old at (table count (λ m. get_or from.now m 0)) }
 {
-    let mut m = 0;
-    while m < count {
+    for m in 0..count {
         e[at + m] = from[m];
-        m += 1;
     }
 }
 
@@ -94,13 +93,11 @@ pub fn inner_product(powers: &[u32], x: &[u32], x_at: usize, x_step: usize, r: u
 {
     let mut totals = [0u64; Rq::DEGREE];
     let mut j = x_at;
-    let mut i = 0;
-    while i < r {
+    for i in 0..r {
         let a = ring_words::load(x, j).coeffs;
         let e = extend(a);
         add_row(&mut totals, powers, 64 * i, &e);
         j += x_step;
-        i += 1;
     }
     Rq {
         coeffs: sums::reduce(totals),

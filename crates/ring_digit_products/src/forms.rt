@@ -1,5 +1,6 @@
 // The form in which the products take the digits: the coefficients of −a, then those of a, as `ring_rq_product::product` takes them, each with half the base added, so
 // that none is below zero.
+// A slice is passed whole with the place of its run: contracts speak of places in the whole slice, and a struct of the two would be built anew at each call.
 ghost use Rattle.std.specs.Prelude.{◌≡◌, ◌+◌, ◌*◌, ◌%◌, ◌≤◌, length, get_or};
 ghost use mathlib.Core.List.{flat_map};
 ghost use Rattle.math.specs.lists.Table.{table};
@@ -9,9 +10,9 @@ ghost use Rattle.ring_zq.specs.Words.{lack};
 ghost use Rattle.ring_digit_products.specs.Forms.{shifted};
 
 use ring_rq_product::product;
-use ring_zq::wide::wide;
 use ring_zq::zq::lack;
 use spec_leaves::modulus;
+use std::array;
 
 // A coefficient with half the base added modulo Q, without a choice, so that it runs on several at a time.
 fn shift(x: u64, half: u64) -> u64
@@ -30,11 +31,7 @@ fn shift(x: u64, half: u64) -> u64
 fn complements(a: [u32; 64]) -> [u32; 64]
     ensures { result ≡ table 64 (λ m. lack (get_or a m 0)) }
 {
-    let mut out = [0u32; 64];
-    for m in 0..64 {
-        out[m] = lack(a[m]);
-    }
-    out
+    array::from_fn(|m| lack(a[m]))
 }
 
 // 64 coefficients with half the base added modulo Q, stored from `to` on.
@@ -43,7 +40,7 @@ fn store_shifted(a: [u32; 64], half: u64, forms: &mut [u64], to: usize)
     ensures { forms.new ≡ splice forms.old to (table 64 (λ m. (get_or a m 0 + half) % Q)) }
 {
     for m in 0..64 {
-        forms[to + m] = shift(wide(a[m]), half);
+        forms[to + m] = shift(u64::from(a[m]), half);
     }
 }
 
@@ -62,10 +59,8 @@ pub fn store_forms(v: &[u32], n: usize, half: u64, forms: &mut [u64])
     requires { (half ≤ 2147483648) × (64 * n ≤ length v.now) × (128 * n ≤ length forms.old) }
     ensures { forms.new ≡ splice forms.old 0 (flat_map (shifted half) (table n (λ m. part v.now (64 * m) 64))) }
 {
-    let mut m = 0;
-    while m < n {
+    for m in 0..n {
         let a = ring_words::load(v, 64 * m).coeffs;
         store_form(a, half, forms, 128 * m);
-        m += 1;
     }
 }

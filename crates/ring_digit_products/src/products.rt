@@ -1,4 +1,5 @@
 // The inner product of elements with digits.
+// A slice is passed whole with the place of its run: contracts speak of places in the whole slice, and a struct of the two would be built anew at each call.
 ghost use Rattle.std.specs.Prelude.{◌≡◌};
 ghost use Rattle.math.specs.algebra.Ops.{dot};
 ghost use Rattle.spec_leaves.specs.Ring.{RqOps, words};
@@ -21,14 +22,12 @@ pub fn inner_product(matrix: &[u32], at: usize, v: &[u32], forms: &[u64], half: 
         return ring_inner_product::inner_product(matrix, at, 64, v, 0, 64, n);
     }
     let mut totals = [0u64; Rq::DEGREE];
-    let mut m = 0;
-    while m < n {
+    for m in 0..n {
         let b = ring_words::load(matrix, at + 64 * m).coeffs;
         let x = product::reverse(b);
         let start = small::complement(&x, half);
         let next = small::add_products(totals, &x, forms, 128 * m, start);
         totals = next;
-        m += 1;
     }
     Rq {
         coeffs: sums::reduce(totals),

@@ -1,20 +1,13 @@
 // Sums of products of words with numbers up to 2^16: 64 of them stay below 2^54, so that nothing is folded.
+// A slice is passed whole with the place of its run: contracts speak of places in the whole slice, and a struct of the two would be built anew at each call.
 ghost use Rattle.std.specs.Prelude.{◌≡◌, ◌+◌, ◌*◌, ◌≤◌, ◌<◌, ◌^◌, length, get_or};
 ghost use Rattle.math.specs.lists.Table.{table};
 ghost use Rattle.ring_rq_product.specs.Product.{AllWords};
 ghost use Rattle.ring_digit_products.specs.Small.{products_sum, complement, Factors};
 
 use ring_rq_product::product;
+use ring_rq_product::product::Sums;
 use spec_leaves::modulus;
-
-// Four sums.
-#[derive(Clone, Copy)]
-pub struct Sums {
-    pub a: u64,
-    pub b: u64,
-    pub c: u64,
-    pub d: u64,
-}
 
 // A sum with a product added.
 fn add_term(sum: u64, x: u64, y: u64) -> u64

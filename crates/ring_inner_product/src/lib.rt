@@ -1,11 +1,12 @@
 // Inner products and linear combinations of elements in lent slices (core/inner_product.rs), one call per scalar kind. A run of elements is given
 // by its slice, the place of its first element and the step from one to the next, in words.
+// A slice is passed whole with the place of its run: contracts speak of places in the whole slice, and a struct of the two would be built anew at each call.
 #![tactic(auto)]
 
-ghost use Rattle.std.specs.Prelude.{◌≡◌, ◌+◌, ◌≤◌, length, get_or};
+ghost use Rattle.std.specs.Prelude.{◌≡◌, ◌+◌, ◌*◌, ◌^◌, ◌<◌, ◌≤◌, length, get_or};
 ghost use Rattle.math.specs.algebra.Ops.{sum, dot};
 ghost use Rattle.spec_leaves.specs.Ring.{RqOps, words, scale};
-ghost use Rattle.ring_inner_product.specs.Run.{Run, run};
+ghost use Rattle.ring_inner_product.specs.Run.{Run, run, further};
 
 use ring_rq::rq::Rq;
 use ring_rq_product::sums;
@@ -16,6 +17,20 @@ pub struct Strided {
     pub at: usize,
     pub step: usize,
     pub count: usize,
+}
+
+impl Strided {
+    // The run of the elements that stand c elements further on.
+    pub fn further(self, c: usize) -> Strided
+        requires { self.at + 64 * c < 2 ^ 64 }
+        ensures { result ≡ further self c }
+    {
+        Strided {
+            at: self.at + 64 * c,
+            step: self.step,
+            count: self.count,
+        }
+    }
 }
 
 // The inner product of two runs of n elements.
@@ -34,15 +49,13 @@ pub fn inner_product(
     let mut totals = [0u64; Rq::DEGREE];
     let mut i = x_at;
     let mut j = y_at;
-    let mut m = 0;
-    while m < n {
+    for m in 0..n {
         let a = ring_words::load(x, i).coeffs;
         let b = ring_words::load(y, j).coeffs;
         let next = sums::add_product(totals, a, b);
         totals = next;
         i += x_step;
         j += y_step;
-        m += 1;
     }
     Rq {
         coeffs: sums::reduce(totals),
@@ -63,11 +76,9 @@ pub fn linear_combination(
 {
     let mut totals = [0u64; Rq::DEGREE];
     let mut i = x_at;
-    let mut m = 0;
-    while m < n {
+    for m in 0..n {
         sums::add_scaled(&mut totals, x, i, factors[at + m]);
         i += x_step;
-        m += 1;
     }
     Rq {
         coeffs: sums::reduce(totals),

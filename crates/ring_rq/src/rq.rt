@@ -1,22 +1,33 @@
 // A ring element as 64 words, coefficient of X^0 first. No operation asks for canonical words, and each gives some, except that the conjugate keeps
 // coefficient 0 as it is.
-ghost use Rattle.std.specs.Prelude.{◌≡◌};
-ghost use Rattle.spec_leaves.specs.Answer.{value128};
+ghost use Rattle.std.specs.Prelude.{◌≡◌, ◌<◌, length};
 ghost use Rattle.spec_leaves.specs.Norm.{norm};
 ghost use Rattle.spec_leaves.specs.Ring.{element};
-ghost use Rattle.spec_leaves.specs.Rq.{rzero, radd, rsub, rmul, rscale, rconj};
+ghost use Rattle.spec_leaves.specs.Rq.{rzero, radd, rsub, rmul, rscale, rconj, conj_coeff};
 ghost use Rattle.ring_rq.specs.Words.{AtMostQ};
 
 use ring_rq_product::product;
-use ring_zq::norm;
+use ring_zq::norms;
 use ring_zq::zq::{Zq, lowered};
-use spec_leaves::answers::U128;
 use spec_leaves::modulus;
+use std::array;
 
 #[repr(C)]
 #[derive(Clone, Copy)]
 pub struct Rq {
     pub coeffs: [u32; 64],
+}
+
+// Coefficient k of the conjugate.
+fn conjugate_at(a: &[u32], k: usize) -> u32
+    requires { (length a.now ≡ 64) × (k < 64) }
+    ensures { result ≡ conj_coeff a.now k }
+{
+    if k == 0 {
+        a[0]
+    } else {
+        Zq(a[Rq::DEGREE - k]).neg().0
+    }
 }
 
 impl Rq {
@@ -30,16 +41,15 @@ impl Rq {
         }
     }
 
+    // Sum and difference differ in the operation alone: a function over both would take it as a closure, and each would still be one call of that.
     pub fn add(self, rhs: Rq) -> Rq
         ensures { result.coeffs ≡ radd self.coeffs rhs.coeffs }
     {
         let a = self.coeffs;
         let b = rhs.coeffs;
-        let mut sum = [0u32; Rq::DEGREE];
-        for k in 0..Rq::DEGREE {
-            sum[k] = Zq(a[k]).add(Zq(b[k])).0;
+        Rq {
+            coeffs: array::from_fn(|k| Zq(a[k]).add(Zq(b[k])).0),
         }
-        Rq { coeffs: sum }
     }
 
     // The same element with words up to Q. Where Q is 2^32 − 1, every word is.
@@ -50,11 +60,9 @@ impl Rq {
             return self;
         }
         let a = self.coeffs;
-        let mut words = [0u32; Rq::DEGREE];
-        for k in 0..Rq::DEGREE {
-            words[k] = lowered(a[k]);
+        Rq {
+            coeffs: array::from_fn(|k| lowered(a[k])),
         }
-        Rq { coeffs: words }
     }
 
     pub fn sub(self, rhs: Rq) -> Rq
@@ -62,20 +70,16 @@ impl Rq {
     {
         let a = self.coeffs;
         let b = rhs.coeffs;
-        let mut difference = [0u32; Rq::DEGREE];
-        for k in 0..Rq::DEGREE {
-            difference[k] = Zq(a[k]).sub(Zq(b[k])).0;
+        Rq {
+            coeffs: array::from_fn(|k| Zq(a[k]).sub(Zq(b[k])).0),
         }
-        Rq { coeffs: difference }
     }
 
     pub fn mul(self, rhs: Rq) -> Rq
         ensures { result.coeffs ≡ rmul self.coeffs rhs.coeffs }
     {
-        let a = self.coeffs;
-        let b = rhs.coeffs;
         Rq {
-            coeffs: product::multiply(a, b),
+            coeffs: product::multiply(self.coeffs, rhs.coeffs),
         }
     }
 
@@ -84,33 +88,23 @@ impl Rq {
         ensures { result.coeffs ≡ rscale self.coeffs factor.0 }
     {
         let a = self.coeffs;
-        let mut scaled = [0u32; Rq::DEGREE];
-        for k in 0..Rq::DEGREE {
-            scaled[k] = Zq(a[k]).mul(factor).0;
+        Rq {
+            coeffs: array::from_fn(|k| Zq(a[k]).mul(factor).0),
         }
-        Rq { coeffs: scaled }
     }
 
     pub fn conjugate_automorphism(self) -> Rq
         ensures { result.coeffs ≡ rconj self.coeffs }
     {
         let a = self.coeffs;
-        let mut conjugate = [0u32; Rq::DEGREE];
-        conjugate[0] = a[0];
-        for k in 1..Rq::DEGREE {
-            conjugate[k] = Zq(a[64 - k]).neg().0;
+        Rq {
+            coeffs: array::from_fn(|k| conjugate_at(&a, k)),
         }
-        Rq { coeffs: conjugate }
     }
 
-    pub fn l2_norm_squared(self) -> U128
-        ensures { value128 result ≡ norm self.coeffs }
+    pub fn l2_norm_squared(self) -> u128
+        ensures { result ≡ norm self.coeffs }
     {
-        let a = self.coeffs;
-        let mut sum = U128 { hi: 0, lo: 0 };
-        for k in 0..Rq::DEGREE {
-            sum = norm::add_square(sum, Zq(a[k]).size());
-        }
-        sum
+        norms::norm_of(&self.coeffs, 0, Rq::DEGREE)
     }
 }

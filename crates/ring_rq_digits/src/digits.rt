@@ -1,5 +1,5 @@
 // The digits of an element (`Rq::decompose` of ring/rq.rs), row after row: row k has digit k of each coefficient.
-ghost use Rattle.std.specs.Prelude.{◌≡◌, ◌≤◌, ◌<◌, ◌^◌};
+ghost use Rattle.std.specs.Prelude.{◌≡◌, ◌≤◌, ◌<◌, ◌^◌, ◌/◌, ◌%◌};
 ghost use Rattle.math.specs.lists.Table.{table};
 ghost use Rattle.spec_leaves.specs.Zq.{size};
 ghost use Rattle.spec_leaves.specs.Digits.{next_size};
@@ -7,18 +7,16 @@ ghost use Rattle.spec_leaves.specs.Rq.{coeff, is_zero, digit_rows, left_row};
 ghost use Rattle.ring_rq_digits.specs.Digits.{digit_of};
 
 use ring_rq::rq::Rq;
+use ring_zq::reciprocal::Quotient;
 use ring_zq::zq::Zq;
 use ring_zq::{digits, reciprocal};
+use std::array;
 
 // The sizes of the coefficients' centres.
 pub fn sizes_of(a: [u32; 64]) -> [u32; 64]
     ensures { result ≡ table 64 (λ j. size (coeff a j)) }
 {
-    let mut sizes = [0u32; Rq::DEGREE];
-    for j in 0..Rq::DEGREE {
-        sizes[j] = Zq(a[j]).size();
-    }
-    sizes
+    array::from_fn(|j| Zq(a[j]).size())
 }
 
 // A row of digits, and the sizes that go on.
@@ -28,38 +26,30 @@ pub struct Taken {
     pub sizes: [u32; 64],
 }
 
-// The row of digits that the sizes give in a base 2^shift, with the coefficients' signs.
-fn take_row_by_shift(a: [u32; 64], base: u32, shift: u32, sizes: [u32; 64]) -> Taken
-    requires { (1 < base) × (shift < 32) × (base ≡ 2 ^ shift) }
+// The row of digits that the sizes give, with the coefficients' signs, each size divided by the base as `divide` does.
+fn take_row_by<F: Fn(u32) -> Quotient>(
+    a: [u32; 64],
+    base: u32,
+    sizes: [u32; 64],
+    divide: F,
+) -> Taken
+    requires base_above_one { 1 < base }
+    requires callable { (x : _) → x < 2 ^ 32 → F.pre divide x }
+    requires divides { (x : _) (q : _) → F.post divide x q → (q.quotient ≡ x / base) × (q.rest ≡ x % base) }
     ensures { (result.row ≡ table 64 (λ j. digit_of base (coeff a j) (coeff sizes j))) × (result.sizes ≡ table 64 (λ j. next_size base (coeff sizes j))) }
 {
     let mut row = [0u32; Rq::DEGREE];
     let mut next = [0u32; Rq::DEGREE];
     for j in 0..Rq::DEGREE {
-        let taken = reciprocal::divide_by_shift(sizes[j], base, shift);
+        let taken = divide(sizes[j]);
         row[j] = digits::digit_of(Zq(a[j]).is_larger_than_half(), base, taken.rest);
         next[j] = digits::next_of(base, taken.quotient, taken.rest);
     }
     Taken { row, sizes: next }
 }
 
-// The row of digits that the sizes give, with the coefficients' signs. Each size is divided by a multiplication with the base's reciprocal.
-fn take_row_by_reciprocal(a: [u32; 64], base: u32, sizes: [u32; 64]) -> Taken
-    requires { 1 < base }
-    ensures { (result.row ≡ table 64 (λ j. digit_of base (coeff a j) (coeff sizes j))) × (result.sizes ≡ table 64 (λ j. next_size base (coeff sizes j))) }
-{
-    let factor = reciprocal::reciprocal(base);
-    let mut row = [0u32; Rq::DEGREE];
-    let mut next = [0u32; Rq::DEGREE];
-    for j in 0..Rq::DEGREE {
-        let taken = reciprocal::divide(sizes[j], base, factor);
-        row[j] = digits::digit_of(Zq(a[j]).is_larger_than_half(), base, taken.rest);
-        next[j] = digits::next_of(base, taken.quotient, taken.rest);
-    }
-    Taken { row, sizes: next }
-}
-
-// The row of digits that the sizes give, with the coefficients' signs: by a shift where the base is a power of two.
+// The row of digits that the sizes give, with the coefficients' signs. A base that is a power of two divides by a shift, another by a multiplication with its
+// reciprocal.
 pub fn take_row(a: [u32; 64], base: u32, sizes: [u32; 64]) -> Taken
     requires { 1 < base }
     ensures { (result.row ≡ table 64 (λ j. digit_of base (coeff a j) (coeff sizes j))) × (result.sizes ≡ table 64 (λ j. next_size base (coeff sizes j))) }
@@ -67,9 +57,20 @@ pub fn take_row(a: [u32; 64], base: u32, sizes: [u32; 64]) -> Taken
     // 2^shift is the greatest power of two that divides the base
     let shift = u32::trailing_zeros(base);
     if 1u64 << shift == base as u64 {
-        take_row_by_shift(a, base, shift, sizes)
+        take_row_by(
+            a,
+            base,
+            sizes,
+            |size| reciprocal::divide_by_shift(size, base, shift),
+        )
     } else {
-        take_row_by_reciprocal(a, base, sizes)
+        let factor = reciprocal::reciprocal(base);
+        take_row_by(
+            a,
+            base,
+            sizes,
+            |size| reciprocal::divide(size, base, factor),
+        )
     }
 }
 
@@ -81,14 +82,12 @@ pub fn decompose(a: Rq, base: u32, parts: usize) -> [[u32; 64]; 32]
     let coeffs = a.coeffs;
     let mut sizes = sizes_of(coeffs);
     let mut rows = [[0u32; Rq::DEGREE]; 32];
-    let mut k = 0;
-    while k < parts {
+    for k in 0..parts {
         let taken = take_row(coeffs, base, sizes);
         let row = taken.row;
         let next = taken.sizes;
         rows[k] = row;
         sizes = next;
-        k += 1;
     }
     rows
 }
@@ -100,27 +99,17 @@ pub fn left_over(a: Rq, base: u32, parts: usize) -> [u32; 64]
 {
     let coeffs = a.coeffs;
     let mut left = sizes_of(coeffs);
-    let mut k = 0;
-    while k < parts {
+    for k in 0..parts {
         let taken = take_row(coeffs, base, left);
         let next = taken.sizes;
         left = next;
-        k += 1;
     }
     left
 }
 
 // Whether nothing goes on: all sizes are zero.
-#[tactic(auto, using(spec_leaves::proofs::IsZero::not_zero))]
 pub fn is_zero(sizes: [u32; 64]) -> bool
     ensures { result ≡ is_zero sizes }
 {
-    let mut j = 0;
-    while j < Rq::DEGREE {
-        if sizes[j] != 0 {
-            return false;
-        }
-        j += 1;
-    }
-    true
+    sizes == [0u32; Rq::DEGREE]
 }

@@ -1,5 +1,6 @@
 // Matrices of elements in lent slices (ring/rq_matrix.rs), and the sums over their cells that the verifier compares (verifier.rs). A triangle is
 // the lower half of a symmetric matrix: row i, columns 0 to i, rows rising.
+// A slice is passed whole with the place of its run: contracts speak of places in the whole slice, and a struct of the two would be built anew at each call.
 #![tactic(auto)]
 
 pub mod triangles;
@@ -52,8 +53,7 @@ pub fn matrix_vector(
 {
     let mut row_at = m_at;
     let mut place = out_at;
-    let mut k = 0;
-    while k < rows {
+    for k in 0..rows {
         ring_words::store(
             out,
             place,
@@ -61,7 +61,6 @@ pub fn matrix_vector(
         );
         row_at += 64 * cols;
         place += 64;
-        k += 1;
     }
 }
 
@@ -83,13 +82,11 @@ pub fn sum_of_products(x: &[u32], x_at: usize, y: &[u32], y_at: usize, r: usize)
     let mut total = Rq::zero();
     let mut row = x_at;
     let mut other = y_at;
-    let mut i = 0;
-    while i < r {
+    for i in 0..r {
         let next = total.add(mirrored_row(x, row, y, other, i));
         total = next;
-        i += 1;
-        row += 64 * i;
-        other += 64 * i;
+        row += 64 * (i + 1);
+        other += 64 * (i + 1);
     }
     total
 }
@@ -102,13 +99,11 @@ pub fn sum_of_weighted(x: &[u32], x_at: usize, c: &[u32], c_at: usize, r: usize)
     let mut total = Rq::zero();
     let mut row = x_at;
     let mut place = c_at;
-    let mut i = 0;
-    while i < r {
+    for i in 0..r {
         let weighted = mirrored_row(x, row, c, c_at, i).mul(ring_words::load(c, place));
         let next = total.add(weighted);
         total = next;
-        i += 1;
-        row += 64 * i;
+        row += 64 * (i + 1);
         place += 64;
     }
     total
@@ -121,12 +116,10 @@ pub fn diagonal_sum(x: &[u32], x_at: usize, r: usize) -> Rq
 {
     let mut total = Rq::zero();
     let mut place = x_at;
-    let mut i = 0;
-    while i < r {
+    for i in 0..r {
         let next = total.add(ring_words::load(x, place));
         total = next;
-        i += 1;
-        place += 64 * (i + 1);
+        place += 64 * ((i + 1) + 1);
     }
     total
 }
@@ -148,8 +141,7 @@ pub fn sum_of_lines(
     let mut total = Rq::zero();
     let mut row = phi_at;
     let mut place = c_at;
-    let mut i = 0;
-    while i < r {
+    for i in 0..r {
         let line = ring_inner_product::inner_product(phi, row, 64, z, z_at, 64, n).mul(
             ring_words::load(c, place),
         );
@@ -157,7 +149,6 @@ pub fn sum_of_lines(
         total = next;
         row += 64 * n;
         place += 64;
-        i += 1;
     }
     total
 }

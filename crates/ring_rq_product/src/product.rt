@@ -1,11 +1,11 @@
 // The ring product (`Mul for &Rq` of ring/rq.rs). With E the coefficients of −a and then those of a, and b reversed, coefficient k is the
 // sum of b's 64 entries times E's from k + 1 on: one run of products without a sign, reduced once.
+// A slice is passed whole with the place of its run: contracts speak of places in the whole slice, and a struct of the two would be built anew at each call.
 ghost use Rattle.std.specs.Prelude.{◌≡◌, ◌+◌, ◌^◌, ◌<◌, ◌≤◌, length};
 ghost use Rattle.math.specs.lists.Table.{padded};
 ghost use Rattle.spec_leaves.specs.Rq.{rmul};
 ghost use Rattle.ring_rq_product.specs.Product.{AllWords, extended, extended_coeff, reversed, folded, growth, halves_sum, WithProduct};
 
-use ring_zq::wide::wide;
 use ring_zq::zq::{Zq, lack};
 
 // Q as a u64, and 2^32.
@@ -22,7 +22,7 @@ fn negated(a: [u32; 64]) -> [u64; 128]
 {
     let mut out = [0u64; 128];
     for m in 0..64 {
-        out[m] = wide(lack(a[m]));
+        out[m] = u64::from(lack(a[m]));
     }
     out
 }
@@ -33,7 +33,7 @@ pub fn extend(a: [u32; 64]) -> [u64; 128]
 {
     let mut out = negated(a);
     for m in 0..64 {
-        out[64 + m] = wide(a[m]);
+        out[64 + m] = u64::from(a[m]);
     }
     out
 }
@@ -44,7 +44,7 @@ pub fn reverse(b: [u32; 64]) -> [u64; 64]
 {
     let mut out = [0u64; 64];
     for i in 0..64 {
-        out[i] = wide(b[63 - i]);
+        out[i] = u64::from(b[63 - i]);
     }
     out
 }
@@ -90,7 +90,7 @@ pub fn dot(x: &[u64], y: &[u64], at: usize) -> u64
     join(h)
 }
 
-// Four sums.
+// Four sums. Each has a variable of its own in the loop, which runs on them side by side.
 #[derive(Clone, Copy)]
 pub struct Sums {
     pub a: u64,

@@ -1,4 +1,5 @@
 // Sums of products and of scaled elements, coefficient by coefficient, in u64 and reduced once at the end.
+// A slice is passed whole with the place of its run: contracts speak of places in the whole slice, and a struct of the two would be built anew at each call.
 ghost use Rattle.std.specs.Prelude.{◌≡◌, ◌+◌, ◌%◌, ◌≤◌, length, slice_index};
 ghost use Rattle.math.specs.lists.Table.{table};
 ghost use Rattle.math.specs.lists.Part.{part};

@@ -1,4 +1,5 @@
 // The digits of an element of a slice, a row at a time from the sizes that go on.
+// A slice is passed whole with the place of its run: contracts speak of places in the whole slice, and a struct of the two would be built anew at each call.
 ghost use Rattle.std.specs.Prelude.{◌≡◌, ℕ, ◌+◌, ◌*◌, ◌≤◌, ◌<◌, length};
 ghost use Rattle.math.specs.lists.Table.{table};
 ghost use Rattle.math.specs.lists.Part.{part, splice};
@@ -26,8 +27,7 @@ pub fn decompose_used(
     let a = ring_words::load(from, at).settled().coeffs;
     let mut sizes = digits::sizes_of(a);
     let mut place = to_at;
-    let mut k = 0;
-    while k < parts {
+    for k in 0..parts {
         if digits::is_zero(sizes) {
             return k;
         }
@@ -37,9 +37,8 @@ pub fn decompose_used(
         ring_words::store(to, place, Rq { coeffs: row });
         sizes = next;
         place += 64;
-        k += 1;
     }
-    k
+    parts
 }
 
 // The digits of the element at `at`, lowest first, as `parts` elements from `to_at` on.

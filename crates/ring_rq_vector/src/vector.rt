@@ -1,4 +1,5 @@
 // Runs of elements in a lent slice.
+// A slice is passed whole with the place of its run: contracts speak of places in the whole slice, and a struct of the two would be built anew at each call.
 ghost use Rattle.std.specs.Prelude.{◌≡◌, ◌+◌, ◌*◌, ◌≤◌, length};
 ghost use Rattle.math.specs.lists.Table.{table};
 ghost use Rattle.math.specs.lists.Part.{splice};
@@ -13,10 +14,8 @@ pub fn zero(out: &mut [u32], at: usize, count: usize)
     ensures { out.new ≡ splice out.old at (flat (table count (λ k. RqOps.nil))) }
 {
     let mut place = at;
-    let mut k = 0;
-    while k < count {
+    for k in 0..count {
         ring_words::store(out, place, Rq::zero());
         place += 64;
-        k += 1;
     }
 }

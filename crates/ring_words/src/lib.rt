@@ -1,4 +1,5 @@
-// Elements and runs of words in lent slices. A slice is passed whole, with the place of what is read or written.
+// Elements and runs of words in lent slices.
+// A slice is passed whole with the place of its run: contracts speak of places in the whole slice, and a struct of the two would be built anew at each call.
 #![tactic(auto)]
 
 ghost use Rattle.std.specs.Prelude.{◌≡◌, ◌∷◌, ◌+◌, ◌≤◌, ◌<◌, ◌^◌, length, replicate};
@@ -12,9 +13,7 @@ pub fn load(words: &[u32], at: usize) -> Rq
     ensures { result.coeffs ≡ part words.now at 64 }
 {
     let mut coeffs = [0u32; Rq::DEGREE];
-    for k in 0..Rq::DEGREE {
-        coeffs[k] = words[at + k];
-    }
+    coeffs.copy_from_slice(&words[at..at + Rq::DEGREE]);
     Rq { coeffs }
 }
 
@@ -23,10 +22,7 @@ pub fn store(words: &mut [u32], at: usize, element: Rq)
     requires { at + 64 ≤ length words.old }
     ensures { words.new ≡ splice words.old at element.coeffs }
 {
-    let coeffs = element.coeffs;
-    for k in 0..Rq::DEGREE {
-        words[at + k] = coeffs[k];
-    }
+    words[at..at + Rq::DEGREE].copy_from_slice(&element.coeffs);
 }
 
 // `count` words of `from` from `start` on copied to `to` from `at` on.
@@ -34,11 +30,7 @@ pub fn copy(to: &mut [u32], at: usize, from: &[u32], start: usize, count: usize)
     requires { (at + count ≤ length to.old) × (start + count ≤ length from.now) }
     ensures { to.new ≡ splice to.old at (part from.now start count) }
 {
-    let mut k = 0;
-    while k < count {
-        to[at + k] = from[start + k];
-        k += 1;
-    }
+    to[at..at + count].copy_from_slice(&from[start..start + count]);
 }
 
 // `count` words from `at` on set to zero.
@@ -46,11 +38,7 @@ pub fn clear_run(words: &mut [u32], at: usize, count: usize)
     requires { at + count ≤ length words.old }
     ensures { words.new ≡ splice words.old at (replicate count 0) }
 {
-    let mut m = 0;
-    while m < count {
-        words[at + m] = 0;
-        m += 1;
-    }
+    words[at..at + count].fill(0);
 }
 
 // The first `count` words set to zero.

@@ -1,5 +1,5 @@
+pub mod Made
 mod Signed
 pub mod Words
 pub mod Part
-mod Order
 mod Near

@@ -15,13 +15,6 @@ fn rem_size(base: u32, rem: u32) -> u32
     if base / 2 < rem { base - rem } else { rem }
 }
 
-// Whether one of the two holds, and not both.
-fn differ(a: bool, b: bool) -> bool
-    ensures { result ≡ xor a b }
-{
-    if a { !b } else { b }
-}
-
 // The digit that a remainder gives, with the value's sign. Written so that it runs on several at a time.
 pub fn digit_of(negative: bool, base: u32, rem: u32) -> u32
     requires { rem < base }
@@ -31,7 +24,8 @@ pub fn digit_of(negative: bool, base: u32, rem: u32) -> u32
     if size == 0 {
         return 0;
     }
-    if differ(negative, base / 2 < rem) {
+    let below = base / 2 < rem;
+    if negative != below {
         Zq::Q - size
     } else {
         size
@@ -67,6 +61,7 @@ pub fn next_size(base: u32, size: u32) -> u32
 }
 
 // The digits in 32 places, lowest first, those past the parts zero, and the size left over.
+// Base and parts stay two numbers: one base goes with several counts of parts in the parameters, so a type of both would be built at each call.
 pub fn decompose(value: Zq, base: u32, parts: usize) -> Decomposed
     requires { (1 < base) × (parts ≤ 32) }
     ensures { result ≡ decomposed base parts value.0 }
@@ -74,11 +69,9 @@ pub fn decompose(value: Zq, base: u32, parts: usize) -> Decomposed
     let negative = value.is_larger_than_half();
     let mut size = value.size();
     let mut places = [0u32; 32];
-    let mut k = 0;
-    while k < parts {
+    for k in 0..parts {
         places[k] = digit(negative, base, size);
         size = next_size(base, size);
-        k += 1;
     }
     Decomposed {
         digits: places,

@@ -1,7 +1,6 @@
 // Numbers modulo Q (ring/zq.rs), the squared norm of a run of words (`Norms` of ring/mod.rs), and norms held against bounds.
 #![tactic(auto)]
 
-pub mod bound;
 pub mod digits;
 pub mod norm;
 pub mod norms;

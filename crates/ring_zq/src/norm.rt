@@ -1,20 +1,12 @@
-// The accumulation of squared norms in two u64 (`Norms` of ring/zq.rs, whose u128 it stands for).
-ghost use Rattle.std.specs.Prelude.{◌≡◌, ◌+◌, ◌*◌, ◌^◌, ◌<◌, ◌≤◌};
-ghost use Rattle.spec_leaves.specs.Answer.{value128};
-
-use spec_leaves::answers::U128;
+// The accumulation of squared norms (`Norms` of ring/zq.rs).
+ghost use Rattle.std.specs.Prelude.{◌≡◌, ◌+◌, ◌*◌, ◌^◌, ◌≤◌};
 
 // The sum with the square of a size added.
-#[tactic(auto, using(spec_leaves::proofs::Fits::product_max), unfolding(spec_leaves::specs::Answer::value128))]
-pub fn add_square(sum: U128, size: u32) -> U128
-    requires { sum.hi + 1 < 2 ^ 64 }
-    ensures { (value128 result ≡ value128 sum + size * size) × (result.hi ≤ sum.hi + 1) }
+#[tactic(auto, using(spec_leaves::proofs::Fits::product_max))]
+pub fn add_square(sum: u128, size: u32) -> u128
+    requires { sum + 2 ^ 64 ≤ 2 ^ 128 }
+    ensures { (result ≡ sum + size * size) × (result ≤ sum + 2 ^ 64) }
 {
-    let square = size as u64 * size as u64;
-    let lo = std::num::wrapping_add_u64(sum.lo, square);
-    if lo < square {
-        U128 { hi: sum.hi + 1, lo }
-    } else {
-        U128 { hi: sum.hi, lo }
-    }
+    let square = u64::from(size) * u64::from(size);
+    sum + u128::from(square)
 }

@@ -1,4 +1,4 @@
-// Words as wider numbers.
+// Words as wider numbers. Kept beside `u64::from` and `as`: the bound is promised with the value, and sums of products cite it.
 ghost use Rattle.std.specs.Prelude.{◌≡◌, ◌^◌, ◌<◌};
 
 // A word as a u64.

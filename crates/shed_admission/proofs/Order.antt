@@ -1,12 +1,12 @@
 -- The refusals of the calls on runs, test after test, as the code finds them.
-use mathlib.Core.Path.{◌≡◌, sym, ap, subst, ◌∙◌}
+use mathlib.Core.Path.{◌≡◌, refl, sym, ap, subst, ◌∙◌}
 use mathlib.Core.List.{List}
 use Prim.Native.Nat.{ℕ, ◌+◌, ◌*◌, ◌≤◌, ◌<◌}
 use native.Mathlib.Decide.{dec_le, dec_lt}
 use native.Mathlib.Nat.{mul-le-mul}
 use native.Mathlib.Omega.{arith}
 use Rattle.spec_leaves.specs.declared.answers.Refusal.{Refusal}
-use Rattle.spec_leaves.specs.Answer.{Answer, fine, refused, of_refusal, ◌then◌}
+use Rattle.spec_leaves.specs.Answer.{Answer, fine, refused, result_of, of_refusal, ◌then◌}
 use Rattle.spec_protocol.specs.Checks.{require}
 use Rattle.spec_protocol.specs.Parameters.{Parameters, parameters}
 use Rattle.spec_protocol.specs.Layout.{Section, span, layout, ranged, job_refusal, scratch_refusal, scratch_need}
@@ -20,13 +20,15 @@ use Rattle.relation_env_params.specs.Parameters.{parameters_of}
 use Rattle.layout_sizes.specs.Sizes.{Sized}
 use Rattle.layout_sizes.proofs.Sized.{sized}
 use Rattle.admission_slices.proofs.Stages.{stops_at}
+use Rattle.admission_slices.proofs.Fit.{refusal_none}
 use Rattle.admission_slices.proofs.Ready.{job-sound, job-laid}
-use Rattle.shed_admission.specs.Found.{one_refusal, short_output, lent, given}
+use Rattle.admission_buffers.specs.Lengths.{short_output}
+use Rattle.shed_admission.specs.Found.{one_refusal, lent, given}
 use Rattle.spec_sheds.specs.Runs.{Run, size, projection_section, vectors_section, p_section, rows_section, run_refusal, projection_refusal, vectors_refusal, lent_refusal}
 use Rattle.spec_sheds.specs.Runs.{project_refusal, rows_refusal}
-use Rattle.shed_admission.specs.declared.admission.RunAdmitted.{RunAdmitted}
-use Rattle.shed_admission.specs.declared.admission.RunAdmitted.TheVariants as A
-use Rattle.shed_admission.specs.Admitted.{of_run_admitted, At, InJob, Runnable, Projectable}
+use Rattle.shed_admission.specs.declared.admission.RunRefusal.{RunRefusal}
+use Rattle.shed_admission.specs.declared.admission.RunRefusal.TheVariants as R
+use Rattle.shed_admission.specs.Admitted.{of_run_refusal, InJob, Runnable, Projectable}
 
 -- a run's place in a job
 module _ (J : List ℕ) (x : Run) where
@@ -58,13 +60,15 @@ module _ (J : List ℕ) (x : Run) where
           record { same = same; sound = job-sound J (sym j); job = job-laid J (sym j); some = a; within = b },
         )
 
--- a fact at the case that an answer is
-pub at_fit : (F : EnvironmentParameters → Type 0) {r : RunAdmitted} {params : EnvironmentParameters} → At r F → r ≡ A.Fit params → F params
-at_fit F h e = subst (λ y. At y F) e h
+-- a refusal of a call on a run is the answer, whatever follows
+pub run_stops : (r : RunRefusal) {a : Answer} (b : Answer) → of_run_refusal r ≡ a → of_run_refusal r ≡ a then b
+run_stops (R.Refused r) b e = stops_at r b e
+run_stops (R.Outside first) b e = stops b e
 
--- what is found, at the case that it is
-pub found : {r x : RunAdmitted} {a : Answer} → of_run_admitted r ≡ a → r ≡ x → of_run_admitted x ≡ a
-found e is = sym (ap of_run_admitted is) ∙ e
+-- and its result is none
+pub run_refusal_none : {A : Type 0} (r : RunRefusal) (value none : A) → none ≡ result_of (of_run_refusal r) value none
+run_refusal_none (R.Refused r) value none = refusal_none r value none
+run_refusal_none (R.Outside first) value none = refl
 
 -- a run within a job: few vectors, few words
 module _ {J : List ℕ} {x : Run} {params : EnvironmentParameters} (h : InJob J x params) where
@@ -108,13 +112,9 @@ module _ (J : List ℕ) (x : Run) (Π S : List ℕ) (scratch output : ℕ) where
   abbrev before : Answer
   before = job_refusal J then run_refusal (parameters J) x
 
-  pub project_stops : (r : Refusal) → of_refusal r ≡ before → of_refusal r ≡ project_refusal J x Π S scratch output
+  pub project_stops : (r : RunRefusal) → of_run_refusal r ≡ before → of_run_refusal r ≡ project_refusal J x Π S scratch output
   unfolding project_refusal
-  project_stops r e = stops_at r (lent_refusal (parameters J) x S scratch p_section output) (stops_at r (projection_refusal (parameters J) x Π) e)
-
-  pub project_outside : (place : ℕ) → refused 34 place ≡ before → refused 34 place ≡ project_refusal J x Π S scratch output
-  unfolding project_refusal
-  project_outside place e = stops (lent_refusal (parameters J) x S scratch p_section output) (stops (projection_refusal (parameters J) x Π) e)
+  project_stops r e = run_stops r (lent_refusal (parameters J) x S scratch p_section output) (run_stops r (projection_refusal (parameters J) x Π) e)
 
   module _ (params : EnvironmentParameters) (h : InJob J x params) (j : fine ≡ before) where
     pub project_answers : {z : Answer} → z ≡ given (parameters_of params) (16384 * params.rank * size x) Π (64 * (size x * params.rank)) S scratch output → z ≡ project_refusal J x Π S scratch output
@@ -140,13 +140,9 @@ module _ (J : List ℕ) (x : Run) (S : List ℕ) (scratch output : ℕ) where
   abbrev before' : Answer
   before' = job_refusal J then run_refusal (parameters J) x
 
-  pub rows_stops : (r : Refusal) → of_refusal r ≡ before' → of_refusal r ≡ rows_refusal J x S scratch output
+  pub rows_stops : (r : RunRefusal) → of_run_refusal r ≡ before' → of_run_refusal r ≡ rows_refusal J x S scratch output
   unfolding rows_refusal
-  rows_stops r e = stops_at r (lent_refusal (parameters J) x S scratch (rows_section (parameters J) x) output) e
-
-  pub rows_outside : (place : ℕ) → refused 34 place ≡ before' → refused 34 place ≡ rows_refusal J x S scratch output
-  unfolding rows_refusal
-  rows_outside place e = stops (lent_refusal (parameters J) x S scratch (rows_section (parameters J) x) output) e
+  rows_stops r e = run_stops r (lent_refusal (parameters J) x S scratch (rows_section (parameters J) x) output) e
 
   module _ (params : EnvironmentParameters) (h : InJob J x params) (j : fine ≡ before') where
     pub rows-answers : {z : Answer} → z ≡ lent (parameters_of params) (64 * (size x * params.rank)) S scratch (1 + 64 * (size x * params.kappa)) output → z ≡ rows_refusal J x S scratch output

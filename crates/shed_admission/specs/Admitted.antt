@@ -1,5 +1,5 @@
 -- The answers of the admission of a run, and what holds of a call that is refused nothing before its work.
-use Rattle.std.specs.Prelude.{◌≡◌, List, ℕ, ◌≤◌, ◌<◌}
+use Rattle.std.specs.Prelude.{◌≡◌, List, ℕ, ◌≤◌, ◌<◌, Result, Ok, Err}
 use Rattle.spec_leaves.specs.Answer.{Answer, fine, refused, of_refusal}
 use Rattle.spec_protocol.specs.Parameters.{parameters}
 use Rattle.spec_protocol.specs.Layout.{Section, span, job_sections, scratch_need}
@@ -8,20 +8,18 @@ use Rattle.relation_env_params.specs.declared.env_params.EnvironmentParameters.{
 use Rattle.relation_env_params.specs.Parameters.{parameters_of}
 use Rattle.relation_env_params.specs.SectionOne.{Sound}
 use Rattle.spec_sheds.specs.Runs.{Run, projection_section, vectors_section, p_section}
-use Rattle.shed_admission.specs.declared.admission.RunAdmitted.{RunAdmitted}
-use Rattle.shed_admission.specs.declared.admission.RunAdmitted.TheVariants as A
+use Rattle.shed_admission.specs.declared.admission.RunRefusal.{RunRefusal}
+use Rattle.shed_admission.specs.declared.admission.RunRefusal.TheVariants as R
 
--- the number and place of what is refused: 34 at the run's first index
-abbrev pub of_run_admitted : RunAdmitted → Answer
-of_run_admitted (A.Refused r) = of_refusal r
-of_run_admitted (A.Outside first) = refused 34 first
-of_run_admitted (A.Fit params) = fine
+-- a refusal's number and place: 34 at the run's first index
+abbrev pub of_run_refusal : RunRefusal → Answer
+of_run_refusal (R.Refused r) = of_refusal r
+of_run_refusal (R.Outside first) = refused 34 first
 
--- a fact of the parameters of a call that is refused nothing
-abbrev pub At : RunAdmitted → (EnvironmentParameters → Type 0) → Type 0
-At (A.Refused r) F = Unit {0}
-At (A.Outside first) F = Unit {0}
-At (A.Fit params) F = F params
+-- what may be refused of a call on a run
+abbrev pub of_run_admitted : {T : Type 0} → Result T RunRefusal → Answer
+of_run_admitted (Ok value) = fine
+of_run_admitted (Err r) = of_run_refusal r
 
 -- a job that is refused nothing, and a run within it
 pub record InJob (J : List ℕ) (x : Run) (params : EnvironmentParameters) : Type 0 where

@@ -1,18 +1,13 @@
 -- What the tests of the slices and buffers answer, by the numbers of words that there should be.
 use Rattle.std.specs.Prelude.{List, [], ◌∷◌, ℕ}
-use Rattle.std.proofs.Math.Decide.{dec_le}
-use Rattle.spec_leaves.specs.Answer.{Answer, refused, ◌then◌}
-use Rattle.spec_protocol.specs.Checks.{require}
+use Rattle.spec_leaves.specs.Answer.{Answer, ◌then◌}
 use Rattle.spec_protocol.specs.Parameters.{Parameters}
 use Rattle.spec_protocol.specs.Layout.{canonical, layout, ranged, scratch_refusal}
+use Rattle.admission_buffers.specs.Lengths.{short_output}
 
 -- one section of so many canonical words: its layout and its words
 unfoldable pub one_refusal : (number word_number count : ℕ) → List ℕ → Answer
 one_refusal number word_number count words = layout number words 0 (canonical count ∷ []) then ranged word_number words 0 (canonical count ∷ [])
-
--- "2 output too short"
-unfoldable pub short_output : (need output : ℕ) → Answer
-short_output need output = require (dec_le need output) (refused 2 need)
 
 -- "11 and 12 on its vectors, 1, 2"
 unfoldable pub lent : Parameters → (count : ℕ) → (S : List ℕ) → (scratch need output : ℕ) → Answer

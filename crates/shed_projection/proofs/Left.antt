@@ -6,8 +6,7 @@ use native.Mathlib.Omega.{arith}
 use lib.ListN.{length}
 use Rattle.math.specs.lists.Table.{table}
 use Rattle.math.proofs.lists.Table.{table_ext}
-use Rattle.spec_leaves.specs.declared.answers.Refusal.{Refusal}
-use Rattle.spec_leaves.specs.Answer.{Answer, fine, refused, result_of, of_refusal}
+use Rattle.spec_leaves.specs.Answer.{Answer, fine, result_of}
 use Rattle.spec_protocol.specs.Parameters.{parameters}
 use Rattle.spec_protocol.specs.Layout.{span, start, scratch_need}
 use Rattle.spec_protocol.specs.Prover.{zeroed}
@@ -16,11 +15,12 @@ use Rattle.core_jl.specs.Run.{Within}
 use Rattle.core_jl.proofs.Formula.{run_of_first}
 use Rattle.relation_env_params.specs.declared.env_params.EnvironmentParameters.{EnvironmentParameters}
 use Rattle.relation_env_params.specs.Parameters.{parameters_of}
-use Rattle.admission_slices.proofs.Fit.{refusal_none}
 use Rattle.spec_sheds.specs.Runs.{Run, size, p_section, stored, run_p, project_refusal, project_output, project_scratch}
 use Rattle.api_answers.specs.declared.verdicts.LabradorAnswer.{LabradorAnswer}
 use Rattle.api_answers.specs.Calls.{labrador_answer}
-use Rattle.shed_admission.specs.Admitted.{Projectable}
+use Rattle.shed_admission.specs.declared.admission.RunRefusal.{RunRefusal}
+use Rattle.shed_admission.specs.Admitted.{of_run_refusal, Projectable}
+use Rattle.shed_admission.proofs.Order.{run_refusal_none}
 
 module _ (J : List ℕ) (x : Run) (Π S scratch output : List ℕ) where
   abbrev answer : Answer
@@ -32,25 +32,15 @@ module _ (J : List ℕ) (x : Run) (Π S scratch output : List ℕ) where
   abbrev cleared : List ℕ
   cleared = zeroed (scratch_need (parameters J)) scratch
 
-  -- a refusal of document 01's list leaves both buffers
-  module _ (r : Refusal) (e : of_refusal r ≡ answer) where
+  -- a refusal leaves both buffers
+  module _ (r : RunRefusal) (e : of_run_refusal r ≡ answer) where
     pub refused-output : output ≡ project_output J x Π S scratch output
     unfolding project_output
-    refused-output = refusal_none r made output ∙ ap (λ a. result_of a made output) e
+    refused-output = run_refusal_none r made output ∙ ap (λ a. result_of a made output) e
 
     pub refused-scratch : scratch ≡ project_scratch J x Π S scratch output
     unfolding project_scratch
-    refused-scratch = refusal_none r cleared scratch ∙ ap (λ a. result_of a cleared scratch) e
-
-  -- and so does 34
-  module _ (place : ℕ) (e : refused 34 place ≡ answer) where
-    pub outside_output : output ≡ project_output J x Π S scratch output
-    unfolding project_output
-    outside_output = ap (λ a. result_of a made output) e
-
-    pub outside_scratch : scratch ≡ project_scratch J x Π S scratch output
-    unfolding project_scratch
-    outside_scratch = ap (λ a. result_of a cleared scratch) e
+    refused-scratch = run_refusal_none r cleared scratch ∙ ap (λ a. result_of a cleared scratch) e
 
   -- what the work needs of a call that is refused nothing, and what it leaves
   module _ (params : EnvironmentParameters) (h : Projectable J x Π S (length scratch) (length output) params) where

@@ -10,11 +10,10 @@ ghost use Rattle.layout_sizes.specs.Sizes.{Sized};
 ghost use Rattle.spec_sheds.specs.Runs.{p_section, stored};
 ghost use Rattle.shed_projection.specs.Call.{PCall};
 
-use api_answers::verdicts;
 use api_answers::verdicts::LabradorAnswer;
 use layout_sizes::buffers;
 use relation_env_params::env_params::EnvironmentParameters;
-use shed_admission::admission::{RunAdmitted, admit_projection};
+use shed_admission::admission::admit_projection;
 
 // The section of p of so many vectors of n elements: the whole call's projection, of slices that start at the run's first vector.
 fn put_p(projection: &[u32], vectors: &[u32], n: usize, count: usize, output: &mut [u32])
@@ -70,11 +69,7 @@ pub fn project(
         scratch.len(),
         output.len(),
     ) {
-        RunAdmitted::Refused(refusal) => verdicts::refusal_of(refusal),
-        RunAdmitted::Outside(place) => LabradorAnswer {
-            number: 34,
-            place: place as u64,
-        },
-        RunAdmitted::Fit(params) => work(params, end - first, projection, vectors, scratch, output),
+        Ok(params) => work(params, end - first, projection, vectors, scratch, output),
+        Err(refusal) => LabradorAnswer::from(refusal),
     }
 }

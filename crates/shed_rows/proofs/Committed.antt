@@ -1,14 +1,14 @@
 -- The rows that are stored are the run's, and 13 is that of its vectors, counted over the whole job.
 use mathlib.Core.Path.{◌≡◌, refl, sym, ap, subst, ◌∙◌}
 use mathlib.Core.List.{List, [], ◌∷◌}
-use Prim.Native.Nat.{ℕ, zero, suc, ◌+◌, ◌*◌, ◌≤◌, ◌^◌}
+use Prim.Native.Nat.{ℕ, zero, suc, ◌+◌, ◌*◌, ◌≤◌}
 use native.Mathlib.Decide.{dec_le}
 use native.Mathlib.Omega.{arith}
 use lib.ListN.{length, set, replicate}
 use Rattle.math.specs.lists.Part.{splice}
 use Rattle.math.specs.lists.Table.{table}
 use Rattle.spec_leaves.specs.declared.answers.Refusal.{Refusal}
-use Rattle.spec_leaves.specs.Answer.{Answer, fine, accepted, refused, failed, number, place, result_of, of_refusal, value128, ◌then◌}
+use Rattle.spec_leaves.specs.Answer.{Answer, fine, accepted, refused, failed, number, place, result_of, of_refusal, ◌then◌}
 use Rattle.spec_protocol.specs.Checks.{require, first}
 use Rattle.spec_protocol.specs.Parameters.{Parameters, parameters}
 use Rattle.spec_protocol.specs.Layout.{canonical, span, start, job_sections}
@@ -89,15 +89,12 @@ module _ (J : List ℕ) (x : Run) (S O : List ℕ) (params : EnvironmentParamete
   pub rows-room : 1 + 64 * (size x * params.kappa) ≤ length O
   rows-room = subst (λ n. n ≤ length O) (sym need_is) h.output_fits
 
-  vectors-room : 1 + 64 * (size x * params.rank) ≤ length S
+  -- 13: what `check_witness` needs
+  pub vectors-room : 1 + 64 * (size x * params.rank) ≤ length S
   vectors-room = subst (λ n. 1 + 64 * (size x * n) ≤ length S) (sym (ap (λ Q. Q.n) same)) (within (size x * (parameters J).n) (length S) h.vectors.whole)
     where
       within : (k l : ℕ) → l ≡ 0 + span (canonical (64 * k) ∷ []) → 1 + 64 * k ≤ l
       within k l e = unfold span in omega arith
-
-  -- 13: what `check_witness` needs
-  pub norms-room : (1 + 64 * (size x * params.rank) ≤ length S) × (params.rank ≤ 2 ^ 18)
-  norms-room = (vectors-room, omega (arith, (run-sized h.in_job).within.n.1))
 
   -- what `commit_all` needs
   pub commit_room : (at : ℕ) → at ≡ 31 + start (job_sections (parameters_of params)) 6
@@ -132,7 +129,7 @@ module _ (J : List ℕ) (x : Run) (S O : List ℕ) (params : EnvironmentParamete
 
   -- the tests of the run's own vectors
   abbrev tests : Answer
-  tests = first (size x) (vector_norm S 1 params.rank (value128 params.bound_a))
+  tests = first (size x) (vector_norm S 1 params.rank params.bound_a)
 
   norm_is : run_norm J x S ≡ moved x.first tests
   unfolding run_norm start
@@ -161,7 +158,7 @@ module _ (J : List ℕ) (x : Run) (S O : List ℕ) (params : EnvironmentParamete
   -- where one is
   module _ (r : Refusal) (e : of_refusal r ≡ tests) where
     pub few-places : place (of_refusal r) ≤ 16
-    few-places = subst (λ a. place a ≤ 16) (sym e) (first-place S 1 params.rank (value128 params.bound_a) (size x) 16 (few h.in_job))
+    few-places = subst (λ a. place a ≤ 16) (sym e) (first-place S 1 params.rank params.bound_a (size x) 16 (few h.in_job))
 
     pub norm-refused : run_norm J x S ≡ refused (number (of_refusal r)) (x.first + place (of_refusal r))
     unfolding moved

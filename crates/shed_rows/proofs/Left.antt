@@ -3,18 +3,16 @@ use mathlib.Core.Path.{◌≡◌, sym, ap, subst, ◌∙◌}
 use mathlib.Core.List.{List}
 use Prim.Native.Nat.{ℕ, ◌≤◌}
 use lib.ListN.{length}
-use Rattle.spec_leaves.specs.declared.answers.Refusal.{Refusal}
-use Rattle.spec_leaves.specs.Answer.{Answer, fine, refused, result_of, of_refusal, ◌then◌}
+use Rattle.spec_leaves.specs.Answer.{Answer, fine, result_of, ◌then◌}
 use Rattle.spec_protocol.specs.Parameters.{parameters}
 use Rattle.spec_protocol.specs.Layout.{scratch_need}
 use Rattle.spec_protocol.specs.Prover.{zeroed}
-use Rattle.layout_sections.proofs.Then.{stops}
 use Rattle.relation_env_params.specs.declared.env_params.EnvironmentParameters.{EnvironmentParameters}
 use Rattle.relation_env_params.specs.Parameters.{parameters_of}
-use Rattle.admission_slices.proofs.Stages.{stops_at}
-use Rattle.admission_slices.proofs.Fit.{refusal_none}
 use Rattle.spec_sheds.specs.Runs.{Run, rows_section, run_norm, rows_made, rows_refusal, commit_rows, rows_output, rows_scratch}
-use Rattle.shed_admission.specs.Admitted.{Runnable}
+use Rattle.shed_admission.specs.declared.admission.RunRefusal.{RunRefusal}
+use Rattle.shed_admission.specs.Admitted.{of_run_refusal, Runnable}
+use Rattle.shed_admission.proofs.Order.{run_stops, run_refusal_none}
 
 module _ (J : List ℕ) (x : Run) (S scratch output : List ℕ) where
   abbrev answer : Answer
@@ -23,33 +21,19 @@ module _ (J : List ℕ) (x : Run) (S scratch output : List ℕ) where
   abbrev cleared : List ℕ
   cleared = zeroed (scratch_need (parameters J)) scratch
 
-  -- a refusal of document 01's list leaves both buffers
-  module _ (r : Refusal) (e : of_refusal r ≡ answer) where
-    pub refused-answer : of_refusal r ≡ commit_rows J x S (length scratch) (length output)
+  -- a refusal leaves both buffers
+  module _ (r : RunRefusal) (e : of_run_refusal r ≡ answer) where
+    pub refused-answer : of_run_refusal r ≡ commit_rows J x S (length scratch) (length output)
     unfolding commit_rows
-    refused-answer = stops_at r (run_norm J x S) e
+    refused-answer = run_stops r (run_norm J x S) e
 
     pub refused-output : output ≡ rows_output J x S scratch output
     unfolding rows_output
-    refused-output = refusal_none r (rows_made J x S output) output ∙ ap (λ a. result_of a (rows_made J x S output) output) e
+    refused-output = run_refusal_none r (rows_made J x S output) output ∙ ap (λ a. result_of a (rows_made J x S output) output) e
 
     pub refused-scratch : scratch ≡ rows_scratch J x S scratch output
     unfolding rows_scratch
-    refused-scratch = refusal_none r cleared scratch ∙ ap (λ a. result_of a cleared scratch) e
-
-  -- and so does 34
-  module _ (place : ℕ) (e : refused 34 place ≡ answer) where
-    pub outside_answer : refused 34 place ≡ commit_rows J x S (length scratch) (length output)
-    unfolding commit_rows
-    outside_answer = stops (run_norm J x S) e
-
-    pub outside_output : output ≡ rows_output J x S scratch output
-    unfolding rows_output
-    outside_output = ap (λ a. result_of a (rows_made J x S output) output) e
-
-    pub outside_scratch : scratch ≡ rows_scratch J x S scratch output
-    unfolding rows_scratch
-    outside_scratch = ap (λ a. result_of a cleared scratch) e
+    refused-scratch = run_refusal_none r cleared scratch ∙ ap (λ a. result_of a cleared scratch) e
 
   -- a call that is not refused before its work
   module _ (e : fine ≡ answer) where

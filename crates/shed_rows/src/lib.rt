@@ -8,15 +8,13 @@ ghost use Rattle.spec_sheds.specs.Runs.{run, rows_section, stored_rows, run_norm
 ghost use Rattle.shed_admission.specs.Admitted.{RunGiven};
 ghost use Rattle.shed_rows.specs.Call.{RowsCall};
 
-use api_answers::numbers::number_of;
-use api_answers::verdicts;
+use api_answers::numbers::Numbered;
 use api_answers::verdicts::LabradorAnswer;
 use commitments_ajtai::ajtai_commitment;
 use commitments_bounds::common_instances;
 use layout_sizes::{buffers, names, offsets};
 use relation_env_params::env_params::EnvironmentParameters;
-use shed_admission::admission::{RunAdmitted, admit_rows};
-use spec_leaves::answers::Proved;
+use shed_admission::admission::admit_rows;
 
 // The section of the rows of a run: the whole call's commitments, of a slice that starts at the run's first vector.
 fn put_rows(
@@ -63,16 +61,16 @@ fn commit(
 {
     let count = end - first;
     match common_instances::check_witness(vectors, 1, params.rank, count, params.bound_a) {
-        Proved::Made => {
+        Ok(()) => {
             put_rows(job, params, first, end, vectors, output);
             LabradorAnswer {
                 number: 0,
                 place: 0,
             }
         }
-        Proved::Refused(refusal) => {
+        Err(refusal) => {
             ring_words::clear(output, 1 + 64 * (count * params.kappa));
-            let found = number_of(refusal);
+            let found = Numbered::from(refusal);
             LabradorAnswer {
                 number: found.number,
                 place: (first + found.place) as u64,
@@ -93,16 +91,12 @@ pub fn rows(
     ensures { RowsCall job.now first end vectors.now scratch.old output.old scratch.new output.new result }
 {
     match admit_rows(job, first, end, vectors, scratch.len(), output.len()) {
-        RunAdmitted::Refused(refusal) => verdicts::refusal_of(refusal),
-        RunAdmitted::Outside(place) => LabradorAnswer {
-            number: 34,
-            place: place as u64,
-        },
-        RunAdmitted::Fit(params) => {
+        Ok(params) => {
             let answer = commit(job, params, first, end, vectors, output);
             let need = buffers::scratch_length(params);
             ring_words::clear(scratch, need);
             answer
         }
+        Err(refusal) => LabradorAnswer::from(refusal),
     }
 }

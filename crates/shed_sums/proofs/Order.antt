@@ -13,7 +13,8 @@ use Rattle.spec_protocol.proofs.Laid.{layout-whole}
 use Rattle.layout_sections.proofs.Then.{goes_on}
 use Rattle.admission_slices.proofs.Stages.{stops_at}
 use Rattle.admission_slices.proofs.Fit.{refusal_none}
-use Rattle.shed_admission.specs.Found.{one_refusal, short_output}
+use Rattle.admission_buffers.specs.Lengths.{short_output}
+use Rattle.shed_admission.specs.Found.{one_refusal}
 use Rattle.spec_sheds.specs.Runs.{p_section, stored, p_sum, p_refusal, add_refusal, add_output}
 
 module _ (p q : List ℕ) (output : ℕ) where

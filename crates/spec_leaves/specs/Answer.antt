@@ -1,18 +1,15 @@
 -- The answers of the calls (document 01, "Who can cause which refusal" and "The verifier's checks, in order"; document 02), and what each case of the enums stands for.
-use Rattle.std.specs.Prelude.{Bool, true, false, cond, List, [], ◌∷◌, ℕ, ◌+◌, ◌*◌, ◌^◌, ltb}
-use Rattle.spec_leaves.specs.declared.answers.U128.{U128}
+use Rattle.std.specs.Prelude.{Bool, true, false, cond, List, [], ◌∷◌, ℕ, ◌+◌, ltb, Result, Ok, Err}
 use Rattle.spec_leaves.specs.declared.answers.Refusal.{Refusal}
 use Rattle.spec_leaves.specs.declared.answers.Refusal.TheVariants as R
 use Rattle.spec_leaves.specs.declared.answers.FailedCheck.{FailedCheck}
 use Rattle.spec_leaves.specs.declared.answers.FailedCheck.TheVariants as F
-use Rattle.spec_leaves.specs.declared.answers.Checked.{Checked}
-use Rattle.spec_leaves.specs.declared.answers.Checked.TheVariants as C
+use Rattle.spec_leaves.specs.declared.answers.Rejection.{Rejection}
+use Rattle.spec_leaves.specs.declared.answers.Rejection.TheVariants as J
 use Rattle.spec_leaves.specs.declared.answers.Verdict.{Verdict}
 use Rattle.spec_leaves.specs.declared.answers.Verdict.TheVariants as V'
-use Rattle.spec_leaves.specs.declared.answers.Proved.{Proved}
-use Rattle.spec_leaves.specs.declared.answers.Proved.TheVariants as P
-use Rattle.spec_leaves.specs.declared.answers.Operands.{Operands}
-use Rattle.spec_leaves.specs.declared.answers.Operands.TheVariants as O
+use Rattle.spec_leaves.specs.declared.answers.OperandError.{OperandError}
+use Rattle.spec_leaves.specs.declared.answers.OperandError.TheVariants as O
 
 -- an answer of document 01: all is well; an acceptance, which by document 02, Item 5, "states how many cells of t, g and h together have a coefficient with something left";
 -- a refusal's number and place; a failed check's number and values
@@ -60,10 +57,6 @@ unfoldable pub below : (limit number place : ℕ) → List ℕ → Answer
 below limit number place [] = fine
 below limit number place (w ∷ ws) = cond (ltb w limit) (below limit number (place + 1) ws) (refused number place)
 
--- the value of two u64
-unfoldable pub value128 : U128 → ℕ
-value128 x = x.hi * 2 ^ 64 + x.lo
-
 -- a refusal's number and place
 abbrev pub of_refusal : Refusal → Answer
 of_refusal (R.ScratchTooShort p) = refused 1 p
@@ -85,9 +78,9 @@ of_refusal R.DigitsOfH = refused 16 0
 
 -- a failed check's number and values
 abbrev pub of_failed : FailedCheck → Answer
-of_failed (F.ProjectionNorm norm limit) = failed 21 (value128 norm ∷ value128 limit ∷ [])
+of_failed (F.ProjectionNorm norm limit) = failed 21 (norm ∷ limit ∷ [])
 of_failed (F.B0Mismatch index sent computed) = failed 22 (index ∷ sent ∷ computed ∷ [])
-of_failed (F.NormSum sum limit) = failed 23 (value128 sum ∷ value128 limit ∷ [])
+of_failed (F.NormSum sum limit) = failed 23 (sum ∷ limit ∷ [])
 of_failed F.Az = failed 24 []
 of_failed F.ZInner = failed 25 []
 of_failed F.Phi = failed 26 []
@@ -95,11 +88,32 @@ of_failed F.Relation = failed 27 []
 of_failed F.OuterCommitU1 = failed 28 []
 of_failed F.OuterCommitU2 = failed 29 []
 
+-- what a transcript is rejected for
+abbrev pub of_rejection : Rejection → Answer
+of_rejection (J.Refused r) = of_refusal r
+of_rejection (J.Failed f) = of_failed f
+
+-- why a leaf call refuses its operands
+abbrev pub of_operand_error : OperandError → Answer
+of_operand_error (O.ParameterOutOfLimits p) = refused 4 p
+of_operand_error (O.Word p) = refused 6 p
+of_operand_error (O.SignWord p) = refused 8 p
+of_operand_error (O.BaseOrParts p) = refused 31 p
+
+-- what may be refused: all is well where there is a value
+abbrev pub of_result : {T : Type 0} → Result T Refusal → Answer
+of_result (Ok value) = fine
+of_result (Err r) = of_refusal r
+
 -- what a check of the verifier finds
-abbrev pub of_checked : Checked → Answer
-of_checked C.Passed = fine
-of_checked (C.Refused r) = of_refusal r
-of_checked (C.Failed f) = of_failed f
+abbrev pub of_checked : {T : Type 0} → Result T Rejection → Answer
+of_checked (Ok value) = fine
+of_checked (Err e) = of_rejection e
+
+-- what the verifier finds: the value is the number of cells with something left
+abbrev pub of_judged : Result ℕ Rejection → Answer
+of_judged (Ok cells) = accepted cells
+of_judged (Err e) = of_rejection e
 
 -- a verdict's number and values
 abbrev pub of_verdict : Verdict → Answer
@@ -107,15 +121,7 @@ of_verdict (V'.Accepted cells) = accepted cells
 of_verdict (V'.Refused r) = of_refusal r
 of_verdict (V'.Failed f) = of_failed f
 
--- the prover's number and values
-abbrev pub of_proved : Proved → Answer
-of_proved P.Made = fine
-of_proved (P.Refused r) = of_refusal r
-
 -- a leaf call's number and place
-abbrev pub of_operands : Operands → Answer
-of_operands O.Fit = fine
-of_operands (O.ParameterOutOfLimits p) = refused 4 p
-of_operands (O.Word p) = refused 6 p
-of_operands (O.SignWord p) = refused 8 p
-of_operands (O.BaseOrParts p) = refused 31 p
+abbrev pub of_operands : {T : Type 0} → Result T OperandError → Answer
+of_operands (Ok value) = fine
+of_operands (Err e) = of_operand_error e

@@ -3,11 +3,11 @@ use mathlib.Core.Path.{◌≡◌, sym, ap, subst, ◌∙◌}
 use mathlib.Core.List.{List}
 use Prim.Native.Nat.{ℕ, ◌<◌}
 use lib.ListN.{length, take}
-use Rattle.spec_leaves.specs.declared.answers.Proved.{Proved}
-use Rattle.spec_leaves.specs.declared.answers.Proved.TheVariants as P'
+use Rattle.std.specs.Prelude.{Result, Ok}
+use Rattle.spec_leaves.specs.declared.answers.Refusal.{Refusal}
 use Rattle.spec_leaves.specs.declared.answers.Verdict.{Verdict}
 use Rattle.spec_leaves.specs.declared.answers.Verdict.TheVariants as V'
-use Rattle.spec_leaves.specs.Answer.{of_proved, of_verdict}
+use Rattle.spec_leaves.specs.Answer.{of_result, of_verdict}
 use Rattle.spec_protocol.specs.Parameters.{parameters}
 use Rattle.spec_protocol.specs.Layout.{span, transcript_sections}
 use Rattle.spec_protocol.specs.Views.{witness}
@@ -25,10 +25,10 @@ pub record BothCalls (J W : List ℕ) : Type 0 where
   pub scratch : List ℕ
   pub output : List ℕ
   pub exit : List ℕ
-  pub answer : Proved
-  pub answered : of_proved answer ≡ prove whole J randomness W (length scratch) (length output)
+  pub answer : Result Unit Refusal
+  pub answered : of_result answer ≡ prove whole J randomness W (length scratch) (length output)
   pub exits : exit ≡ prove_output whole J randomness W scratch output
-  pub made : answer ≡ P'.Made
+  pub made : answer ≡ Ok tt
   pub scratch' : List ℕ
   pub verdict : Verdict
   pub judged : of_verdict verdict ≡ verify J randomness (take (span (transcript_sections (parameters J))) exit) (length scratch')
@@ -46,7 +46,7 @@ module _ {J W : List ℕ} where
   made-by_calls B = record {
     scratch = B.scratch;
     output = B.output;
-    proved = sym B.answered ∙ ap of_proved B.made;
+    proved = sym B.answered ∙ ap of_result B.made;
     is_output = ap (take (span (transcript_sections (parameters J)))) B.exits;
   }
 

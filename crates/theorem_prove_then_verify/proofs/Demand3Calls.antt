@@ -6,10 +6,9 @@ use native.Mathlib.Decide.{dec_le}
 use lib.ListN.{length, take, drop, replicate, length-replicate}
 use lib.Seq.{drop_at}
 use Rattle.spec_leaves.specs.declared.answers.Refusal.{Refusal}
-use Rattle.spec_leaves.specs.declared.answers.Proved.{Proved}
-use Rattle.spec_leaves.specs.declared.answers.Proved.TheVariants as P
+use Rattle.std.specs.Prelude.{Result, Ok, Err}
 use Rattle.spec_leaves.specs.declared.answers.Verdict.{Verdict}
-use Rattle.spec_leaves.specs.Answer.{fine, refused, result_of, ◌then◌, of_refusal, of_proved, of_verdict}
+use Rattle.spec_leaves.specs.Answer.{fine, refused, result_of, ◌then◌, of_refusal, of_result, of_verdict}
 use Rattle.spec_protocol.specs.Parameters.{parameters}
 use Rattle.spec_protocol.specs.Layout.{span, transcript_sections, job_refusal, scratch_need}
 use Rattle.spec_protocol.specs.Views.{public, witness}
@@ -33,15 +32,15 @@ zeroed-twice need buffer = ap (λ rest. replicate need 0 ++ rest) (drop_at (repl
 
 module _ (J R W scratch output : List ℕ) where
   -- what the prover's contract ensures of its answer and its output
-  module _ (p : Proved) (exit : List ℕ) (answered : of_proved p ≡ prove whole J R W (length scratch) (length output)) (left : exit ≡ prove_output whole J R W scratch output) where
+  module _ (p : Result (Unit {0}) Refusal) (exit : List ℕ) (answered : of_result p ≡ prove whole J R W (length scratch) (length output)) (left : exit ≡ prove_output whole J R W scratch output) where
     -- a refusal is the answer, whatever the conditions are
-    pub prover_refuses : (r : Refusal) → p ≡ P.Refused r → of_refusal r ≡ prove whole J R W (length scratch) (length output) then conditions (public J R) (witness (parameters J) W)
-    prover_refuses r is = stops_at r (conditions (public J R) (witness (parameters J) W)) (sym (ap of_proved is) ∙ answered)
+    pub prover_refuses : (r : Refusal) → p ≡ Err r → of_refusal r ≡ prove whole J R W (length scratch) (length output) then conditions (public J R) (witness (parameters J) W)
+    prover_refuses r is = stops_at r (conditions (public J R) (witness (parameters J) W)) (sym (ap of_result is) ∙ answered)
 
     -- where a transcript was made
-    module _ (is : p ≡ P.Made) where
+    module _ (is : p ≡ Ok tt) where
       pub proved : fine ≡ prove whole J R W (length scratch) (length output)
-      proved = sym (ap of_proved is) ∙ answered
+      proved = sym (ap of_result is) ∙ answered
 
       -- what holds of a call that is refused nothing
       call : Admitted whole J R W (length scratch) (length output)

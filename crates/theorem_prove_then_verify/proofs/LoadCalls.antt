@@ -4,10 +4,10 @@ use mathlib.Core.List.{List}
 use Prim.Native.Nat.{ℕ, ◌≤◌, ◌<◌, ◌^◌}
 use lib.ListN.{length, take, drop}
 use lib.Seq.{take_at}
-use Rattle.spec_leaves.specs.declared.answers.Proved.{Proved}
-use Rattle.spec_leaves.specs.declared.answers.Proved.TheVariants as P
+use Rattle.std.specs.Prelude.{Result, Ok, Err}
+use Rattle.spec_leaves.specs.declared.answers.Refusal.{Refusal}
 use Rattle.spec_leaves.specs.declared.answers.Verdict.{Verdict}
-use Rattle.spec_leaves.specs.Answer.{fine, accepted, of_proved, of_verdict}
+use Rattle.spec_leaves.specs.Answer.{fine, accepted, of_result, of_verdict}
 use Rattle.spec_protocol.specs.Layout.{span, transcript_sections, scratch_need}
 use Rattle.spec_protocol.specs.Prover.{whole, prove, prove_output}
 use Rattle.spec_protocol.specs.Views.{public}
@@ -71,14 +71,16 @@ module _ (G : Given) (seed : ℕ) (fits : seed < 2 ^ 32) (job wit rnd : List ℕ
           ∙ load_accepted G seed fits admitted scratch output lent enough room lent-enough
 
 -- the same of what the three calls answer
-module _ (G : Given) (seed : ℕ) (fits : seed < 2 ^ 32) (job wit rnd : List ℕ) (l : Proved) (is : l ≡ P.Made) (answered : of_proved l ≡ load_refusal G (length job) (length wit) (length rnd)) where
+module _ (G : Given) (seed : ℕ) (fits : seed < 2 ^ 32) (job wit rnd : List ℕ) (l : Result (Unit {0}) Refusal) (is : l ≡ Ok tt) (answered : of_result l ≡ load_refusal G (length job) (length wit)
+    (length rnd)) where
   made : load_refusal G (length job) (length wit) (length rnd) ≡ fine
-  made = sym answered ∙ ap of_proved is
+  made = sym answered ∙ ap of_result is
 
   module _ (j w ρ : List ℕ) (left-job : j ≡ job_exit G seed job wit rnd) (left-witness : w ≡ witness_exit G seed job wit rnd) (left-randomness : ρ ≡ randomness_exit G seed job wit rnd)
       (scratch output : List ℕ) (enough : scratch_need (load_parameters G) ≤ length scratch) (room : span (transcript_sections (load_parameters G)) ≤ length output) where
     -- the prover's answer
-    pub load_is_proved : (p : Proved) → of_proved p ≡ prove whole (take (job_need G) j) (take (randomness_need G) ρ) (take (witness_need G) w) (length scratch) (length output) → of_proved p ≡ fine
+    pub load_is_proved : (p : Result (Unit {0}) Refusal) → of_result p ≡ prove whole (take (job_need G) j) (take (randomness_need G) ρ) (take (witness_need G) w) (length scratch) (length output)
+        → of_result p ≡ fine
     load_is_proved p answer = answer ∙ load_made G seed fits job wit rnd made j w ρ left-job left-witness left-randomness scratch output enough room
 
     -- the verifier's verdict on its output

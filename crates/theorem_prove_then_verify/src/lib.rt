@@ -10,7 +10,7 @@ ghost use Rattle.theorem_prove_then_verify.specs.Both.{both};
 use admission_slices::calls::Call;
 use admission_slices::transcript_length;
 use prover::prove;
-use spec_leaves::answers::{Proved, Verdict};
+use spec_leaves::answers::Verdict;
 use verifier::verify;
 
 // The verdict on the first words of a buffer.
@@ -25,8 +25,7 @@ fn verify_first(
     ensures result_value { of_verdict result ≡ verdict job.now randomness.now (take count words.now) (length scratch.old) }
     ensures scratch_after { scratch.new ≡ verify_scratch job.now randomness.now (take count words.now) scratch.old }
 {
-    let transcript = &words[..count];
-    verify::verify(job, randomness, transcript, scratch)
+    verify::verify(job, randomness, &words[..count], scratch)
 }
 
 // The prover's refusal, or the verdict of the four conditions on job, randomness and witness.
@@ -42,8 +41,8 @@ pub fn prove_then_verify(
     ensures scratch_after { scratch.new ≡ prove_scratch whole job.now randomness.now witness.now scratch.old output.old }
 {
     match prove::prove(Call::Whole, job, randomness, witness, scratch, output) {
-        Proved::Refused(refusal) => Verdict::Refused(refusal),
-        Proved::Made => {
+        Err(refusal) => Verdict::Refused(refusal),
+        Ok(()) => {
             let count = transcript_length::transcript_length(job);
             verify_first(job, randomness, output, count, scratch)
         }

@@ -1,4 +1,5 @@
 // The challenges c_i of a randomness (`generate_challenges` of transcript/mod.rs), and z = Σ s_i·c_i (prover.rs).
+// A slice is passed whole with the place of its run: contracts speak of places in the whole slice, and a struct of the two would be built anew at each call.
 #![tactic(auto)]
 
 ghost use Rattle.std.specs.Prelude.{◌≡◌, ◌+◌, ◌*◌, ◌≤◌, length};
@@ -35,13 +36,11 @@ pub fn generate_challenges(
     let mut signs = signs_at;
     let mut shuffle = shuffle_at;
     let mut place = out_at;
-    let mut i = 0;
-    while i < r {
+    for i in 0..r {
         ring_words::store(out, place, challenge_at(words, signs, shuffle));
         signs += 41;
         shuffle += 63;
         place += 64;
-        i += 1;
     }
 }
 
@@ -62,11 +61,9 @@ pub fn compute_z(
     let mut rows = [0u32; 1024];
     powers::store(c, c_at, r, &mut rows);
     let mut place = out_at;
-    let mut m = 0;
-    while m < n {
+    for m in 0..n {
         let element = products::inner_product(&rows, s, s_at + 64 * m, 64 * n, r);
         ring_words::store(out, place, element);
         place += 64;
-        m += 1;
     }
 }

@@ -54,15 +54,12 @@ pub fn shuffle_coefficients(words: &[u32], coeffs: [u32; 64]) -> [u32; 64]
 {
     let mut a = coeffs;
     for k in 0..63 {
-        let i = 63 - k;
-        let j = place(words[k], i);
-        let x = a[i];
-        a[i] = a[j];
-        a[j] = x;
+        a.swap(63 - k, place(words[k], 63 - k));
     }
     a
 }
 
+#[tactic(auto, unfolding(spec_leaves::specs::Challenge::challenge))]
 pub fn sample_challenge(signs: &[u32], words: &[u32]) -> Rq
     requires { (41 ≤ length signs.now) × (63 ≤ length words.now) }
     ensures { result.coeffs ≡ challenge signs.now words.now }

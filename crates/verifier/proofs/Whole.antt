@@ -1,17 +1,11 @@
 -- The whole of the checks in order, and a call of the verifier that is refused before its work or not.
 use mathlib.Core.Path.{◌≡◌, refl, sym, ap, ap₂, subst, ◌∙◌}
-use mathlib.Core.List.{List, [], ◌∷◌}
+use mathlib.Core.List.{List}
 use Prim.Native.Nat.{ℕ, ◌≤◌}
 use native.Mathlib.Omega.{arith}
 use lib.ListN.{length, replicate, take, drop, length-append, length-replicate, length-drop}
 use Rattle.math.specs.lists.Part.{splice}
-use denote.Enum.Declared.{tag_of}
-use types.Run.{OneOf}
-use Rattle.spec_leaves.specs.contracts.answers.Checked.{the_type}
-use Rattle.spec_leaves.specs.Answer.{Answer, accepted, of_refusal, of_checked, of_verdict, result_of, ◌then◌}
-use Rattle.spec_leaves.specs.declared.answers.Checked.{Checked}
-use Rattle.spec_leaves.specs.declared.answers.Checked.TheVariants as C
-use Rattle.spec_leaves.specs.declared.answers.Verdict.{Verdict}
+use Rattle.spec_leaves.specs.Answer.{Answer, fine, accepted, of_refusal, result_of, ◌then◌}
 use Rattle.spec_leaves.specs.declared.answers.Refusal.{Refusal}
 use Rattle.spec_protocol.specs.Parameters.{parameters}
 use Rattle.spec_protocol.specs.Layout.{randomness_sections, scratch_need}
@@ -27,10 +21,9 @@ use Rattle.layout_regions.specs.Laid as Places
 use Rattle.relation_env_params.specs.declared.env_params.EnvironmentParameters.{EnvironmentParameters}
 use Rattle.relation_env_params.specs.Parameters.{parameters_of}
 use Rattle.layout_sizes.specs.Sizes.{Sized}
-use Rattle.admission_slices.specs.declared.answers.Admitted.{Admitted}
-use Rattle.admission_slices.specs.declared.answers.Admitted.TheVariants as A
-use Rattle.admission_slices.specs.Admission.{of_admitted, At, Verifiable}
+use Rattle.admission_slices.specs.Admission.{Verifiable}
 use Rattle.admission_slices.proofs.Fit.{refusal_none}
+use Rattle.admission_slices.proofs.Stages.{stops_at}
 use Rattle.core_workspace.specs.Ready.{Ready, Drawn}
 use Rattle.core_workspace.specs.Holds.{Unchanged}
 use Rattle.core_workspace.proofs.Unchanged.{unchanged_clear}
@@ -41,10 +34,6 @@ use Rattle.verifier_relations.specs.Order.{relations}
 use Rattle.verifier_commitments.specs.Order.{commitments}
 use Rattle.verifier.specs.Order.{rest, all_checks}
 use Rattle.verifier_common.proofs.Sent.{reckoned}
-use Rattle.verifier_common.proofs.Verdicts.{refusal_then, stops_all}
-use Rattle.verifier_common.proofs.Verdicts.{goes_on as goes-on-after}
-use Rattle.verifier_digits.specs.declared.SentDigits.{SentDigits}
-use Rattle.verifier_digits.specs.Taken.{Taken}
 
 -- two pairs of answers after another answer
 pairs-after : (x a b c d : Answer) → x then ((a then b) then (c then d)) ≡ x then a then b then c then d
@@ -89,28 +78,13 @@ groups_are J R T =
     ∙ five_after (one then check_24 X M then check_25 X M then check_26 X M then check_27 X M) (t_norm X M.t) (g_norm X M.g) (check_28 X M) (h_norm X M.h) (check_29 X M))
     (cells_are J R T)
 
--- the verdict by what 21 to 23 answer
-module _ (J R T : List ℕ) where
-  abbrev last : Answer
-  last = accepted (cells_left (parameters J) T)
+-- after all checks, the number of cells
+abbrev pub last : (J T : List ℕ) → Answer
+last J T = accepted (cells_left (parameters J) T)
 
-  -- the checks after them, and then the number
-  all_after : norms J R T then (rest J R T then last) ≡ all_checks J R T
-  all_after = sym (then_assoc (norms J R T) (rest J R T) last) ∙ groups_are J R T
-
-  -- where they do not pass, what they answer
-  pub stopped_is : (v : Checked) → of_checked v ≡ norms J R T → OneOf (1 ∷ 2 ∷ []) (tag_of the_type v) → (r : Verdict) → of_verdict r ≡ of_checked v then accepted 0 → of_verdict r ≡ all_checks J R T
-  stopped_is v e k r f = stops_all v r 0 f e k (rest J R T then last) ∙ all_after
-
-  -- where they pass, what the rest answers, and the number that is found of the digits
-  pub goes_on_is : (params : EnvironmentParameters) → parameters_of params ≡ parameters J → (v : Checked) → of_checked v ≡ norms J R T → v ≡ C.Passed
-      → (d : SentDigits) → Taken (parameters_of params) T d → (w : Checked) → of_checked w ≡ rest J R T
-      → (r : Verdict) → of_verdict r ≡ of_checked w then accepted d.cells_left → of_verdict r ≡ all_checks J R T
-  goes_on_is params same v e passed d found w g r f =
-      f
-      ∙ ap₂ (λ a n. a then accepted n) g (found.left ∙ ap (λ P. cells_left P T) same)
-      ∙ goes-on-after v e passed (rest J R T then last)
-      ∙ all_after
+-- 21 to 23, the checks after them, and then the number
+pub all_after : (J R T : List ℕ) → norms J R T then (rest J R T then last J T) ≡ all_checks J R T
+all_after J R T = sym (then_assoc (norms J R T) (rest J R T) (last J T)) ∙ groups_are J R T
 
 -- a call that is refused nothing before its work
 module _ (J R T : List ℕ) (params : EnvironmentParameters) where
@@ -167,33 +141,27 @@ module _ (J R T : List ℕ) (params : EnvironmentParameters) where
 pub length-zeroed : (need : ℕ) (S S' : List ℕ) → S' ≡ zeroed need S → need ≤ length S → length S' ≡ length S
 length-zeroed need S S' e h = omega (arith, ap length e, length-append (replicate {A = ℕ} need 0) (drop need S), length-replicate {A = ℕ} need 0, length-drop need S)
 
--- the call's answer and scratch by what is admitted
-module _ (J R T S : List ℕ) (x : Admitted) (e : of_admitted x ≡ verify_refusal J R T (length S)) where
-  -- a refusal before the work
-  module _ (r : Refusal) (is : x ≡ A.Refused r) where
-    pub refused-verdict : of_refusal r ≡ verify J R T (length S)
-    unfolding verify
-    refused-verdict =
-        let rest = checks (public J R) (message (parameters J) T) in
-        sym (refusal_then r rest) ∙ ap (λ a. a then rest) (sym (ap of_admitted is) ∙ e)
+-- the call's answer and scratch by what is refused before the work
+module _ (J R T S : List ℕ) where
+  -- a refusal
+  pub refused-verdict : (r : Refusal) → of_refusal r ≡ verify_refusal J R T (length S) → of_refusal r ≡ verify J R T (length S)
+  unfolding verify
+  refused-verdict r e = stops_at r (checks (public J R) (message (parameters J) T)) e
 
-    pub refused-scratch : S ≡ verify_scratch J R T S
-    unfolding verify_scratch
-    refused-scratch =
-        let Z = zeroed (scratch_need (parameters J)) S in
-        refusal_none r Z S ∙ ap (λ a. result_of a Z S) (sym (ap of_admitted is) ∙ e)
+  pub refused-scratch : (r : Refusal) → of_refusal r ≡ verify_refusal J R T (length S) → S ≡ verify_scratch J R T S
+  unfolding verify_scratch
+  refused-scratch r e =
+      let Z = zeroed (scratch_need (parameters J)) S in
+      refusal_none r Z S ∙ ap (λ a. result_of a Z S) e
 
-  -- a call whose work is done
-  module _ (params : EnvironmentParameters) (is : x ≡ A.Fit params) where
-    pub admitted : At x (Verifiable J R T (length S)) → Verifiable J R T (length S) params
-    admitted h = subst (λ y. At y (Verifiable J R T (length S))) is h
-
+  -- nothing
+  module _ (e : fine ≡ verify_refusal J R T (length S)) where
     pub worked-verdict : {a : Answer} → a ≡ checks (public J R) (message (parameters J) T) → a ≡ verify J R T (length S)
     unfolding verify
-    worked-verdict f = goes_on (sym (ap of_admitted is) ∙ e) f
+    worked-verdict f = goes_on e f
 
     pub worked-scratch : {S' : List ℕ} → S' ≡ zeroed (scratch_need (parameters J)) S → S' ≡ verify_scratch J R T S
     unfolding verify_scratch
     worked-scratch f =
         let Z = zeroed (scratch_need (parameters J)) S in
-        f ∙ ap (λ a. result_of a Z S) (sym (ap of_admitted is) ∙ e)
+        f ∙ ap (λ a. result_of a Z S) e

@@ -1,6 +1,6 @@
 // The verifier's call on whole slices, for every input.
 ghost use Rattle.std.specs.Prelude.{◌≡◌, length};
-ghost use Rattle.spec_leaves.specs.Answer.{of_checked, of_verdict};
+ghost use Rattle.spec_leaves.specs.Answer.{of_checked, of_judged, of_verdict};
 ghost use Rattle.spec_protocol.specs.Parameters.{parameters};
 ghost use Rattle.spec_protocol.specs.Layout.{scratch_need};
 ghost use Rattle.spec_protocol.specs.Prover.{zeroed};
@@ -9,66 +9,48 @@ ghost use Rattle.admission_slices.specs.Admission.{Verifiable};
 ghost use Rattle.core_workspace.specs.Ready.{Ready};
 ghost use Rattle.core_workspace.specs.Holds.{Unchanged};
 ghost use Rattle.relation_env_params.specs.Parameters.{parameters_of};
-ghost use Rattle.verifier_common.specs.Work.{Sent};
 ghost use Rattle.verifier_digits.specs.Taken.{Taken};
 ghost use Rattle.verifier.specs.Order.{rest, all_checks};
 
 use admission_order::verifier;
-use admission_slices::answers::Admitted;
 use layout_regions::Regions;
 use layout_sizes::buffers;
 use relation_env_params::env_params::EnvironmentParameters;
-use spec_leaves::answers::{Checked, Verdict};
+use spec_leaves::answers::{Rejection, Verdict};
 use verifier_commitments::outer_commitments;
-use verifier_common::verdict;
+use verifier_common::exchange::Exchange;
 use verifier_digits::SentDigits;
 use verifier_norms::norm_checks;
 use verifier_relations::relations;
 
 // The checks from 24 on, in order.
 fn check_rest(
-    job: &[u32],
-    randomness: &[u32],
-    transcript: &[u32],
-    params: EnvironmentParameters,
+    exchange: &Exchange<'_>,
     regions: Regions,
     scratch: &mut [u32],
     digits: SentDigits,
-) -> Checked
-    requires { Sent job.now randomness.now transcript.now params × Ready job.now params regions scratch.old × Taken (parameters_of params) transcript.now digits }
-    ensures result_value { of_checked result ≡ rest job.now randomness.now transcript.now }
-    ensures unchanged { Unchanged (scratch_need (parameters job.now)) scratch.old scratch.new }
+) -> Result<(), Rejection>
+    requires { Ready exchange.now.job.now exchange.now.params regions scratch.old × Taken (parameters_of exchange.now.params) exchange.now.transcript.now digits }
+    ensures result_value { of_checked result ≡ rest exchange.now.job.now exchange.now.randomness.now exchange.now.transcript.now }
+    ensures unchanged { Unchanged (scratch_need (parameters exchange.now.job.now)) scratch.old scratch.new }
 {
-    let first = relations::check_relations(job, randomness, transcript, params, regions, scratch);
-    let Checked::Passed = first else {
-        return first;
-    };
-    outer_commitments::check_commitments(job, transcript, params, regions, scratch, digits)
+    relations::check_relations(exchange, regions, scratch)?;
+    outer_commitments::check_commitments(exchange, regions, scratch, digits)
 }
 
 // All checks, in order; an acceptance has the number of cells with something left.
 pub fn check_all(
-    job: &[u32],
-    randomness: &[u32],
-    transcript: &[u32],
-    params: EnvironmentParameters,
+    exchange: &Exchange<'_>,
     regions: Regions,
     scratch: &mut [u32],
-) -> Verdict
-    requires { Sent job.now randomness.now transcript.now params × Ready job.now params regions scratch.old }
-    ensures result_value { of_verdict result ≡ all_checks job.now randomness.now transcript.now }
-    ensures unchanged { Unchanged (scratch_need (parameters job.now)) scratch.old scratch.new }
+) -> Result<usize, Rejection>
+    requires { Ready exchange.now.job.now exchange.now.params regions scratch.old }
+    ensures result_value { of_judged result ≡ all_checks exchange.now.job.now exchange.now.randomness.now exchange.now.transcript.now }
+    ensures unchanged { Unchanged (scratch_need (parameters exchange.now.job.now)) scratch.old scratch.new }
 {
-    let norms = norm_checks::check_norms(job, randomness, transcript, params);
-    let first = norms.checked;
-    let Checked::Passed = first else {
-        return verdict::verdict_of(first, 0);
-    };
-    let digits = norms.digits;
-    let rest = check_rest(
-        job, randomness, transcript, params, regions, scratch, digits,
-    );
-    verdict::verdict_of(rest, digits.cells_left)
+    let digits = norm_checks::check_norms(exchange)?;
+    check_rest(exchange, regions, scratch, digits)?;
+    Ok(digits.cells_left)
 }
 
 // The work of a call that is refused nothing before it: "After any later answer scratch is zero to the length needed".
@@ -78,18 +60,24 @@ pub fn work_and_clear(
     transcript: &[u32],
     params: EnvironmentParameters,
     scratch: &mut [u32],
-) -> Verdict
+) -> Result<usize, Rejection>
     requires { Verifiable job.now randomness.now transcript.now (length scratch.old) params }
-    ensures result_value { of_verdict result ≡ all_checks job.now randomness.now transcript.now }
+    ensures result_value { of_judged result ≡ all_checks job.now randomness.now transcript.now }
     ensures scratch_after { scratch.new ≡ zeroed (scratch_need (parameters job.now)) scratch.old }
 {
+    let exchange = Exchange {
+        job,
+        randomness,
+        transcript,
+        params,
+    };
     let regions = layout_regions::lay_out(
         params.rank,
         params.multiplicity,
         params.kappa,
         params.const_agg_length,
     );
-    let answer = check_all(job, randomness, transcript, params, regions, scratch);
+    let answer = check_all(&exchange, regions, scratch);
     let need = buffers::scratch_length(params);
     ring_words::clear(scratch, need);
     answer
@@ -101,7 +89,7 @@ pub fn verify(job: &[u32], randomness: &[u32], transcript: &[u32], scratch: &mut
     ensures scratch_after { scratch.new ≡ verify_scratch job.now randomness.now transcript.now scratch.old }
 {
     match verifier::admit(job, randomness, transcript, scratch.len()) {
-        Admitted::Refused(refusal) => Verdict::Refused(refusal),
-        Admitted::Fit(params) => work_and_clear(job, randomness, transcript, params, scratch),
+        Ok(params) => Verdict::from(work_and_clear(job, randomness, transcript, params, scratch)),
+        Err(refusal) => Verdict::Refused(refusal),
     }
 }

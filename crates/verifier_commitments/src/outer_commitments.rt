@@ -1,101 +1,57 @@
 // The outer commitments to what the prover sends: 14, 15 and 28; 16 and 29.
 ghost use Rattle.std.specs.Prelude.{◌≡◌};
-ghost use Rattle.spec_leaves.specs.Answer.{of_checked};
+ghost use Rattle.spec_leaves.specs.Answer.{of_result, of_checked};
 ghost use Rattle.spec_protocol.specs.Parameters.{parameters};
 ghost use Rattle.spec_protocol.specs.Layout.{scratch_need};
 ghost use Rattle.core_workspace.specs.Ready.{Ready};
 ghost use Rattle.core_workspace.specs.Holds.{Unchanged};
 ghost use Rattle.relation_env_params.specs.Parameters.{parameters_of};
-ghost use Rattle.verifier_common.specs.Work.{Posed};
 ghost use Rattle.verifier_digits.specs.Taken.{Taken, t_and_g_found, h_found};
-ghost use Rattle.verifier_commitments.specs.Order.{first_commitment, second_commitment, commitments};
+ghost use Rattle.verifier_commitments.specs.Order.{commitments};
 
 use crate::outer::{check_u1, check_u2};
 use layout_regions::Regions;
-use relation_env_params::env_params::EnvironmentParameters;
-use spec_leaves::answers::{Checked, Refusal};
+use spec_leaves::answers::{Refusal, Rejection};
+use verifier_common::exchange::Exchange;
 use verifier_digits::SentDigits;
 
 // "14 digits of t above B's bound, 15 of g above C's", by what is found of them.
-pub fn check_t_and_g(digits: SentDigits) -> Checked
-    ensures { of_checked result ≡ t_and_g_found digits }
+pub fn check_t_and_g(digits: SentDigits) -> Result<(), Refusal>
+    ensures { of_result result ≡ t_and_g_found digits }
 {
     if !digits.t_within {
-        return Checked::Refused(Refusal::DigitsOfT);
+        return Err(Refusal::DigitsOfT);
     }
     if !digits.g_within {
-        return Checked::Refused(Refusal::DigitsOfG);
+        return Err(Refusal::DigitsOfG);
     }
-    Checked::Passed
+    Ok(())
 }
 
 // "16 of h above D's", by what is found of them.
-pub fn check_h(digits: SentDigits) -> Checked
-    ensures { of_checked result ≡ h_found digits }
+pub fn check_h(digits: SentDigits) -> Result<(), Refusal>
+    ensures { of_result result ≡ h_found digits }
 {
     if digits.h_within {
-        Checked::Passed
+        Ok(())
     } else {
-        Checked::Refused(Refusal::DigitsOfH)
+        Err(Refusal::DigitsOfH)
     }
-}
-
-// 14, 15 and 28, in order.
-pub fn check_first_commitment(
-    job: &[u32],
-    transcript: &[u32],
-    params: EnvironmentParameters,
-    regions: Regions,
-    scratch: &mut [u32],
-    digits: SentDigits,
-) -> Checked
-    requires { Posed job.now transcript.now params × Ready job.now params regions scratch.old × Taken (parameters_of params) transcript.now digits }
-    ensures result_value { of_checked result ≡ first_commitment job.now transcript.now }
-    ensures unchanged { Unchanged (scratch_need (parameters job.now)) scratch.old scratch.new }
-{
-    let bounds = check_t_and_g(digits);
-    let Checked::Passed = bounds else {
-        return bounds;
-    };
-    check_u1(job, transcript, params, regions, scratch)
-}
-
-// 16 and 29, in order.
-pub fn check_second_commitment(
-    job: &[u32],
-    transcript: &[u32],
-    params: EnvironmentParameters,
-    regions: Regions,
-    scratch: &mut [u32],
-    digits: SentDigits,
-) -> Checked
-    requires { Posed job.now transcript.now params × Ready job.now params regions scratch.old × Taken (parameters_of params) transcript.now digits }
-    ensures result_value { of_checked result ≡ second_commitment job.now transcript.now }
-    ensures unchanged { Unchanged (scratch_need (parameters job.now)) scratch.old scratch.new }
-{
-    let bound = check_h(digits);
-    let Checked::Passed = bound else {
-        return bound;
-    };
-    check_u2(job, transcript, params, regions, scratch)
 }
 
 // 14, 15, 28, 16 and 29, in order.
 pub fn check_commitments(
-    job: &[u32],
-    transcript: &[u32],
-    params: EnvironmentParameters,
+    exchange: &Exchange<'_>,
     regions: Regions,
     scratch: &mut [u32],
     digits: SentDigits,
-) -> Checked
-    requires { Posed job.now transcript.now params × Ready job.now params regions scratch.old × Taken (parameters_of params) transcript.now digits }
-    ensures result_value { of_checked result ≡ commitments job.now transcript.now }
-    ensures unchanged { Unchanged (scratch_need (parameters job.now)) scratch.old scratch.new }
+) -> Result<(), Rejection>
+    requires { Ready exchange.now.job.now exchange.now.params regions scratch.old × Taken (parameters_of exchange.now.params) exchange.now.transcript.now digits }
+    ensures result_value { of_checked result ≡ commitments exchange.now.job.now exchange.now.transcript.now }
+    ensures unchanged { Unchanged (scratch_need (parameters exchange.now.job.now)) scratch.old scratch.new }
 {
-    let first = check_first_commitment(job, transcript, params, regions, scratch, digits);
-    let Checked::Passed = first else {
-        return first;
-    };
-    check_second_commitment(job, transcript, params, regions, scratch, digits)
+    check_t_and_g(digits)?;
+    check_u1(exchange, regions, scratch)?;
+    check_h(digits)?;
+    check_u2(exchange, regions, scratch)
 }

@@ -1,6 +1,6 @@
-// What the verifier's checks (verifier.rs) have in common: equality of elements and of runs of words, and the verdict after the last check.
+// What the verifier's checks (verifier.rs) have in common: what they judge, and equality of elements and of runs of words.
 // specs/ says what a check stands on and what it answers, proofs/ how one goes on after another.
 #![tactic(auto)]
 
 pub mod equal;
-pub mod verdict;
+pub mod exchange;

@@ -1,15 +1,14 @@
 // The constant terms of what the prover sends: check 22.
 ghost use Rattle.std.specs.Prelude.{◌≡◌, ◌+◌, ◌≤◌, length};
 ghost use Rattle.spec_leaves.specs.Answer.{of_checked};
-ghost use Rattle.verifier_common.specs.Work.{Sent};
 ghost use Rattle.verifier_common.specs.Answers.{constant_terms};
 ghost use Rattle.verifier_constant_terms.specs.Terms.{constant_term};
 
 use crate::numbers;
-use layout_sizes::{names, offsets};
-use relation_env_params::env_params::EnvironmentParameters;
+use layout_sizes::names;
 use ring_rq_product::product;
-use spec_leaves::answers::{Checked, FailedCheck};
+use spec_leaves::answers::{FailedCheck, Rejection};
+use verifier_common::exchange::Exchange;
 
 // Σ psi[l]·b0[l] + Σ omega[j]·p[j], of a row of psi and one of omega.
 pub fn constant_term(
@@ -32,42 +31,34 @@ pub fn constant_term(
 }
 
 // "22 for some k below" L, "the constant coefficient of b''_k is not Σ psi[k][l]·b0[l] + Σ omega[k][j]·p[j] (lowest k, both values)."
-pub fn check_constant_terms(
-    job: &[u32],
-    randomness: &[u32],
-    transcript: &[u32],
-    params: EnvironmentParameters,
-) -> Checked
-    requires { Sent job.now randomness.now transcript.now params }
-    ensures { of_checked result ≡ constant_terms job.now randomness.now transcript.now }
+pub fn check_constant_terms(exchange: &Exchange<'_>) -> Result<(), Rejection>
+    ensures { of_checked result ≡ constant_terms exchange.now.job.now exchange.now.randomness.now exchange.now.transcript.now }
 {
-    let b0 = offsets::of_job(params, names::CONSTANT_B);
-    let l = params.constraint_l;
-    let psi = offsets::of_randomness(params, names::PSI);
-    let omega = offsets::of_randomness(params, names::OMEGA);
-    let projection = offsets::of_transcript(params, names::P);
-    let at = offsets::of_transcript(params, names::B_DOUBLE_PRIME);
-    let mut k = 0;
-    while k < params.const_agg_length {
-        let sent = transcript[at + 64 * k];
+    let b0 = exchange.job_at(names::CONSTANT_B);
+    let l = exchange.params.constraint_l;
+    let psi = exchange.randomness_at(names::PSI);
+    let omega = exchange.randomness_at(names::OMEGA);
+    let projection = exchange.transcript_at(names::P);
+    let at = exchange.transcript_at(names::B_DOUBLE_PRIME);
+    for k in 0..exchange.params.const_agg_length {
+        let sent = exchange.transcript[at + 64 * k];
         let computed = constant_term(
-            job,
+            exchange.job,
             b0,
             l,
-            randomness,
+            exchange.randomness,
             psi + k * l,
             omega + k * 256,
-            transcript,
+            exchange.transcript,
             projection,
         );
         if sent != computed {
-            return Checked::Failed(FailedCheck::B0Mismatch {
+            return Err(Rejection::Failed(FailedCheck::B0Mismatch {
                 index: k,
                 sent,
                 computed,
-            });
+            }));
         }
-        k += 1;
     }
-    Checked::Passed
+    Ok(())
 }

@@ -12,11 +12,9 @@ pub fn add_products(sum: u64, x: &[u32], x_at: usize, y: &[u32], y_at: usize, co
     ensures { (result % Q ≡ (sum + products x.now x_at y.now y_at count) % Q) × (result ≤ sum + count * 2 ^ 39) }
 {
     let mut total = sum;
-    let mut k = 0;
-    while k < count {
+    for k in 0..count {
         let term = wide(x[x_at + k]) * wide(y[y_at + k]);
         total += term / product::RADIX * product::LACK + term % product::RADIX;
-        k += 1;
     }
     total
 }

@@ -2,7 +2,7 @@
 use Rattle.std.specs.Prelude.{◌≡◌, cond, ℕ, ◌+◌, leb}
 use mathlib.Core.List.{List, flat_map}
 use Rattle.math.specs.lists.Table.{table}
-use Rattle.spec_leaves.specs.Answer.{Answer, fine, refused, value128, ◌then◌}
+use Rattle.spec_leaves.specs.Answer.{Answer, fine, refused, ◌then◌}
 use Rattle.spec_protocol.specs.Parameters.{Parameters}
 use Rattle.spec_protocol.specs.Views.{message}
 use Rattle.spec_protocol.specs.Formulas.{norm_of, two_parts, t_digits, g_digits, h_digits}
@@ -21,7 +21,7 @@ module _ (P : Parameters) (T : List ℕ) where
 
   -- what is found of them: the sum, whether each bound is met, and the cells with something left
   pub record Taken (d : SentDigits) : Type 0 where
-    pub sum : value128 d.sum ≡ digit_norms
+    pub sum : d.sum ≡ digit_norms
     pub t : d.t_within ≡ leb (norm_of (t_digits (bare P) (message P T).t)) P.bound_B
     pub g : d.g_within ≡ leb (norm_of (g_digits (bare P) (message P T).g)) P.bound_C
     pub h : d.h_within ≡ leb (norm_of (h_digits (bare P) (message P T).h)) P.bound_D

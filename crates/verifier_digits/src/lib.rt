@@ -2,19 +2,16 @@
 #![tactic(auto)]
 
 ghost use Rattle.relation_env_params.specs.Parameters.{parameters_of};
-ghost use Rattle.verifier_common.specs.Work.{Received};
 ghost use Rattle.verifier_digits.specs.Taken.{Taken};
 
-use layout_sizes::{names, offsets, slices};
-use relation_env_params::env_params::EnvironmentParameters;
+use layout_sizes::{names, slices};
 use ring_digit_norms::{norm, parts};
-use ring_zq::bound;
-use spec_leaves::answers::U128;
+use verifier_common::exchange::Exchange;
 
 // The sum of check 23, whether the digits of t, g and h are within the bounds of B, C and D, and how many cells have something left.
 #[derive(Clone, Copy)]
 pub struct SentDigits {
-    pub sum: U128,
+    pub sum: u128,
     pub t_within: bool,
     pub g_within: bool,
     pub h_within: bool,
@@ -22,44 +19,44 @@ pub struct SentDigits {
 }
 
 // What is found of the digits of a transcript.
-pub fn take(transcript: &[u32], params: EnvironmentParameters) -> SentDigits
-    requires { Received transcript.now params }
-    ensures { Taken (parameters_of params) transcript.now result }
+pub fn take(exchange: &Exchange<'_>) -> SentDigits
+    ensures { Taken (parameters_of exchange.now.params) exchange.now.transcript.now result }
 {
+    let params = exchange.params;
     let cells = slices::triangle(params.multiplicity);
     let z = parts::two_parts_norm(
-        transcript,
-        offsets::of_transcript(params, names::Z),
+        exchange.transcript,
+        exchange.transcript_at(names::Z),
         params.rank,
         params.b,
     );
     let t = norm::digits_norm(
-        transcript,
-        offsets::of_transcript(params, names::T),
+        exchange.transcript,
+        exchange.transcript_at(names::T),
         params.multiplicity * params.kappa,
         params.b,
         params.t_1,
     );
     let g = norm::digits_norm(
-        transcript,
-        offsets::of_transcript(params, names::G),
+        exchange.transcript,
+        exchange.transcript_at(names::G),
         cells,
         params.b,
         params.t_2,
     );
     let h = norm::digits_norm(
-        transcript,
-        offsets::of_transcript(params, names::H),
+        exchange.transcript,
+        exchange.transcript_at(names::H),
         cells,
         params.b,
         params.t_1,
     );
-    let sum = bound::add(bound::add(bound::add(z, t.norm), g.norm), h.norm);
+    let sum = z + t.norm + g.norm + h.norm;
     SentDigits {
         sum,
-        t_within: bound::at_most(t.norm, params.bound_b),
-        g_within: bound::at_most(g.norm, params.bound_c),
-        h_within: bound::at_most(h.norm, params.bound_d),
+        t_within: t.norm <= params.bound_b,
+        g_within: g.norm <= params.bound_c,
+        h_within: h.norm <= params.bound_d,
         cells_left: t.cells_left + g.cells_left + h.cells_left,
     }
 }

@@ -1,18 +1,15 @@
 -- Checks 21 and 23 as the code makes them.
-use mathlib.Core.Path.{◌≡◌, refl, sym, ap, ap₂, ◌∙◌}
-use mathlib.Core.Bool.{Bool, true, cond}
+use mathlib.Core.Path.{◌≡◌, sym, ap, ap₂, ◌∙◌}
+use mathlib.Core.Bool.{Bool, cond}
 use mathlib.Core.List.{List, [], ◌∷◌}
-use Prim.Native.Nat.{ℕ, ◌+◌, ◌*◌, ◌≤◌, ◌<◌, ◌^◌}
+use Prim.Native.Nat.{ℕ, ◌+◌, ◌*◌, ◌≤◌}
 use native.Mathlib.Decide.{dec_le}
-use native.Mathlib.Omega.{arith}
-use borrow.Author.Tests.{le-leb}
 use lib.Dec.{leb}
 use lib.ListN.{length, get_or}
 use Rattle.math.specs.lists.Part.{part}
 use Rattle.math.specs.lists.Table.{table}
 use Rattle.math.proofs.lists.Splice.{part-table}
-use Rattle.spec_leaves.specs.Answer.{fine, failed, value128}
-use Rattle.spec_leaves.specs.declared.answers.U128.{U128}
+use Rattle.spec_leaves.specs.Answer.{fine, failed}
 use Rattle.spec_leaves.specs.Norm.{norm}
 use Rattle.spec_protocol.specs.Checks.{require}
 use Rattle.spec_protocol.specs.Parameters.{Parameters}
@@ -28,7 +25,7 @@ use Rattle.verifier_digits.specs.Taken.{Taken}
 use Rattle.verifier_norms.specs.Order.{sum_within}
 
 -- 23 of the sum that is found
-pub check_23_is : (P : Parameters) (T : List ℕ) (d : SentDigits) → Taken P T d → sum_within (value128 d.sum) P.beta_prime_sq ≡ norm_sum P T
+pub check_23_is : (P : Parameters) (T : List ℕ) (d : SentDigits) → Taken P T d → sum_within (d.sum) P.beta_prime_sq ≡ norm_sum P T
 unfolding check_23
 check_23_is P T d found = ap (λ sum. sum_within sum P.beta_prime_sq) found.sum
 
@@ -36,11 +33,6 @@ check_23_is P T d found = ap (λ sum. sum_within sum P.beta_prime_sq) found.sum
 limited_is : (number x y a b : ℕ) (t : Bool) → a ≡ x → b ≡ y → t ≡ leb a b → require (dec_le x y) (failed number (x ∷ y ∷ [])) ≡ cond t fine (failed number (a ∷ b ∷ []))
 limited_is number x y a b t e g h =
     ap₂ (λ x y. require (dec_le x y) (failed number (x ∷ y ∷ []))) (sym e) (sym g) ∙ require-by a b (failed number (a ∷ b ∷ [])) t h
-
--- a number below one with a small upper half has a small one
-pub upper : (x y : U128) → value128 x < value128 y → y.hi ≤ 256 → y.lo < 2 ^ 64 → x.hi < 2 ^ 32
-unfolding value128
-upper x y h k l = omega arith
 
 module _ (T : List ℕ) (params : EnvironmentParameters) where
   -- 21, by the boolean's value
@@ -53,9 +45,3 @@ module _ (T : List ℕ) (params : EnvironmentParameters) where
       (e ∙ ap norm (sym (part-table 0 T at 256 room)) ∙ ap (λ at. norm (table 256 (λ j. get_or T (at + j) 0))) place)
       g
       h
-
-  -- 21 with a norm up to beta_sq
-  pub check_21-below : (at a : ℕ) → at ≡ start (transcript_sections (parameters_of params)) 1 → at + 256 ≤ length T → a ≡ norm (part T at 256) → a ≤ (parameters_of params).beta_sq
-      → check_21 (bare (parameters_of params)) (message (parameters_of params) T) ≡ fine
-  check_21-below at a place room e h =
-      check_21_is at a (128 * (parameters_of params).beta_sq) true place room e refl (sym (le-leb a (128 * (parameters_of params).beta_sq) (omega arith)))

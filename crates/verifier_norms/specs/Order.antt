@@ -1,14 +1,10 @@
--- The order of the checks 21 to 23, and what is found of the digits where they pass.
-use Rattle.std.specs.Prelude.{◌≡◌, List, [], ◌∷◌, ℕ}
+-- The order of the checks 21 to 23.
+use Rattle.std.specs.Prelude.{List, [], ◌∷◌, ℕ}
 use Rattle.std.proofs.Math.Decide.{dec_le}
 use Rattle.spec_leaves.specs.Answer.{Answer, failed, ◌then◌}
-use Rattle.spec_leaves.specs.declared.answers.Checked.{Checked}
-use Rattle.spec_leaves.specs.declared.answers.Checked.TheVariants as C
 use Rattle.spec_protocol.specs.Checks.{require}
-use Rattle.spec_protocol.specs.Parameters.{Parameters, parameters}
+use Rattle.spec_protocol.specs.Parameters.{parameters}
 use Rattle.verifier_common.specs.Answers.{projection_norm, constant_terms, norm_sum}
-use Rattle.verifier_digits.specs.declared.SentDigits.{SentDigits}
-use Rattle.verifier_digits.specs.Taken.{Taken}
 
 -- 23 of a sum and its limit, both given where it fails
 abbrev pub sum_within : (sum limit : ℕ) → Answer
@@ -17,7 +13,3 @@ sum_within sum limit = require (dec_le sum limit) (failed 23 (sum ∷ limit ∷ 
 -- 21, 22 and 23
 abbrev pub norms : (J R T : List ℕ) → Answer
 norms J R T = projection_norm (parameters J) T then constant_terms J R T then norm_sum (parameters J) T
-
--- where the checks pass, what is found of the digits is so
-abbrev pub TakenIf : Checked → Parameters → List ℕ → SentDigits → Type 0
-TakenIf v P T d = v ≡ C.Passed → Taken P T d

@@ -2,4 +2,3 @@
 #![tactic(auto)]
 
 pub mod norm_checks;
-pub mod numbers;

@@ -19,10 +19,11 @@ use Rattle.spec_protocol.specs.Many.{many_need, randomness_part, transcript_part
 use Rattle.spec_protocol.proofs.Fine.{then_fine_right}
 use Rattle.relation_env_params.specs.declared.env_params.EnvironmentParameters.{EnvironmentParameters}
 use Rattle.relation_env_params.specs.Parameters.{parameters_of}
-use Rattle.admission_slices.specs.declared.answers.SliceChecked.{SliceChecked}
+use Rattle.std.specs.Prelude.{Result, is_ok}
+use Rattle.spec_leaves.specs.declared.answers.Refusal.{Refusal}
 use Rattle.admission_slices.proofs.Ready.{job-sound, job-laid}
 use Rattle.core_workspace.proofs.Unchanged.{unchanged_trans, unchanged_clear}
-use Rattle.verify_many_admission.specs.Admitted.{ManyGiven, TranscriptsFound, found_of, passing}
+use Rattle.verify_many_admission.specs.Admitted.{ManyGiven, TranscriptsFound, found_of}
 use Rattle.verify_many_admission.proofs.Found.{passing_is}
 use Rattle.verify_many_admission.proofs.Passing.{part-laid}
 use Rattle.verify_many_rows.specs.Rows.{Rowable}
@@ -41,10 +42,10 @@ unfolding part_refusal
 sent-fine P count R T m pass = then_fine_right (randomness_refusal P 7 (randomness_part P count R m)) (transcript_refusal P (transcript_part P count T m)) (fine_if _ pass)
 
 module _ (J R T : List ℕ) (count scratch : ℕ) (params : EnvironmentParameters) (g : ManyGiven J count scratch params)
-    (found : List SliceChecked) (passes : List Bool) (is : passes ≡ table 8 (λ m. passing (found_of found m))) where
+    (found : List (Result Unit Refusal)) (passes : List Bool) (is : passes ≡ table 8 (λ m. is_ok (found_of found m))) where
   -- transcript m passes
-  passes_at : (m : ℕ) → m < count → get_or passes m false ≡ passing (found_of found m)
-  passes_at m h = ap (λ l. get_or l m false) is ∙ get_or-table 8 (λ m. passing (found_of found m)) m false (omega (arith, g.few))
+  passes_at : (m : ℕ) → m < count → get_or passes m false ≡ is_ok (found_of found m)
+  passes_at m h = ap (λ l. get_or l m false) is ∙ get_or-table 8 (λ m. is_ok (found_of found m)) m false (omega (arith, g.few))
 
   -- what is found, of the job's parameters
   pub of_job : TranscriptsFound (parameters_of params) count T found → TranscriptsFound (parameters J) count T found

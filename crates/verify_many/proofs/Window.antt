@@ -6,7 +6,8 @@ use native.Mathlib.Nat.{mul-le-mul_left}
 use native.Mathlib.Omega.{arith}
 use Rattle.math.specs.lists.Part.{splice}
 use Rattle.spec_leaves.specs.Answer.{of_checked, ◌then◌}
-use Rattle.spec_leaves.specs.declared.answers.Checked.{Checked}
+use Rattle.std.specs.Prelude.{Result}
+use Rattle.spec_leaves.specs.declared.answers.Rejection.{Rejection}
 use Rattle.spec_protocol.specs.Parameters.{parameters}
 use Rattle.spec_protocol.specs.Many.{products_at, RowsDone}
 use Rattle.layout_regions.specs.declared.Regions.{Regions}
@@ -38,7 +39,7 @@ module _ (J R X : List ℕ) (params : EnvironmentParameters) (regions : Regions)
 
 -- the checks of the commitments by what is found of the digits, of 28 and of 29
 pub found : (J X : List ℕ) (params : EnvironmentParameters) → parameters_of params ≡ parameters J → (d : SentDigits) → Taken (parameters_of params) X d
-    → (u1 u2 : Checked) → of_checked u1 ≡ u1_differs J X → of_checked u2 ≡ u2_differs J X
+    → (u1 u2 : Result Unit Rejection) → of_checked u1 ≡ u1_differs J X → of_checked u2 ≡ u2_differs J X
     → (t_and_g_found d then of_checked u1) then (h_found d then of_checked u2) ≡ commitments J X
 found J X params e d taken u1 u2 f g =
     ap₂ (λ a b. (a then of_checked u1) then (b then of_checked u2)) (t_and-g_is (parameters_of params) X d taken) (h_is (parameters_of params) X d taken)

@@ -3,7 +3,8 @@ ghost use Rattle.std.specs.Prelude.{◌≡◌};
 ghost use Rattle.spec_leaves.specs.Answer.{number, place, of_refusal};
 ghost use Rattle.verify_many.specs.Answers.{refused_verdicts};
 
-use api_answers::numbers::number_of;
+use crate::verdicts::all::eight;
+use api_answers::numbers::Numbered;
 use api_answers::verdicts::LabradorVerdict;
 use spec_leaves::answers::Refusal;
 
@@ -20,16 +21,7 @@ pub struct LabradorVerdicts {
 pub fn refused(number: u32, place: usize) -> LabradorVerdicts
     ensures { result ≡ refused_verdicts number place }
 {
-    let verdicts = [LabradorVerdict {
-        number: 0,
-        index: 0,
-        first_hi: 0,
-        first_lo: 0,
-        second_hi: 0,
-        second_lo: 0,
-        place: 0,
-        cells_left: 0,
-    }; 8];
+    let verdicts = eight(0);
     LabradorVerdicts {
         number,
         place: place as u64,
@@ -37,10 +29,11 @@ pub fn refused(number: u32, place: usize) -> LabradorVerdicts
     }
 }
 
-// A refusal of document 01's list.
-pub fn refusal_of(refusal: Refusal) -> LabradorVerdicts
-    ensures { result ≡ refused_verdicts (number (of_refusal refusal)) (place (of_refusal refusal)) }
-{
-    let found = number_of(refusal);
-    refused(found.number, found.place)
+impl From<Refusal> for LabradorVerdicts {
+    ghost from_gives = { λ refusal answer. answer ≡ refused_verdicts (number (of_refusal refusal)) (place (of_refusal refusal)) };
+
+    fn from(refusal: Refusal) -> LabradorVerdicts {
+        let found = Numbered::from(refusal);
+        refused(found.number, found.place)
+    }
 }

@@ -12,7 +12,7 @@ use crate::answers::LabradorVerdicts;
 use crate::verdicts::all::verdicts;
 use api_answers::verdicts::LabradorVerdict;
 use relation_env_params::env_params::EnvironmentParameters;
-use verify_many_admission::whole::ManyAdmitted;
+use verify_many_admission::whole::ManyRefusal;
 use verify_many_admission::{parts, whole};
 use verify_many_rows::rows::row_products;
 
@@ -50,22 +50,19 @@ pub fn verify_many(
     ensures { ManyCall job.now count randomness.now transcripts.now scratch.old scratch.new result }
 {
     match whole::admit(job, count, scratch.len()) {
-        ManyAdmitted::Count => answers::refused(35, 0),
-        ManyAdmitted::Refused(refusal) => answers::refusal_of(refusal),
-        ManyAdmitted::Fit(params) => {
-            let found = work(
+        Ok(params) => LabradorVerdicts {
+            number: 0,
+            place: 0,
+            verdicts: work(
                 job,
                 randomness,
                 transcripts,
                 params,
                 count as usize,
                 scratch,
-            );
-            LabradorVerdicts {
-                number: 0,
-                place: 0,
-                verdicts: found,
-            }
-        }
+            ),
+        },
+        Err(ManyRefusal::Count) => answers::refused(35, 0),
+        Err(ManyRefusal::Refused(refusal)) => LabradorVerdicts::from(refusal),
     }
 }

@@ -3,5 +3,4 @@ mod Refused
 pub mod Found
 pub mod Verdicts
 pub mod Passing
-mod Places
 pub mod Cut

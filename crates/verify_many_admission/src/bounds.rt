@@ -1,19 +1,18 @@
 // Transcripts that lie end to end, and their randomness (document 02, Item 11): each part, and what it is refused by itself.
 ghost use Rattle.std.specs.Prelude.{◌≡◌, ◌≤◌, ◌<◌, ◌^◌};
-ghost use Rattle.spec_leaves.specs.Answer.{◌then◌};
+ghost use Rattle.spec_leaves.specs.Answer.{of_result, ◌then◌};
 ghost use Rattle.spec_protocol.specs.Layout.{span, randomness_sections, transcript_sections, randomness_refusal, transcript_refusal};
 ghost use Rattle.spec_protocol.specs.Many.{randomness_part, transcript_part};
 ghost use Rattle.relation_env_params.specs.Parameters.{parameters_of};
 ghost use Rattle.layout_sizes.specs.Sizes.{Sized};
-ghost use Rattle.admission_slices.specs.Admission.{of_slice_checked};
 ghost use Rattle.verify_many_admission.specs.Bounds.{bounded};
 
-use admission_slices::answers::SliceChecked;
 use admission_slices::calls::Call;
 use admission_slices::{randomness, transcript};
 use layout_sections::sections;
 use layout_sizes::slices;
 use relation_env_params::env_params::EnvironmentParameters;
+use spec_leaves::answers::Refusal;
 
 // A part of a slice, up to but not including `to`.
 #[derive(Clone, Copy)]
@@ -28,28 +27,14 @@ pub fn bounds_of(handed: usize, len: usize, count: usize, m: usize) -> Bounds
     ensures { result ≡ bounded handed len count m }
 {
     let start = m * len;
-    if handed <= start {
-        return Bounds {
-            from: handed,
-            to: handed,
-        };
-    }
-    let end = start + len;
-    if m + 1 == count {
-        return Bounds {
-            from: start,
-            to: handed,
-        };
-    }
-    if handed <= end {
-        return Bounds {
-            from: start,
-            to: handed,
-        };
-    }
+    let to = if m + 1 < count {
+        (start + len).min(handed)
+    } else {
+        handed
+    };
     Bounds {
-        from: start,
-        to: end,
+        from: start.min(handed),
+        to,
     }
 }
 
@@ -63,7 +48,7 @@ pub fn randomness_bounds(
     requires { (m < count) × (count ≤ 8) × Sized (parameters_of params) }
     ensures { result ≡ bounded handed (span (randomness_sections (parameters_of params))) count m }
 {
-    let len = sections::span(slices::randomness_sections(params, 7), 0, 7);
+    let len = sections::span(&slices::randomness_sections(params));
     bounds_of(handed, len, count, m)
 }
 
@@ -77,7 +62,7 @@ pub fn transcript_bounds(
     requires { (m < count) × (count ≤ 8) × Sized (parameters_of params) }
     ensures { result ≡ bounded handed (span (transcript_sections (parameters_of params))) count m }
 {
-    let len = sections::span(slices::transcript_sections(params), 0, 8);
+    let len = sections::span(&slices::transcript_sections(params));
     bounds_of(handed, len, count, m)
 }
 
@@ -87,13 +72,11 @@ fn check_randomness(
     params: EnvironmentParameters,
     count: usize,
     m: usize,
-) -> SliceChecked
+) -> Result<(), Refusal>
     requires { (m < count) × (count ≤ 8) × Sized (parameters_of params) }
-    ensures { of_slice_checked result ≡ randomness_refusal (parameters_of params) 7 (randomness_part (parameters_of params) count words.now m) }
+    ensures { of_result result ≡ randomness_refusal (parameters_of params) 7 (randomness_part (parameters_of params) count words.now m) }
 {
-    let b = randomness_bounds(words.len(), params, count, m);
-    let from = b.from;
-    let to = b.to;
+    let Bounds { from, to } = randomness_bounds(words.len(), params, count, m);
     randomness::check(&words[from..to], params, Call::Whole)
 }
 
@@ -103,13 +86,11 @@ pub fn check_transcript(
     params: EnvironmentParameters,
     count: usize,
     m: usize,
-) -> SliceChecked
+) -> Result<(), Refusal>
     requires { (m < count) × (count ≤ 8) × Sized (parameters_of params) }
-    ensures { of_slice_checked result ≡ transcript_refusal (parameters_of params) (transcript_part (parameters_of params) count words.now m) }
+    ensures { of_result result ≡ transcript_refusal (parameters_of params) (transcript_part (parameters_of params) count words.now m) }
 {
-    let b = transcript_bounds(words.len(), params, count, m);
-    let from = b.from;
-    let to = b.to;
+    let Bounds { from, to } = transcript_bounds(words.len(), params, count, m);
     transcript::check(&words[from..to], params)
 }
 
@@ -119,13 +100,11 @@ pub fn check_part(
     params: EnvironmentParameters,
     count: usize,
     m: usize,
-    sent: SliceChecked,
-) -> SliceChecked
+    sent: Result<(), Refusal>,
+) -> Result<(), Refusal>
     requires { (m < count) × (count ≤ 8) × Sized (parameters_of params) }
-    ensures { of_slice_checked result ≡ randomness_refusal (parameters_of params) 7 (randomness_part (parameters_of params) count randomness.now m) then of_slice_checked sent }
+    ensures { of_result result ≡ randomness_refusal (parameters_of params) 7 (randomness_part (parameters_of params) count randomness.now m) then of_result sent }
 {
-    match check_randomness(randomness, params, count, m) {
-        SliceChecked::Refused(refusal) => SliceChecked::Refused(refusal),
-        SliceChecked::Fine => sent,
-    }
+    check_randomness(randomness, params, count, m)?;
+    sent
 }

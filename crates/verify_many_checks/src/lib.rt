@@ -20,7 +20,7 @@ use relation_env_params::env_params::EnvironmentParameters;
 use ring_rq::rq::Rq;
 use ring_rq_matrix;
 use ring_words;
-use spec_leaves::answers::{Checked, FailedCheck};
+use spec_leaves::answers::{FailedCheck, Rejection};
 use verifier_common::equal;
 
 // The product of a row.
@@ -39,15 +39,14 @@ pub fn check_az(
     params: EnvironmentParameters,
     regions: Regions,
     window: &[u32],
-) -> Checked
+) -> Result<(), Rejection>
     requires posed { Posed job.now transcript.now params × Ready job.now params regions window.now }
     requires rows_done { RowsDone job.now transcript.now window.now (row_count (parameters job.now)) }
     ensures { of_checked result ≡ az_of job.now transcript.now (challenges_in window.now regions) }
 {
     let t_at = offsets::of_transcript(params, names::T);
     let kappa = params.kappa;
-    let mut k = 0;
-    while k < kappa {
+    for k in 0..kappa {
         let left = product(window, params, k);
         let right = ring_rq_matrix::column_sum(
             transcript,
@@ -59,11 +58,10 @@ pub fn check_az(
             params.multiplicity,
         );
         if !equal::same(left, right) {
-            return Checked::Failed(FailedCheck::Az);
+            return Err(Rejection::Failed(FailedCheck::Az));
         }
-        k += 1;
     }
-    Checked::Passed
+    Ok(())
 }
 
 // "28 u1 differs": row k of B's product and of C's, added.
@@ -72,7 +70,7 @@ pub fn check_u1(
     transcript: &[u32],
     params: EnvironmentParameters,
     window: &[u32],
-) -> Checked
+) -> Result<(), Rejection>
     requires posed { Posed job.now transcript.now params × (scratch_need (parameters job.now) ≤ length window.now) }
     requires rows_done { RowsDone job.now transcript.now window.now (row_count (parameters job.now)) }
     ensures { of_checked result ≡ u1_differs job.now transcript.now }
@@ -81,17 +79,15 @@ pub fn check_u1(
     let rows = params.kappa_1;
     let b = params.kappa;
     let c = b + rows;
-    let mut k = 0;
-    while k < rows {
+    for k in 0..rows {
         let sent = ring_words::load(transcript, u_at + 64 * k);
         let left = product(window, params, b + k);
         let right = product(window, params, c + k);
         if !equal::same(sent, left.add(right)) {
-            return Checked::Failed(FailedCheck::OuterCommitU1);
+            return Err(Rejection::Failed(FailedCheck::OuterCommitU1));
         }
-        k += 1;
     }
-    Checked::Passed
+    Ok(())
 }
 
 // "29 u2 differs": the products of D's rows.
@@ -100,7 +96,7 @@ pub fn check_u2(
     transcript: &[u32],
     params: EnvironmentParameters,
     window: &[u32],
-) -> Checked
+) -> Result<(), Rejection>
     requires posed { Posed job.now transcript.now params × (scratch_need (parameters job.now) ≤ length window.now) }
     requires rows_done { RowsDone job.now transcript.now window.now (row_count (parameters job.now)) }
     ensures { of_checked result ≡ u2_differs job.now transcript.now }
@@ -108,13 +104,11 @@ pub fn check_u2(
     let u_at = offsets::of_transcript(params, names::U2);
     let rows = params.kappa_2;
     let d = params.kappa + params.kappa_1 + params.kappa_1;
-    let mut k = 0;
-    while k < rows {
+    for k in 0..rows {
         let sent = ring_words::load(transcript, u_at + 64 * k);
         if !equal::same(sent, product(window, params, d + k)) {
-            return Checked::Failed(FailedCheck::OuterCommitU2);
+            return Err(Rejection::Failed(FailedCheck::OuterCommitU2));
         }
-        k += 1;
     }
-    Checked::Passed
+    Ok(())
 }

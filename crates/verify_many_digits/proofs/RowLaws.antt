@@ -191,15 +191,15 @@ module _ (J : List ℕ) (params : EnvironmentParameters) (same : parameters_of p
   c = T Q * Q.t₂
 
   abbrev held_at : Held
-  held_at = record { stored = true; t = 0; g = 64 * a; h = 64 * (a + c) }
+  held_at = record { t = 0; g = 64 * a; h = 64 * (a + c) }
 
-  placed : Places Q 0 true held_at
-  placed = record { stored = refl; t = refl; g = omega arith; h = omega arith }
+  placed : Places Q 0 held_at
+  placed = record { t = refl; g = omega arith; h = omega arith }
 
   -- a transcript's digits by themselves
   alone : (X : List ℕ) → AllHeld J X (window_digits (parameters J) X) held_at
   alone X =
-      held_all J X (window_digits (parameters J) X) 0 held_at true (subst (λ P. Places P 0 true held_at) same placed)
+      held_all J X (window_digits (parameters J) X) 0 held_at (subst (λ P. Places P 0 held_at) same placed)
       (omega (arith, length-window_digits (parameters J) X)) (take-length (window_digits (parameters J) X))
 
   -- the matrices lie within the job

@@ -7,7 +7,6 @@ ghost use Rattle.spec_protocol.specs.Formulas.{flat};
 ghost use Rattle.spec_protocol.specs.Unchanged.{Unchanged};
 ghost use Rattle.spec_protocol.specs.Many.{many_need, transcript_part, AllRowsDone};
 ghost use Rattle.relation_env_params.specs.Parameters.{parameters_of};
-ghost use Rattle.ntt_transform.specs.Roots.{twiddle_table};
 ghost use Rattle.ntt_vectors.specs.NttForm.{ntt_words};
 ghost use Rattle.commitments_outer.specs.Cells.{width, digits_at, digits_of_element, Cells};
 ghost use Rattle.verifier_common.specs.Work.{Received};
@@ -17,6 +16,7 @@ ghost use Rattle.verify_many_digits.specs.NttDigits.{NttFitting, ntt_digits_for,
 
 use commitments_outer::outer_commitments::Digits;
 use layout_sizes::{buffers, names, offsets, slices};
+use ntt_transform::table::Twiddles;
 use ntt_vectors::vectors;
 use relation_env_params::env_params::EnvironmentParameters;
 use ring_rq_vector::digits;
@@ -28,11 +28,11 @@ fn store_cell(
     at: usize,
     base: u32,
     parts: usize,
-    w: &[u32],
+    w: &Twiddles,
     to: &mut [u32],
     place: usize,
 )
-    requires { (w.now ≡ twiddle_table) × (at + 64 ≤ length from.now) × (1 < base) × (parts ≤ 32) × (place + 192 * parts ≤ length to.old) }
+    requires { (at + 64 ≤ length from.now) × (1 < base) × (parts ≤ 32) × (place + 192 * parts ≤ length to.old) }
     ensures { to.new ≡ splice to.old place (ntt_words (flat (table parts (digits_of_element base from.now at))) 0 parts) }
 {
     let mut cell = [0u32; 2048];
@@ -41,8 +41,8 @@ fn store_cell(
 }
 
 // The digits of cells, in NTT form from `to_at` on.
-fn store_cells(from: &[u32], d: Digits, base: u32, w: &[u32], to: &mut [u32], to_at: usize)
-    requires { (w.now ≡ twiddle_table) × Cells from.now d × (1 < base) × (to_at + 192 * width d ≤ length to.old) }
+fn store_cells(from: &[u32], d: Digits, base: u32, w: &Twiddles, to: &mut [u32], to_at: usize)
+    requires { Cells from.now d × (1 < base) × (to_at + 192 * width d ≤ length to.old) }
     ensures { to.new ≡ splice to.old to_at (ntt_words (flat (digits_at from.now d base)) 0 (width d)) }
 {
     let cells = d.cells;
@@ -50,12 +50,10 @@ fn store_cells(from: &[u32], d: Digits, base: u32, w: &[u32], to: &mut [u32], to
     let block = 192 * parts;
     let mut at = d.at;
     let mut place = to_at;
-    let mut c = 0;
-    while c < cells {
+    for c in 0..cells {
         store_cell(from, at, base, parts, w, to, place);
         at += 64;
         place += block;
-        c += 1;
     }
 }
 
@@ -63,11 +61,11 @@ fn store_cells(from: &[u32], d: Digits, base: u32, w: &[u32], to: &mut [u32], to
 fn store_window(
     transcript: &[u32],
     params: EnvironmentParameters,
-    w: &[u32],
+    w: &Twiddles,
     scratch: &mut [u32],
     start: usize,
 )
-    requires { (w.now ≡ twiddle_table) × Received transcript.now params × (start + 192 * digit_count (parameters_of params) ≤ length scratch.old) }
+    requires { Received transcript.now params × (start + 192 * digit_count (parameters_of params) ≤ length scratch.old) }
     ensures { scratch.new ≡ splice scratch.old start (ntt_words (window_digits (parameters_of params) transcript.now) 0 (digit_count (parameters_of params))) }
 {
     let cells = slices::triangle(params.multiplicity);
@@ -100,11 +98,11 @@ fn one_to_ntt_form(
     m: usize,
     pass: bool,
     transcripts: &[u32],
-    w: &[u32],
+    w: &Twiddles,
     scratch: &mut [u32],
     start: usize,
 )
-    requires w_value { (w.now ≡ twiddle_table) × (m < count) × (count ≤ 8) × (start + 192 * digit_count (parameters_of params) ≤ length scratch.old) }
+    requires in_range { (m < count) × (count ≤ 8) × (start + 192 * digit_count (parameters_of params) ≤ length scratch.old) }
     requires received { pass ≡ true → Received (transcript_part (parameters_of params) count transcripts.now m) params }
     ensures { scratch.new ≡ ntt_digits_for (parameters_of params) transcripts.now count m start pass scratch.old }
 {
@@ -123,22 +121,20 @@ pub fn all_to_ntt_form(
     count: usize,
     passes: [bool; 8],
     transcripts: &[u32],
-    w: &[u32],
+    w: &Twiddles,
     scratch: &mut [u32],
 )
-    requires w_value { (w.now ≡ twiddle_table) × Rowable job.now transcripts.now count (λ m. get_or passes m false) (length scratch.old) params × NttFitting (parameters_of params) }
+    requires rowable { Rowable job.now transcripts.now count (λ m. get_or passes m false) (length scratch.old) params × NttFitting (parameters_of params) }
     requires all_rows_done { AllRowsDone job.now count (λ m. get_or passes m false) transcripts.now scratch.old (parameters job.now).κ }
     ensures all_rows_done_2 { AllRowsDone job.now count (λ m. get_or passes m false) transcripts.now scratch.new (parameters job.now).κ }
     ensures all_ntt_digits { AllNttDigits job.now count (λ m. get_or passes m false) transcripts.now scratch.new }
     ensures unchanged { Unchanged (many_need (parameters job.now) count) scratch.old scratch.new }
 {
     let need = buffers::scratch_length(params);
-    let mut m = 0;
     let mut start = 0;
-    while m < count {
+    for m in 0..count {
         let pass = passes[m];
         one_to_ntt_form(params, count, m, pass, transcripts, w, scratch, start);
         start += need;
-        m += 1;
     }
 }

@@ -5,14 +5,13 @@ ghost use Rattle.spec_protocol.specs.Unchanged.{Unchanged};
 ghost use Rattle.spec_protocol.specs.Many.{many_need, row_count, AllRowsDone};
 ghost use Rattle.relation_env_params.specs.Parameters.{parameters_of};
 ghost use Rattle.layout_sizes.specs.Sizes.{Sized};
-ghost use Rattle.ntt_transform.specs.Roots.{twiddle_table};
 ghost use Rattle.verify_many_windows.specs.Rowable.{Rowable};
 ghost use Rattle.verify_many_digits.specs.NttDigits.{NttFitting};
 ghost use Rattle.verify_many_digits.specs.Rows.{shares, row_of, sum_for, stored_sums, SumsLong, Valued, RowMade};
 
 use crate::{forms, sums};
 use layout_sizes::{buffers, names, offsets, slices};
-use ntt_transform::table;
+use ntt_transform::table::Twiddles;
 use relation_env_params::env_params::EnvironmentParameters;
 use ring_rq::rq::Rq;
 use ring_words;
@@ -108,13 +107,11 @@ fn store_sums(
     ensures { scratch.new ≡ stored_sums sums (λ m. get_or passes m false) at need count scratch.old × SumsLong sums count }
 {
     let mut place = at;
-    let mut m = 0;
-    while m < count {
+    for m in 0..count {
         let sum = sums[m];
         let pass = passes[m];
         store_sum(sum, pass, scratch, place);
         place += need;
-        m += 1;
     }
 }
 
@@ -125,10 +122,10 @@ fn row_of_all(
     row: usize,
     count: usize,
     passes: [bool; 8],
-    w: &[u32],
+    w: &Twiddles,
     scratch: &mut [u32],
 )
-    requires w_value { (w.now ≡ twiddle_table) × Valued job.now count (λ m. get_or passes m false) scratch.old (length scratch.old) params }
+    requires valued { Valued job.now count (λ m. get_or passes m false) scratch.old (length scratch.old) params }
     requires kappa_le_row { (params.kappa ≤ row) × (row < row_count (parameters_of params)) }
     ensures row_made { RowMade job.now params count (λ m. get_or passes m false) row scratch.old scratch.new }
     ensures unchanged { Unchanged (many_need (parameters job.now) count) scratch.old scratch.new }
@@ -154,12 +151,10 @@ pub fn rows_of_digits(
     ensures all_rows_done_2 { AllRowsDone job.now count (λ m. get_or passes m false) transcripts.now scratch.new (row_count (parameters job.now)) }
     ensures unchanged { Unchanged (many_need (parameters job.now) count) scratch.old scratch.new }
 {
-    let w = table::twiddles();
+    let w = Twiddles::new();
     forms::all_to_ntt_form(job, params, count, passes, transcripts, &w, scratch);
     let last = params.kappa + params.kappa_1 + params.kappa_1 + params.kappa_2;
-    let mut row = params.kappa;
-    while row < last {
+    for row in params.kappa..last {
         row_of_all(job, params, row, count, passes, &w, scratch);
-        row += 1;
     }
 }

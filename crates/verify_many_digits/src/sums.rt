@@ -1,9 +1,9 @@
 // The inner products of one row with vectors in NTT form, one in each window that takes part, 64 elements of the row at a time.
 ghost use Rattle.std.specs.Prelude.{◌≡◌, true, false, ◌+◌, ◌*◌, ◌≤◌, ◌<◌, length, get_or};
-ghost use Rattle.ntt_transform.specs.Roots.{twiddle_table};
 ghost use Rattle.ntt_vectors.specs.NttForm.{AllValues};
 ghost use Rattle.verify_many_digits.specs.Sums.{Windowed, added_to, BlockAdded, RowSummed};
 
+use ntt_transform::table::Twiddles;
 use ntt_vectors::vectors;
 use ring_rq::rq::Rq;
 
@@ -12,12 +12,12 @@ fn add_product(
     values: &[u32],
     n: usize,
     pass: bool,
-    w: &[u32],
+    w: &Twiddles,
     scratch: &[u32],
     at: usize,
     sum: Rq,
 ) -> Rq
-    requires { (w.now ≡ twiddle_table) × AllValues values.now 0 n × (n ≤ 64) × (pass ≡ true → AllValues scratch.now at n) }
+    requires { AllValues values.now 0 n × (n ≤ 64) × (pass ≡ true → AllValues scratch.now at n) }
     ensures { pass ≡ true → result.coeffs ≡ added_to values.now n scratch.now at sum.coeffs }
 {
     if pass {
@@ -33,25 +33,23 @@ fn add_block(
     n: usize,
     count: usize,
     passes: [bool; 8],
-    w: &[u32],
+    w: &Twiddles,
     scratch: &[u32],
     at: usize,
     need: usize,
     sums: [Rq; 8],
 ) -> [Rq; 8]
-    requires { (w.now ≡ twiddle_table) × AllValues values.now 0 n × (n ≤ 64) × Windowed scratch.now count (λ m. get_or passes m false) at need n }
+    requires { AllValues values.now 0 n × (n ≤ 64) × Windowed scratch.now count (λ m. get_or passes m false) at need n }
     ensures { BlockAdded values.now n scratch.now count (λ m. get_or passes m false) at need sums result }
 {
     let mut out = sums;
     let mut place = at;
-    let mut m = 0;
-    while m < count {
+    for m in 0..count {
         let pass = passes[m];
         let sum = sums[m];
         let next = add_product(values, n, pass, w, scratch, place, sum);
         out[m] = next;
         place += need;
-        m += 1;
     }
     out
 }
@@ -74,12 +72,12 @@ pub fn row_sums(
     width: usize,
     count: usize,
     passes: [bool; 8],
-    w: &[u32],
+    w: &Twiddles,
     scratch: &[u32],
     at: usize,
     need: usize,
 ) -> [Rq; 8]
-    requires { (w.now ≡ twiddle_table) × (row + 64 * width ≤ length job.now) × Windowed scratch.now count (λ m. get_or passes m false) at need width }
+    requires { (row + 64 * width ≤ length job.now) × Windowed scratch.now count (λ m. get_or passes m false) at need width }
     ensures { RowSummed job.now row width scratch.now count (λ m. get_or passes m false) at need result }
 {
     let mut values = [0u32; 12288];

@@ -5,14 +5,13 @@ ghost use Rattle.spec_protocol.specs.Parameters.{parameters};
 ghost use Rattle.spec_protocol.specs.Unchanged.{Unchanged};
 ghost use Rattle.spec_protocol.specs.Many.{many_need, transcript_part, AllRowsDone};
 ghost use Rattle.relation_env_params.specs.Parameters.{parameters_of};
-ghost use Rattle.ntt_transform.specs.Roots.{twiddle_table};
 ghost use Rattle.ntt_vectors.specs.NttForm.{AllValues};
 ghost use Rattle.verifier_common.specs.Work.{Received};
 ghost use Rattle.verify_many_windows.specs.Rowable.{Rowable};
 ghost use Rattle.verify_many_rows.specs.NttForm.{shares, z_for, NttFormZ, AllZ, product_for, Valued, RowMade};
 
 use layout_sizes::{buffers, names, offsets};
-use ntt_transform::table;
+use ntt_transform::table::Twiddles;
 use ntt_vectors::vectors;
 use relation_env_params::env_params::EnvironmentParameters;
 use ring_words;
@@ -38,11 +37,11 @@ fn one_to_ntt_form(
     m: usize,
     pass: bool,
     transcripts: &[u32],
-    w: &[u32],
+    w: &Twiddles,
     scratch: &mut [u32],
     start: usize,
 )
-    requires w_value { (w.now ≡ twiddle_table) × (m < count) × (count ≤ 8) × (start + 192 * params.rank ≤ length scratch.old) }
+    requires in_range { (m < count) × (count ≤ 8) × (start + 192 * params.rank ≤ length scratch.old) }
     requires received { pass ≡ true → Received (transcript_part (parameters_of params) count transcripts.now m) params }
     ensures scratch_after { scratch.new ≡ z_for (parameters_of params) transcripts.now count m start pass scratch.old }
     ensures ntt_form_z { pass ≡ true → NttFormZ (parameters_of params) transcripts.now count m start scratch.new }
@@ -63,23 +62,21 @@ fn all_to_ntt_form(
     count: usize,
     passes: [bool; 8],
     transcripts: &[u32],
-    w: &[u32],
+    w: &Twiddles,
     scratch: &mut [u32],
 )
-    requires w_value { (w.now ≡ twiddle_table) × Rowable job.now transcripts.now count (λ m. get_or passes m false) (length scratch.old) params }
+    requires rowable { Rowable job.now transcripts.now count (λ m. get_or passes m false) (length scratch.old) params }
     requires all_rows_done { AllRowsDone job.now count (λ m. get_or passes m false) transcripts.now scratch.old 0 }
     ensures all_rows_done_2 { AllRowsDone job.now count (λ m. get_or passes m false) transcripts.now scratch.new 0 }
     ensures all_z { AllZ job.now count (λ m. get_or passes m false) transcripts.now scratch.new }
     ensures unchanged { Unchanged (many_need (parameters job.now) count) scratch.old scratch.new }
 {
     let need = buffers::scratch_length(params);
-    let mut m = 0;
     let mut start = 0;
-    while m < count {
+    for m in 0..count {
         let pass = passes[m];
         one_to_ntt_form(params, count, m, pass, transcripts, w, scratch, start);
         start += need;
-        m += 1;
     }
 }
 
@@ -88,12 +85,12 @@ fn store_product(
     values: &[u32],
     n: usize,
     pass: bool,
-    w: &[u32],
+    w: &Twiddles,
     scratch: &mut [u32],
     start: usize,
     place: usize,
 )
-    requires w_value { (w.now ≡ twiddle_table) × AllValues values.now 0 n × (n ≤ 64) × (place + 64 ≤ length scratch.old) }
+    requires values { AllValues values.now 0 n × (n ≤ 64) × (place + 64 ≤ length scratch.old) }
     requires all_values { pass ≡ true → AllValues scratch.old start n }
     ensures { scratch.new ≡ product_for values.now n start place pass scratch.old }
 {
@@ -110,10 +107,10 @@ fn row_of_all(
     row: usize,
     count: usize,
     passes: [bool; 8],
-    w: &[u32],
+    w: &Twiddles,
     scratch: &mut [u32],
 )
-    requires { (w.now ≡ twiddle_table) × Valued job.now count (λ m. get_or passes m false) scratch.old (length scratch.old) params × (row < params.kappa) }
+    requires { Valued job.now count (λ m. get_or passes m false) scratch.old (length scratch.old) params × (row < params.kappa) }
     ensures row_made { RowMade job.now count (λ m. get_or passes m false) row scratch.old scratch.new }
     ensures unchanged { Unchanged (many_need (parameters job.now) count) scratch.old scratch.new }
 {
@@ -122,14 +119,12 @@ fn row_of_all(
     let row_at = offsets::of_job(params, names::MATRIX_A) + 64 * (row * n);
     let mut values = [0u32; 12288];
     vectors::to_ntt_form(job, row_at, n, w, &mut values, 0);
-    let mut m = 0;
     let mut start = 0;
-    while m < count {
+    for m in 0..count {
         let pass = passes[m];
         let place = start + need - 4096 + 64 * row;
         store_product(&values, n, pass, w, scratch, start, place);
         start += need;
-        m += 1;
     }
 }
 
@@ -147,11 +142,9 @@ pub fn rows_of_a(
     ensures all_rows_done_2 { AllRowsDone job.now count (λ m. get_or passes m false) transcripts.now scratch.new (parameters job.now).κ }
     ensures unchanged { Unchanged (many_need (parameters job.now) count) scratch.old scratch.new }
 {
-    let w = table::twiddles();
+    let w = Twiddles::new();
     all_to_ntt_form(job, params, count, passes, transcripts, &w, scratch);
-    let mut row = 0;
-    while row < params.kappa {
+    for row in 0..params.kappa {
         row_of_all(job, params, row, count, passes, &w, scratch);
-        row += 1;
     }
 }

@@ -1,5 +1,6 @@
 // The rows of A, B, C and D one after another, each for every transcript that passes 7 to 10 before the next (document 02, Item 11).
-ghost use Rattle.std.specs.Prelude.{◌≡◌, true, false, ◌+◌, ◌≤◌, ◌<◌, length, get_or};
+ghost use Rattle.std.specs.Prelude.{◌≡◌, true, false, ◌+◌, ◌^◌, ◌≤◌, ◌<◌, length, get_or};
+ghost use Rattle.std.specs.Option.{ForSome};
 ghost use Rattle.spec_protocol.specs.Parameters.{parameters};
 ghost use Rattle.spec_protocol.specs.Unchanged.{Unchanged};
 ghost use Rattle.spec_protocol.specs.Many.{many_need, transcript_part, row_count, AllRowsDone};
@@ -7,7 +8,7 @@ ghost use Rattle.relation_env_params.specs.Parameters.{parameters_of};
 ghost use Rattle.commitments_outer.specs.Cells.{Room};
 ghost use Rattle.verifier_common.specs.Work.{Posed};
 ghost use Rattle.verify_many_windows.specs.Held.{AllHeld};
-ghost use Rattle.verify_many_windows.specs.Digits.{StoredDigits};
+ghost use Rattle.verify_many_windows.specs.Digits.{Places, StoredDigits};
 ghost use Rattle.layout_sizes.specs.Sizes.{Sized};
 ghost use Rattle.verify_many_rows.specs.Rows.{Rowable, stored_for, ProductsZero};
 
@@ -31,11 +32,11 @@ fn row_of_one(
     transcripts: &[u32],
     scratch: &mut [u32],
     place: usize,
-    held: Held,
+    held: Option<Held>,
 )
     requires m_lt_count { (m < count) × (count ≤ 8) × (row < row_count (parameters_of params)) × Room scratch.old place 1 }
     requires posed { pass ≡ true → Posed job.now (transcript_part (parameters job.now) count transcripts.now m) params }
-    requires all_held { pass ≡ true → held.stored ≡ true → AllHeld job.now (transcript_part (parameters job.now) count transcripts.now m) scratch.old held }
+    requires all_held { pass ≡ true → ForSome held (AllHeld job.now (transcript_part (parameters job.now) count transcripts.now m) scratch.old) }
     ensures { scratch.new ≡ stored_for job.now transcripts.now count row m place pass scratch.old }
 {
     if pass {
@@ -51,6 +52,18 @@ fn row_of_one(
             place,
             held,
         );
+    }
+}
+
+// The places of the digits in the window that starts at `start`, where they are stored.
+fn held_from(params: EnvironmentParameters, start: usize, stored: bool) -> Option<Held>
+    requires { Sized (parameters_of params) × (start < 2 ^ 61) }
+    ensures { ForSome result (λ at. (stored ≡ true) × Places (parameters_of params) start at) }
+{
+    if stored {
+        Some(windows::places(params, start))
+    } else {
+        None
     }
 }
 
@@ -73,12 +86,11 @@ fn row_of_all(
     ensures unchanged { Unchanged (many_need (parameters job.now) count) scratch.old scratch.new }
 {
     let need = buffers::scratch_length(params);
-    let mut m = 0;
     let mut start = 0;
-    while m < count {
+    for m in 0..count {
         let pass = passes[m];
         let place = start + need - 4096 + 64 * row;
-        let held = windows::places(params, start, stored);
+        let held = held_from(params, start, stored);
         row_of_one(
             job,
             params,
@@ -92,7 +104,6 @@ fn row_of_all(
             held,
         );
         start += need;
-        m += 1;
     }
 }
 
@@ -114,8 +125,7 @@ fn some_rows(
     ensures all_rows_done_2 { AllRowsDone job.now count (λ m. get_or passes m false) transcripts.now scratch.new last }
     ensures unchanged { Unchanged (many_need (parameters job.now) count) scratch.old scratch.new }
 {
-    let mut row = first;
-    while row < last {
+    for row in first..last {
         row_of_all(
             job,
             params,
@@ -126,7 +136,6 @@ fn some_rows(
             scratch,
             stored,
         );
-        row += 1;
     }
 }
 
@@ -137,12 +146,10 @@ fn clear_products(params: EnvironmentParameters, count: usize, scratch: &mut [u3
     ensures unchanged { Unchanged (many_need (parameters_of params) count) scratch.old scratch.new }
 {
     let need = buffers::scratch_length(params);
-    let mut m = 0;
     let mut start = 0;
-    while m < count {
+    for m in 0..count {
         ring_words::clear_run(scratch, start + need - 4096, 4096);
         start += need;
-        m += 1;
     }
 }
 
@@ -243,6 +250,8 @@ fn other_rows(
 }
 
 // All rows.
+// Not inlined: its buffers do not lie above those of the verdicts, which come after it.
+#[inline(never)]
 pub fn row_products(
     job: &[u32],
     params: EnvironmentParameters,

@@ -8,6 +8,9 @@ use native.Mathlib.Omega.{arith}
 use borrow.Author.Tests.{lt-ltb, le-ltb}
 use lib.Dec.{ltb}
 use lib.ListN.{length, get_or}
+use Rattle.std.specs.Prelude.{Option, Some, None, MatchOption, IsSomeAnd, unwrap_or}
+use Rattle.std.specs.Option.{ForSome}
+use Rattle.std.proofs.lemmas.Option.{none-some}
 use Rattle.spec_leaves.specs.Rq.{Element}
 use Rattle.spec_leaves.specs.Ring.{RqOps, words}
 use Rattle.math.specs.lists.Table.{table}
@@ -125,6 +128,13 @@ module _ (J X : List ℕ) (params : EnvironmentParameters) (s : Posed J X params
       ∙ ap (λ Q. digits_product J (job_at Q 9) X (digits (transcript_at Q 7) (triangular Q.r) Q.t₁) Q.b k) s.same
       ∙ ap (λ v. times (public J []).D (digits_of (parameters J).b (parameters J).t₁ v) k)
       (triangle_cells X (transcript_at (parameters J) 7) (parameters J).r (message (parameters J) X).h (λ i j l m. refl))
+
+-- a place among those of stored digits, where they are stored
+pub held_place : (P : ℕ → Type 0) (A : Held → Type 0) (Q : Held → ℕ → Type 0) (held : Option Held) (o : Option ℕ) (f : Held → ℕ) → MatchOption held (o ≡ None) (λ h. IsSomeAnd o (Q h))
+    → ForSome held A → ((h : Held) (a : ℕ) → Q h a → a ≡ f h) → ((h : Held) → A h → P (f h)) → ForSome o P
+held_place P A Q None o f m all q g at e = absurd (none-some at (sym m ∙ e))
+held_place P A Q (Some h) (Some a) f m all q g at e = subst P (sym (q h a m) ∙ ap (λ o. unwrap_or o 0) e) (g h (all h refl))
+held_place P A Q (Some h) None f m all q g at e = absurd m
 
 -- stored digits by the places and parameters that the code holds
 module _ (J X : List ℕ) (params : EnvironmentParameters) (s : Posed J X params) (S : List ℕ) (h : Held) (all : AllHeld J X S h) where

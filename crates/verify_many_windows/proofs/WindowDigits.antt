@@ -56,13 +56,13 @@ module _ (P : Parameters) (X : List ℕ) where
       ∙ omega arith
 
   -- t's, g's and h's digits stored one after the other
-  pub window-stored : (S S₁ S₂ S₃ : List ℕ) (start : ℕ) (at : Held) (flag : Bool) (t-at g-at h-at cells : ℕ) → Places P start flag at
+  pub window-stored : (S S₁ S₂ S₃ : List ℕ) (start : ℕ) (at : Held) (t-at g-at h-at cells : ℕ) → Places P start at
       → t-at ≡ transcript_at P 5 → g-at ≡ transcript_at P 6 → h-at ≡ transcript_at P 7 → cells ≡ triangular P.r
       → S₁ ≡ splice S at.t (flat (digits_at X (digits t-at (P.r * P.κ) P.t₁) P.b))
       → S₂ ≡ splice S₁ at.g (flat (digits_at X (digits g-at cells P.t₂) P.b))
       → S₃ ≡ splice S₂ at.h (flat (digits_at X (digits h-at cells P.t₁) P.b))
       → S₃ ≡ splice S start (window_digits P X)
-  window-stored S S₁ S₂ S₃ start at flag t-at g-at h-at cells w et eg eh ec e₁ e₂ e₃ =
+  window-stored S S₁ S₂ S₃ start at t-at g-at h-at cells w et eg eh ec e₁ e₂ e₃ =
       let A = flat (digits_t P X) in
       let B = flat (digits_g P X) in
       let C = flat (digits_h P X) in
@@ -85,9 +85,9 @@ module _ (P : Parameters) (X : List ℕ) where
       c ∙ ap (λ s. splice s (start + length (A ++ B)) C) ab ∙ splice-append S start (A ++ B) C ∙ ap (splice S start) (append_assoc A B C)
 
 -- stored digits by their places
-pub held_all : (J X S : List ℕ) (start : ℕ) (at : Held) (flag : Bool) → Places (parameters J) start flag at → start + 64 * digit_count (parameters J) ≤ length S
+pub held_all : (J X S : List ℕ) (start : ℕ) (at : Held) → Places (parameters J) start at → start + 64 * digit_count (parameters J) ≤ length S
     → Holds S start (window_digits (parameters J) X) → AllHeld J X S at
-held_all J X S start at flag w room held =
+held_all J X S start at w room held =
     let P = parameters J in
     let A = flat (digits_t P X) in
     let B = flat (digits_g P X) in

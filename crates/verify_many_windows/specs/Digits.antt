@@ -26,8 +26,7 @@ abbrev pub digits_for : Parameters → (T : List ℕ) (count m start : ℕ) → 
 digits_for P T count m start pass S = cond pass (splice S start (window_digits P (transcript_part P count T m))) S
 
 -- their places in the window that starts at a place
-pub record Places (P : Parameters) (start : ℕ) (flag : Bool) (at : Held) : Type 0 where
-  pub stored : at.stored ≡ flag
+pub record Places (P : Parameters) (start : ℕ) (at : Held) : Type 0 where
   pub t : at.t ≡ start
   pub g : at.g ≡ start + 64 * (P.r * P.κ * P.t₁)
   pub h : at.h ≡ start + 64 * (P.r * P.κ * P.t₁) + 64 * (T P * P.t₂)

@@ -22,12 +22,10 @@ pub fn store_cells(from: &[u32], d: Digits, base: u32, to: &mut [u32], to_at: us
     let block = 64 * parts;
     let mut at = d.at;
     let mut place = to_at;
-    let mut c = 0;
-    while c < cells {
+    for c in 0..cells {
         digits::decompose_to(from, at, base, parts, to, place);
         at += 64;
         place += block;
-        c += 1;
     }
 }
 
@@ -49,8 +47,7 @@ fn product_by_forms(
     let mut total = Rq::zero();
     let mut column = row;
     let mut from = at;
-    let mut c = 0;
-    while c < cells {
+    for c in 0..cells {
         let to = from + block;
         let digits = &v[from..to];
         forms::store_forms(digits, parts, half, forms);
@@ -59,7 +56,6 @@ fn product_by_forms(
         total = next;
         column += block;
         from = to;
-        c += 1;
     }
     total
 }

@@ -1,5 +1,6 @@
 // The product of one row of A, B, C or D with one transcript, stored in its place (document 02, Item 11).
-ghost use Rattle.std.specs.Prelude.{◌≡◌, true, ◌+◌, ◌*◌, ◌≤◌, ◌<◌, length};
+ghost use Rattle.std.specs.Prelude.{◌≡◌, ◌+◌, ◌*◌, ◌≤◌, ◌<◌, length};
+ghost use Rattle.std.specs.Option.{ForSome};
 ghost use Rattle.math.specs.lists.Part.{splice};
 ghost use Rattle.spec_leaves.specs.Ring.{words};
 ghost use Rattle.spec_protocol.specs.Parameters.{parameters};
@@ -17,18 +18,16 @@ use layout_sizes::{names, offsets, slices};
 use relation_env_params::env_params::EnvironmentParameters;
 use ring_inner_product;
 use ring_words;
-use ring_zq::wide::wide;
 
-// Where the digits of t, g and h of a transcript stand in the scratch, if they are stored.
+// Where the digits of t, g and h of a transcript stand in the scratch.
 #[derive(Clone, Copy)]
 pub struct Held {
-    pub stored: bool,
     pub t: usize,
     pub g: usize,
     pub h: usize,
 }
 
-// The product of row k of a matrix with the digits of cells, which may be stored from `at` on.
+// The product of row k of a matrix with the digits of cells, which may be stored from a place on.
 fn store_digits(
     job: &[u32],
     m_at: usize,
@@ -38,22 +37,22 @@ fn store_digits(
     base: u32,
     scratch: &mut [u32],
     place: usize,
-    stored: bool,
-    at: usize,
+    held_at: Option<usize>,
 )
     requires room { Room job.now m_at (k * width d + width d) × Cells transcript.now d × (1 < base) × Room scratch.old place 1 }
-    requires digits_held { stored ≡ true → DigitsHeld scratch.old at transcript.now d base }
+    requires digits_held { ForSome held_at (λ at. DigitsHeld scratch.old at transcript.now d base) }
     ensures { scratch.new ≡ splice scratch.old place (words (digits_product job.now m_at transcript.now d base k)) }
 {
     let cells = d.cells;
     let parts = d.parts;
     let row = m_at + 64 * (k * (cells * parts));
-    if stored {
-        let half = wide(base / 2);
-        let product = digits::row_product(job, row, scratch, at, cells, parts, half);
-        ring_words::store(scratch, place, product);
-    } else {
-        outer_commitments::compute_u2(job, row, 1, transcript, d, base, scratch, place);
+    match held_at {
+        Some(at) => {
+            let half = u64::from(base / 2);
+            let product = digits::row_product(job, row, scratch, at, cells, parts, half);
+            ring_words::store(scratch, place, product);
+        }
+        None => outer_commitments::compute_u2(job, row, 1, transcript, d, base, scratch, place),
     }
 }
 
@@ -84,10 +83,10 @@ pub fn store_of_b(
     transcript: &[u32],
     scratch: &mut [u32],
     place: usize,
-    held: Held,
+    held: Option<Held>,
 )
     requires posed { Posed job.now transcript.now params × (k < params.kappa_1) × Room scratch.old place 1 }
-    requires all_held { held.stored ≡ true → AllHeld job.now transcript.now scratch.old held }
+    requires all_held { ForSome held (AllHeld job.now transcript.now scratch.old) }
     ensures { scratch.new ≡ splice scratch.old place (words (of_B job.now transcript.now k)) }
 {
     let t = Digits {
@@ -105,8 +104,7 @@ pub fn store_of_b(
         params.b,
         scratch,
         place,
-        held.stored,
-        held.t,
+        held.map(|held| held.t),
     );
 }
 
@@ -118,10 +116,10 @@ pub fn store_of_c(
     transcript: &[u32],
     scratch: &mut [u32],
     place: usize,
-    held: Held,
+    held: Option<Held>,
 )
     requires posed { Posed job.now transcript.now params × (k < params.kappa_1) × Room scratch.old place 1 }
-    requires all_held { held.stored ≡ true → AllHeld job.now transcript.now scratch.old held }
+    requires all_held { ForSome held (AllHeld job.now transcript.now scratch.old) }
     ensures { scratch.new ≡ splice scratch.old place (words (of_C job.now transcript.now k)) }
 {
     let g = Digits {
@@ -139,8 +137,7 @@ pub fn store_of_c(
         params.b,
         scratch,
         place,
-        held.stored,
-        held.g,
+        held.map(|held| held.g),
     );
 }
 
@@ -152,10 +149,10 @@ pub fn store_of_d(
     transcript: &[u32],
     scratch: &mut [u32],
     place: usize,
-    held: Held,
+    held: Option<Held>,
 )
     requires posed { Posed job.now transcript.now params × (k < params.kappa_2) × Room scratch.old place 1 }
-    requires all_held { held.stored ≡ true → AllHeld job.now transcript.now scratch.old held }
+    requires all_held { ForSome held (AllHeld job.now transcript.now scratch.old) }
     ensures { scratch.new ≡ splice scratch.old place (words (of_D job.now transcript.now k)) }
 {
     let h = Digits {
@@ -173,8 +170,7 @@ pub fn store_of_d(
         params.b,
         scratch,
         place,
-        held.stored,
-        held.h,
+        held.map(|held| held.h),
     );
 }
 
@@ -186,10 +182,10 @@ pub fn store_row(
     transcript: &[u32],
     scratch: &mut [u32],
     place: usize,
-    held: Held,
+    held: Option<Held>,
 )
     requires posed { Posed job.now transcript.now params × (row < row_count (parameters_of params)) × Room scratch.old place 1 }
-    requires all_held { held.stored ≡ true → AllHeld job.now transcript.now scratch.old held }
+    requires all_held { ForSome held (AllHeld job.now transcript.now scratch.old) }
     ensures { scratch.new ≡ splice scratch.old place (words (row_product job.now transcript.now row)) }
 {
     let b = params.kappa;

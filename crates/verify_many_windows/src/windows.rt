@@ -17,6 +17,7 @@ use commitments_outer::outer_commitments::Digits;
 use layout_sizes::{buffers, names, offsets, slices};
 use relation_env_params::env_params::EnvironmentParameters;
 use verify_many_admission::bounds;
+use verify_many_admission::bounds::Bounds;
 
 // Whether the digits of a transcript have room in its window before the products.
 pub fn fits(params: EnvironmentParameters) -> bool
@@ -30,14 +31,13 @@ pub fn fits(params: EnvironmentParameters) -> bool
 }
 
 // The places of the digits in the window that starts at `start`.
-pub fn places(params: EnvironmentParameters, start: usize, stored: bool) -> Held
+pub fn places(params: EnvironmentParameters, start: usize) -> Held
     requires { Sized (parameters_of params) × (start < 2 ^ 61) }
-    ensures { Places (parameters_of params) start stored result }
+    ensures { Places (parameters_of params) start result }
 {
     let t = params.multiplicity * params.kappa * params.t_1;
     let g = slices::triangle(params.multiplicity) * params.t_2;
     Held {
-        stored,
         t: start,
         g: start + 64 * t,
         h: start + 64 * t + 64 * g,
@@ -54,7 +54,7 @@ fn store_window(
     requires { Received transcript.now params × Room scratch.old start (digit_count (parameters_of params)) }
     ensures { scratch.new ≡ splice scratch.old start (window_digits (parameters_of params) transcript.now) }
 {
-    let at = places(params, start, true);
+    let at = places(params, start);
     let cells = slices::triangle(params.multiplicity);
     let t = Digits {
         at: offsets::of_transcript(params, names::T),
@@ -91,9 +91,7 @@ fn digits_of_one(
     ensures { scratch.new ≡ digits_for (parameters_of params) transcripts.now count m start pass scratch.old }
 {
     if pass {
-        let b = bounds::transcript_bounds(transcripts.len(), params, count, m);
-        let from = b.from;
-        let to = b.to;
+        let Bounds { from, to } = bounds::transcript_bounds(transcripts.len(), params, count, m);
         store_window(&transcripts[from..to], params, scratch, start);
     }
 }
@@ -114,12 +112,10 @@ pub fn digits_of_all(
     ensures unchanged { Unchanged (many_need (parameters job.now) count) scratch.old scratch.new }
 {
     let need = buffers::scratch_length(params);
-    let mut m = 0;
     let mut start = 0;
-    while m < count {
+    for m in 0..count {
         let pass = passes[m];
         digits_of_one(params, count, m, pass, transcripts, scratch, start);
         start += need;
-        m += 1;
     }
 }

@@ -1,6 +1,7 @@
 -- What the calls write for an input, however it is cut into chunks, is the output of the whole input.
 use mathlib.Core.Path.{◌≡◌, refl, ◌∙◌, sym, ap}
 use mathlib.Core.Bool.{Bool, true, false, cond}
+use Rattle.std.specs.Prelude.{Some, None}
 use mathlib.Core.List.{List, [], ◌∷◌, ◌++◌, append_assoc, append-nil, flatten}
 use Prim.Native.Nat.{ℕ, ◌+◌, ◌*◌, ◌≤◌, ◌<◌}
 use native.Mathlib.Numerals.{add-one}
@@ -14,7 +15,6 @@ use Rattle.zq_lines_text.specs.Line.{answer_to, text}
 use Rattle.zq_lines_text.specs.Output.{last_line, lines_after, answer_lines, output}
 use Rattle.zq_lines_text.specs.Reading.{none, start, pushed, extended, with, stepped, steps, parsed, answer_of, next, written, after, answers, is_fresh, last}
 use Rattle.zq_lines_text.specs.declared.reading.Word.{Word}
-use Rattle.zq_lines_text.specs.declared.reading.Extended.TheVariants.{To, No}
 use Rattle.zq_lines_text.specs.declared.reading.State.{State}
 use Rattle.zq_lines_text.specs.declared.reading.State.TheVariants.{First, Second, Bad}
 use Rattle.zq_lines_text.proofs.Parsing.{parsed-steps}
@@ -86,7 +86,7 @@ steps_snoc s (x ∷ xs) b = steps_snoc (stepped s x) xs b
 fresh_extended : (go : Word → State) (w : Word) (b : ℕ) → is_fresh (go (pushed w b)) ≡ false → is_fresh (with go (extended w b)) ≡ false
 fresh_extended go w b h = by (is_digit b) (ltb w.digits 10)
   where
-    by : (d m : Bool) → is_fresh (with go (cond d (cond m (To (pushed w b)) No) No)) ≡ false
+    by : (d m : Bool) → is_fresh (with go (cond d (cond m (Some (pushed w b)) None) None)) ≡ false
     by true true = h
     by true false = refl
     by false m = refl

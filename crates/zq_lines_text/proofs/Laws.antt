@@ -1,6 +1,7 @@
 -- What the definitions say of long lines, and of a number that is written and read back.
 use mathlib.Core.Path.{◌≡◌, refl, ◌∙◌}
 use mathlib.Core.Bool.{Bool, true, false, cond}
+use Rattle.std.specs.Prelude.{None}
 use mathlib.Core.List.{List, [], ◌∷◌, ◌++◌}
 use Prim.Native.Nat.{ℕ, zero, suc, ◌+◌, ◌-◌, ◌*◌, ◌/◌, ◌%◌, ◌^◌, ◌≤◌, ◌<◌}
 use native.Mathlib.Nat.{pow-suc}
@@ -11,7 +12,6 @@ use borrow.Author.Tests.{leb-true}
 use Rattle.spec_leaves.proofs.Cases.{both_true}
 use Rattle.zq_lines_text.specs.Text.{all_digits, value_after, value, decimal_in, decimal}
 use Rattle.zq_lines_text.specs.Line.{before_space, after_space, one_to_ten, is_word, pair, parse}
-use Rattle.zq_lines_text.specs.declared.reading.Parsed.TheVariants.{Refused}
 
 -- a line is what stands before its first space, the space, and what stands after it
 length-parts : (l : List ℕ) → length l ≤ length (before_space l) + 1 + length (after_space l)
@@ -30,12 +30,12 @@ word-length w h =
     leb-true (length w) 10 (both_true (leb 1 (length w)) (leb (length w) 10) p.0).1
 
 -- a line of more than 21 bytes is refused whatever it holds
-pub long_refused : (line : List ℕ) → 21 < length line → parse line ≡ Refused
+pub long_refused : (line : List ℕ) → 21 < length line → parse line ≡ None
 unfolding parse
 long_refused line h = by (is_word (before_space line)) refl (is_word (after_space line)) refl
   where
     by : (f : Bool) → is_word (before_space line) ≡ f → (s : Bool) → is_word (after_space line) ≡ s
-        → cond f (cond s (pair (value (before_space line)) (value (after_space line))) Refused) Refused ≡ Refused
+        → cond f (cond s (pair (value (before_space line)) (value (after_space line))) None) None ≡ None
     by true e true g = absurd (omega (arith, length-parts line, word-length (before_space line) e, word-length (after_space line) g))
     by true e false g = refl
     by false e s g = refl

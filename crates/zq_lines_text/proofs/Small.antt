@@ -1,6 +1,7 @@
 -- The words of a state stay small.
 use mathlib.Core.Path.{◌≡◌, refl}
 use mathlib.Core.Bool.{Bool, true, false, cond}
+use Rattle.std.specs.Prelude.{Some, None}
 use mathlib.Core.List.{List, [], ◌∷◌}
 use Prim.Native.Nat.{ℕ, ◌≤◌, ◌<◌}
 use native.Mathlib.Nat.{lt_of_lt_of_le, pow-suc, pow-le-pow_right}
@@ -15,7 +16,6 @@ use Rattle.zq_lines_text.specs.Reading.{none, start, pushed, extended, with, ste
 use Rattle.zq_lines_text.specs.declared.reading.Word.{Word}
 use Rattle.zq_lines_text.specs.declared.reading.State.{State}
 use Rattle.zq_lines_text.specs.declared.reading.State.TheVariants.{First, Second, Bad}
-use Rattle.zq_lines_text.specs.declared.reading.Parsed.TheVariants.{Pair, Refused}
 
 -- a digit is a byte from 48 to 57
 pub digit-range : (b : ℕ) → is_digit b ≡ true → (48 ≤ b) × (b ≤ 57)
@@ -85,7 +85,7 @@ unfolding parsed
 first-canonical (First w) = tt
 first-canonical (Second a w) = by (eqb w.digits 0) (ltb a Q) refl (ltb w.value Q)
   where
-    by : (z l : Bool) → ltb a Q ≡ l → (m : Bool) → FirstCanonical (cond z Refused (cond l (cond m (Pair a w.value) Refused) Refused))
+    by : (z l : Bool) → ltb a Q ≡ l → (m : Bool) → FirstCanonical (cond z None (cond l (cond m (Some (a, w.value)) None) None))
     by true l h m = tt
     by false true h true = ltb-true a Q h
     by false true h false = tt

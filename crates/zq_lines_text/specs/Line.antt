@@ -1,9 +1,7 @@
 -- The answer to one line (document 01, "Proved table", last paragraph). A line is the list of its bytes, without the line feed.
-use Rattle.std.specs.Prelude.{Bool, cond, ◌&&◌, List, [], ◌∷◌, ◌++◌, ℕ, leb, ltb, eqb, length}
+use Rattle.std.specs.Prelude.{Bool, cond, ◌&&◌, List, [], ◌∷◌, ◌++◌, ℕ, leb, ltb, eqb, length, Option, Some, None}
 use Rattle.spec_leaves.specs.Zq.{Q, zadd, zmul, centre}
 use Rattle.zq_lines_text.specs.Text.{all_digits, value, decimal, signed}
-use Rattle.zq_lines_text.specs.declared.reading.Parsed.{Parsed}
-use Rattle.zq_lines_text.specs.declared.reading.Parsed.TheVariants.{Pair, Refused}
 
 -- what stands before the first space
 unfoldable pub before_space : List ℕ → List ℕ
@@ -23,13 +21,13 @@ one_to_ten n = leb 1 n && leb n 10
 abbrev pub is_word : List ℕ → Bool
 is_word w = one_to_ten (length w) && all_digits w
 
--- "`refused` for a word at or above Q"
-abbrev pub pair : ℕ → ℕ → Parsed
-pair a b = cond (ltb a Q) (cond (ltb b Q) (Pair a b) Refused) Refused
+-- "`refused` for a word at or above Q": none
+abbrev pub pair : ℕ → ℕ → Option (ℕ × ℕ)
+pair a b = cond (ltb a Q) (cond (ltb b Q) (Some (a, b)) None) None
 
--- "two decimal words, each of one to ten digits, one space between and nothing else"; "`refused` … for any other line"
-unfoldable pub parse : List ℕ → Parsed
-parse line = cond (is_word (before_space line)) (cond (is_word (after_space line)) (pair (value (before_space line)) (value (after_space line))) Refused) Refused
+-- "two decimal words, each of one to ten digits, one space between and nothing else"; "`refused` … for any other line": none
+unfoldable pub parse : List ℕ → Option (ℕ × ℕ)
+parse line = cond (is_word (before_space line)) (cond (is_word (after_space line)) (pair (value (before_space line)) (value (after_space line))) None) None
 
 infixl 25 ◌␣◌
 -- two texts, "one space apart"
@@ -37,9 +35,9 @@ abbrev pub ◌␣◌ : List ℕ → List ℕ → List ℕ
 a ␣ b = a ++ (32 ∷ b)
 
 -- "prints both, sum, product and the first one's centre"; "`refused`"
-unfoldable pub text : Parsed → List ℕ
-text (Pair a b) = decimal a ␣ decimal b ␣ decimal (zadd a b) ␣ decimal (zmul a b) ␣ signed (centre a)
-text Refused = 114 ∷ 101 ∷ 102 ∷ 117 ∷ 115 ∷ 101 ∷ 100 ∷ []
+unfoldable pub text : Option (ℕ × ℕ) → List ℕ
+text (Some (a, b)) = decimal a ␣ decimal b ␣ decimal (zadd a b) ␣ decimal (zmul a b) ␣ signed (centre a)
+text None = 114 ∷ 101 ∷ 102 ∷ 117 ∷ 115 ∷ 101 ∷ 100 ∷ []
 
 -- the answer to a line
 abbrev pub answer_to : List ℕ → List ℕ

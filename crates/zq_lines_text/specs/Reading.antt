@@ -1,16 +1,12 @@
 -- Reading byte by byte: what is kept of a line that has begun, and what a run of bytes has written.
 -- proofs/Chunks ties it to Output: the runs of an input, however it is cut, and its end have written the output.
-use Rattle.std.specs.Prelude.{Bool, false, cond, List, [], ◌∷◌, ◌++◌, ℕ, ◌+◌, ◌-◌, ◌*◌, ◌^◌, ◌<◌, ◌≤◌, ltb, eqb}
+use Rattle.std.specs.Prelude.{Bool, false, cond, List, [], ◌∷◌, ◌++◌, ℕ, ◌+◌, ◌-◌, ◌*◌, ◌^◌, ◌<◌, ◌≤◌, ltb, eqb, Option, Some, None}
 use Rattle.spec_leaves.specs.Zq.{Canonical}
 use Rattle.zq_lines_text.specs.Text.{is_digit}
 use Rattle.zq_lines_text.specs.Line.{pair, text}
 use Rattle.zq_lines_text.specs.declared.reading.Word.{Word}
-use Rattle.zq_lines_text.specs.declared.reading.Extended.{Extended}
-use Rattle.zq_lines_text.specs.declared.reading.Extended.TheVariants.{To, No}
 use Rattle.zq_lines_text.specs.declared.reading.State.{State}
 use Rattle.zq_lines_text.specs.declared.reading.State.TheVariants.{First, Second, Bad}
-use Rattle.zq_lines_text.specs.declared.reading.Parsed.{Parsed}
-use Rattle.zq_lines_text.specs.declared.reading.Parsed.TheVariants.{Pair, Refused}
 
 -- no digit yet
 abbrev pub none : Word
@@ -25,13 +21,13 @@ abbrev pub start : State
 start = First none
 
 -- a word with one more byte; none where the byte is no digit, or an eleventh
-abbrev pub extended : Word → ℕ → Extended
-extended w b = cond (is_digit b) (cond (ltb w.digits 10) (To (pushed w b)) No) No
+abbrev pub extended : Word → ℕ → Option Word
+extended w b = cond (is_digit b) (cond (ltb w.digits 10) (Some (pushed w b)) None) None
 
 -- a byte that extends no word spoils the line
-abbrev pub with : (Word → State) → Extended → State
-with go (To w) = go w
-with go No = Bad
+abbrev pub with : (Word → State) → Option Word → State
+with go (Some w) = go w
+with go None = Bad
 
 -- a line with one more byte
 unfoldable pub stepped : State → ℕ → State
@@ -45,10 +41,10 @@ steps s [] = s
 steps s (b ∷ bs) = steps (stepped s b) bs
 
 -- what a whole line stands for
-unfoldable pub parsed : State → Parsed
-parsed (First w) = Refused
-parsed (Second a w) = cond (eqb w.digits 0) Refused (pair a w.value)
-parsed Bad = Refused
+unfoldable pub parsed : State → Option (ℕ × ℕ)
+parsed (First w) = None
+parsed (Second a w) = cond (eqb w.digits 0) None (pair a w.value)
+parsed Bad = None
 
 -- the answer to a whole line, ended by a line feed
 abbrev pub answer_of : State → List ℕ
@@ -94,6 +90,6 @@ Bounded (Second a w) = Small w
 Bounded Bad = Unit {0}
 
 -- the first number of a pair, which has a centre, is canonical
-abbrev pub FirstCanonical : Parsed → Type 0
-FirstCanonical (Pair a b) = Canonical a
-FirstCanonical Refused = Unit {0}
+abbrev pub FirstCanonical : Option (ℕ × ℕ) → Type 0
+FirstCanonical (Some (a, b)) = Canonical a
+FirstCanonical None = Unit {0}

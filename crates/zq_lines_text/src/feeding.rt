@@ -20,18 +20,15 @@ fn feed_byte(f: Fed, b: u8, out: &mut [u8]) -> Fed
     ensures state_value { result.state ≡ next f.state b }
     ensures written { Written out.old f.at (written f.state b) out.new result.at }
 {
-    let state = f.state;
-    let at = f.at;
     if b == b'\n' {
-        let end = put_answer(out, at, state);
         Fed {
             state: start(),
-            at: end,
+            at: put_answer(out, f.at, f.state),
         }
     } else {
         Fed {
-            state: step(state, b),
-            at,
+            state: step(f.state, b),
+            ..f
         }
     }
 }
@@ -44,10 +41,8 @@ pub fn feed(s: State, chunk: &[u8], out: &mut [u8]) -> Fed
     ensures written { Written out.old 0 (answers s chunk.now) out.new result.at }
 {
     let mut f = Fed { state: s, at: 0 };
-    let mut i = 0;
-    while i < chunk.len() {
-        f = feed_byte(f, chunk[i], out);
-        i += 1;
+    for b in chunk {
+        f = feed_byte(f, *b, out);
     }
     f
 }

@@ -1,23 +1,16 @@
 // Reading a line byte by byte.
-ghost use Rattle.std.specs.Prelude.{◌≡◌, ◌≤◌, ◌<◌, Bool};
+ghost use Rattle.std.specs.Prelude.{◌≡◌, ◌≤◌, ◌<◌, IsTrue};
 ghost use Rattle.zq_lines_text.specs.Text.{is_digit};
 ghost use Rattle.zq_lines_text.specs.Line.{pair as Line·pair};
 ghost use Rattle.zq_lines_text.specs.Reading.{start as Reading·start, pushed, extended, stepped, parsed, is_fresh, Small, Bounded};
 
 use ring_zq::zq::Zq;
 
-// A decimal word as far as it is read.
+// A decimal word as far as it is read. That it is `Small` stays a clause: the words that specs/ makes, as `pushed`, have no room for the proof that an invariant asks.
 #[derive(Clone, Copy)]
 pub struct Word {
     pub value: u64,
     pub digits: u32,
-}
-
-// A word with one more byte; No where the byte is no digit, or an eleventh.
-#[derive(Clone, Copy)]
-pub enum Extended {
-    To(Word),
-    No,
 }
 
 // What is kept of a line: its first word so far; its first word's value, and its second word so far; or that it is refused whatever follows.
@@ -26,13 +19,6 @@ pub enum State {
     First(Word),
     Second(u64, Word),
     Bad,
-}
-
-// What a whole line stands for.
-#[derive(Clone, Copy)]
-pub enum Parsed {
-    Pair(u32, u32),
-    Refused,
 }
 
 // Q as a u64.
@@ -48,18 +34,11 @@ pub fn start() -> State
     })
 }
 
-// Whether a byte is a decimal digit.
-fn is_digit(b: u8) -> bool
-    ensures { result ≡ is_digit b }
-{
-    b'0' <= b && b <= b'9'
-}
-
 // A word with one more digit.
 fn push(w: Word, b: u8) -> Word
     requires small { Small w }
     requires digits_bound { w.digits < 10 }
-    requires b_value { is_digit b ≡ Bool.true }
+    requires b_value { IsTrue (is_digit b) }
     ensures { result ≡ pushed w b }
 {
     Word {
@@ -68,18 +47,15 @@ fn push(w: Word, b: u8) -> Word
     }
 }
 
-// A word with one more byte.
-fn extend(w: Word, b: u8) -> Extended
+// A word with one more byte; none where the byte is no digit, or an eleventh.
+fn extend(w: Word, b: u8) -> Option<Word>
     requires { Small w }
     ensures { result ≡ extended w b }
 {
-    if !is_digit(b) {
-        return Extended::No;
-    }
-    if w.digits < 10 {
-        Extended::To(push(w, b))
+    if b.is_ascii_digit() && w.digits < 10 {
+        Some(push(w, b))
     } else {
-        Extended::No
+        None
     }
 }
 
@@ -101,8 +77,8 @@ fn step_first(w: Word, b: u8) -> State
         );
     }
     match extend(w, b) {
-        Extended::To(longer) => State::First(longer),
-        Extended::No => State::Bad,
+        Some(longer) => State::First(longer),
+        None => State::Bad,
     }
 }
 
@@ -112,8 +88,8 @@ fn step_second(a: u64, w: Word, b: u8) -> State
     ensures { result ≡ stepped (State.Second a w) b }
 {
     match extend(w, b) {
-        Extended::To(longer) => State::Second(a, longer),
-        Extended::No => State::Bad,
+        Some(longer) => State::Second(a, longer),
+        None => State::Bad,
     }
 }
 
@@ -130,34 +106,30 @@ pub fn step(s: State, b: u8) -> State
 }
 
 // Two words, refused where one is at or above Q.
-fn pair(a: u64, b: u64) -> Parsed
+fn pair(a: u64, b: u64) -> Option<(u32, u32)>
     ensures { result ≡ Line·pair a b }
 {
-    if a < MODULUS {
-        if b < MODULUS {
-            Parsed::Pair(a as u32, b as u32)
-        } else {
-            Parsed::Refused
-        }
+    if a < MODULUS && b < MODULUS {
+        Some((a as u32, b as u32))
     } else {
-        Parsed::Refused
+        None
     }
 }
 
-// What a line stands for, if it ends here.
-pub fn parse(s: State) -> Parsed
+// The numbers of a line, if it ends here; none where it is refused.
+pub fn parse(s: State) -> Option<(u32, u32)>
     ensures { result ≡ parsed s }
 {
     match s {
-        State::First(_) => Parsed::Refused,
+        State::First(_) => None,
         State::Second(a, w) => {
             if w.digits == 0 {
-                Parsed::Refused
+                None
             } else {
                 pair(a, w.value)
             }
         }
-        State::Bad => Parsed::Refused,
+        State::Bad => None,
     }
 }
 
@@ -167,7 +139,6 @@ pub fn is_fresh(s: State) -> bool
 {
     match s {
         State::First(w) => w.digits == 0,
-        State::Second(_, _) => false,
-        State::Bad => false,
+        State::Second(..) | State::Bad => false,
     }
 }

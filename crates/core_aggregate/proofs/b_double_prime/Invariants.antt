@@ -1,6 +1,6 @@
 -- `b_double_prime` meets its contract. The invariant: the first k elements are stored, and what they are made of is as it was.
 use mathlib.Core.Path.{◌≡◌}
-use Prim.Native.Nat.{◌+◌, ◌-◌, ◌*◌, ◌≤◌}
+use Prim.Native.Nat.{◌+◌, ◌*◌, ◌≤◌}
 use lib.ListN.{length}
 use Rattle.math.specs.lists.Table.{table}
 use Rattle.math.specs.lists.Part.{splice}
@@ -17,6 +17,3 @@ invariant-loop-k l =
     × (l.scratch ≡ splice l.initial.scratch l.to (flat (table k (λ k. formed l.initial.scratch (l.a_at + 64 * (k * triangular l.r)) l.g_at (l.phi_at + 64 * (k * (l.r * l.n))) l.r
     l.n l.witness l.s_at))))
     × (length l.scratch ≡ length l.initial.scratch)
-
-abbrev pub decreases-loop-k : goal.decreases-loop-k
-decreases-loop-k l = l.count - l.k

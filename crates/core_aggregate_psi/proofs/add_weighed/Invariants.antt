@@ -1,6 +1,6 @@
 -- `add_weighed` meets its contract. The invariant: the first c sums are stored.
 use mathlib.Core.Path.{◌≡◌}
-use Prim.Native.Nat.{◌-◌, ◌≤◌}
+use Prim.Native.Nat.{◌≤◌}
 use lib.ListN.{length}
 use Rattle.math.specs.lists.Table.{table}
 use Rattle.math.specs.lists.Part.{splice}
@@ -13,6 +13,3 @@ abbrev pub invariant-loop-c : goal.invariant-loop-c
 invariant-loop-c l =
     let c = l.c in (c ≤ l.width) × (l.out ≡ splice l.initial.out l.to (flat (table c (λ c. run l.initial.out l.to 64 c ⊕ weighed l.job l.at l.width l.count l.numbers l.row c)))) ×
     (length l.out ≡ length l.initial.out)
-
-abbrev pub decreases-loop-c : goal.decreases-loop-c
-decreases-loop-c l = l.width - l.c

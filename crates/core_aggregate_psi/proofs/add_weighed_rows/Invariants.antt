@@ -1,6 +1,6 @@
 -- `add_weighed_rows` meets its contract. The invariant: the sums of the first k rows are stored.
 use mathlib.Core.Path.{◌≡◌}
-use Prim.Native.Nat.{◌+◌, ◌-◌, ◌*◌, ◌≤◌}
+use Prim.Native.Nat.{◌+◌, ◌*◌, ◌≤◌}
 use lib.ListN.{length}
 use Rattle.math.specs.lists.Part.{splice}
 use Rattle.ring_inner_product.specs.Run.{run}
@@ -15,6 +15,3 @@ invariant-loop-k l =
     × (l.place ≡ l.to + 64 * (k * l.width))
     × (l.out ≡ splice l.initial.out l.to (flat (rows k l.width (λ k c. run l.initial.out (l.to + 64 * (k * l.width)) 64 c ⊕ weighed l.job l.at l.width l.count l.numbers (l.row + k * l.count) c))))
     × (length l.out ≡ length l.initial.out)
-
-abbrev pub decreases-loop-k : goal.decreases-loop-k
-decreases-loop-k l = l.aggregations - l.k

@@ -13,14 +13,14 @@ use Rattle.core_challenge_sums.proofs.add_column.Goals as goal
 pub inner_product-requires : goal.inner_product-requires
 inner_product-requires c =
     let s = c.args in
-    (c.requires.1.1, column-run s.from.now s.at s.n s.m s.r c.requires.1.0 c.requires.2 c.requires.1.3 c.requires.1.2 (omega arith))
+    (c.requires.0.1, column-run s.from.now s.at s.n s.m s.r c.requires.0.0 c.requires.1 c.requires.0.3 c.requires.0.2 (omega arith))
 
 pub add_term-requires : goal.add_term-requires
 add_term-requires c =
     let s = c.args in
     let e = combined s.from.now s.at s.r s.n s.powers.now s.m in
     let size = ap length (c.inner_product.ensures ∙ product_words s.powers.now s.from.now s.at s.r s.n s.m) ∙ length-words e in
-    (c.requires.0, omega (arith, size), c.requires.3, c.requires.4)
+    (omega (arith, size), c.requires.2, c.requires.3)
 
 pub returns : goal.returns
 returns c =

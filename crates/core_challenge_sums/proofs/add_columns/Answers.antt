@@ -9,7 +9,7 @@ use Rattle.core_challenge_sums.proofs.Columns.{part_of-words, flat-small}
 use Rattle.core_challenge_sums.proofs.add_columns.Goals as goal
 
 pub loop-m-init : goal.loop-m-init
-loop-m-init c = (omega arith, terms-none _ _ _ _ _ _ c.requires.3.whole, refl)
+loop-m-init c = (omega arith, terms-none _ _ _ _ _ _ c.requires.2.whole, refl)
 
 pub add_column-requires : goal.add_column-requires
 add_column-requires c =
@@ -18,10 +18,9 @@ add_column-requires c =
     let more : l.m < s.n = omega arith in
     let e = combined_words s.from.now s.at s.r s.n s.powers.now in (
       c.requires.0,
-      c.requires.1,
       more,
-      one_value s.z.now 0 s.n l.m (192 * l.m) c.requires.2 more (omega arith),
-      terms-small s.sums.now s.z.now 0 e 0 64 l.sums s.n l.m l.invariant.1 more c.requires.2 (flat-small _) c.requires.3,
+      one_value s.z.now 0 s.n l.m (192 * l.m) c.requires.1 more (omega arith),
+      terms-small s.sums.now s.z.now 0 e 0 64 l.sums s.n l.m l.invariant.1 more c.requires.1 (flat-small _) c.requires.2,
     )
 
 pub loop-m-preserved : goal.loop-m-preserved
@@ -32,7 +31,7 @@ loop-m-preserved c =
     let e = combined_words s.from.now s.at s.r s.n s.powers.now in
     let made = terms-next s.sums.now s.z.now 0 e 0 64 l.sums _ l.m (192 * l.m) (0 + 64 * l.m) l.invariant.1 (omega arith) refl
     (c.add_column.ensures ∙ ap (term_added l.sums s.z.now (192 * l.m)) (sym (part_of-words s.n f l.m (omega arith)))) in
-    (omega arith, made, ap length made ∙ omega (arith, length-terms s.sums.now s.z.now 0 e 0 64 (l.m + 1), c.requires.3.whole))
+    (omega arith, made, ap length made ∙ omega (arith, length-terms s.sums.now s.z.now 0 e 0 64 (l.m + 1), c.requires.2.whole))
 
 pub returns : goal.returns
 returns c =

@@ -6,11 +6,11 @@ use Rattle.core_challenge_sums.proofs.line.Goals as goal
 
 pub add_columns-requires : goal.add_columns-requires
 add_columns-requires c =
-    (c.requires.0, c.requires.1, c.requires.2, none-small c.args.n (omega (arith, c.requires.1.3)))
+    (c.requires.0, c.requires.1, none-small c.args.n (omega (arith, c.requires.0.3)))
 
 pub inverse-requires : goal.inverse-requires
 inverse-requires c =
-    (c.requires.0, omega (arith, terms-length _ _ _ _ _ _ _ _ c.add_columns.ensures))
+    omega (arith, terms-length _ _ _ _ _ _ _ _ c.add_columns.ensures)
 
 pub returns : goal.returns
 returns c =

@@ -13,15 +13,14 @@ weigh-first-requires c =
     let p = c.requires in
     let z = ntt_form-values _ _ _ _ _ c.to_ntt_form.ensures.ntt_form in
     let places = c.store.ensures.0.places in
-    (c.twiddles-w.ensures, (p.in_job.0, places, omega (arith, p.few), p.narrow, p.in_job.1), z)
+    ((p.in_job.0, places, omega (arith, p.few), p.narrow, p.in_job.1), z)
 
 pub weigh-second-requires : goal.weigh-second-requires
 weigh-second-requires c =
     let p = c.requires in
     let z = ntt_form-values _ _ _ _ _ c.to_ntt_form.ensures.ntt_form in
     let places = c.store.ensures.0.places in
-    let w = c.twiddles-w.ensures in
-    (w, (p.in_scratch.0, places, omega (arith, p.few), p.narrow, p.in_scratch.1), z)
+    ((p.in_scratch.0, places, omega (arith, p.few), p.narrow, p.in_scratch.1), z)
 
 pub returns : goal.returns
 returns c =

@@ -16,22 +16,22 @@ line-requires c =
     let s = c.args in
     let l = c.loop-k in
     let p = c.requires in
-    (p.0, (omega (arith, row_within s.from.now s.constraints (s.r * s.n) l.k p.1.0 (omega arith)), p.1.1, p.1.2, p.1.3), p.2)
+    ((omega (arith, row_within s.from.now s.constraints (s.r * s.n) l.k p.0.0 (omega arith)), p.0.1, p.0.2, p.0.3), p.1)
 
 pub load-requires : goal.load-requires
 load-requires c =
     let l = c.loop-k in
-    omega (arith, c.requires.1.4.within l.k (omega arith))
+    omega (arith, c.requires.0.4.within l.k (omega arith))
 
 pub overflow_add-at : goal.overflow_add-at
 overflow_add-at c =
     let s = c.args in
     let l = c.loop-k in
-    omega (arith, row_within s.from.now s.constraints (s.r * s.n) l.k c.requires.1.0 (omega arith), c.requires.1.0.1)
+    omega (arith, row_within s.from.now s.constraints (s.r * s.n) l.k c.requires.0.0 (omega arith), c.requires.0.0.1)
 
 pub overflow_add-place : goal.overflow_add-place
 overflow_add-place c =
-    let x = c.requires.1.4 in
+    let x = c.requires.0.4 in
     omega (arith, x.few, x.first)
 
 pub loop-k-preserved : goal.loop-k-preserved
@@ -59,6 +59,3 @@ returns c =
 
 pub loop-k-init : goal.loop-k-init
 loop-k-init c = (omega arith, omega arith, omega arith, total-none _ _ c.zero-total.ensures)
-
-pub overflow_add-k : goal.overflow_add-k
-overflow_add-k c = omega (arith, c.requires.1.4.few)

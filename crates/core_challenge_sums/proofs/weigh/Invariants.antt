@@ -1,7 +1,7 @@
 -- `weigh` meets its contract. The invariant: the total is that of the first k constraints, and the places stand at the next.
 use mathlib.Core.Path.{◌≡◌}
 use mathlib.Core.List.{List}
-use Prim.Native.Nat.{ℕ, ◌+◌, ◌-◌, ◌*◌, ◌≤◌}
+use Prim.Native.Nat.{ℕ, ◌+◌, ◌*◌, ◌≤◌}
 use Rattle.spec_leaves.specs.Rq.{Element}
 use Rattle.spec_leaves.specs.Ring.{words}
 use Rattle.spec_protocol.specs.Formulas.{◌⊗◌, sum}
@@ -19,6 +19,3 @@ invariant-loop-k l =
     × (l.at ≡ l.initial.at + l.step * l.k)
     × (l.place ≡ l.weights_at + 64 * l.k)
     × (l.total.coeffs ≡ words (sum l.k (λ j. line_of l.from l.initial.at l.step l.r l.n l.powers l.z j ⊗ run l.weights l.weights_at 64 j)))
-
-abbrev pub decreases-loop-k : goal.decreases-loop-k
-decreases-loop-k l = l.count - l.k

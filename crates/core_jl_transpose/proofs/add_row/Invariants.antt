@@ -1,5 +1,5 @@
 -- `add_row` meets its contract. The invariant: the first c sums are stored.
-use Rattle.std.proofs.Common.{◌≡◌, ◌+◌, ◌-◌, ◌≤◌, length, get_or}
+use Rattle.std.proofs.Common.{◌≡◌, ◌+◌, ◌≤◌, length, get_or}
 use Rattle.math.specs.lists.Table.{table}
 use Rattle.math.specs.lists.Part.{splice}
 use Rattle.core_jl.specs.Rows.{term}
@@ -11,6 +11,3 @@ invariant-loop-c l =
     (l.c ≤ l.width)
     × (l.out ≡ splice l.initial.out l.out_at (table l.c (λ i. carried (get_or l.initial.out (l.out_at + i) 0) (term (get_or l.randomness (l.row_at + i) 0) l.value))))
     × (length l.out ≡ length l.initial.out)
-
-abbrev pub decreases-loop-c : goal.decreases-loop-c
-decreases-loop-c l = l.width - l.c

@@ -4,12 +4,7 @@ use Rattle.spec_leaves.specs.Zq.{Q}
 use Rattle.ring_zq.specs.Words.{lowered}
 use Rattle.ring_zq.proofs.Words.{lowered-le}
 use Rattle.core_jl_transpose.specs.Omega.{carried}
-use Rattle.core_jl_transpose.proofs.carry_add.Goals.{After-wrapping_add_u32-sum}
 use Rattle.core_jl_transpose.proofs.carry_add.Goals as goal
-
--- the second summand, which is at most Q
-term-le : (c : After-wrapping_add_u32-sum) → c.lowered-term.result ≤ Q
-term-le c = omega (arith, c.lowered-term.ensures, lowered-le c.args.b (omega arith))
 
 -- a sum with it that is given in both cases
 as_carried : (a b t r : ℕ) → t ≡ lowered b → (a + t < 4294967296 → r ≡ a + t) → (4294967296 ≤ a + t → r ≡ a + t - Q) → (test : Dec (a + t < 4294967296)) → r ≡ carried a b
@@ -19,20 +14,16 @@ as_carried a b t r e low high (no l) = let m : 4294967296 ≤ a + t = omega arit
 
 pub returns-then-sum-term : goal.returns-then-sum-term
 returns-then-sum-term c =
-    let w = (goal.at.returns-then-sum-term c).After-wrapping_add_u32-sum in
     let s = c.args in
-    let t = c.lowered-term.result in
-    let l = term-le w in
-    as_carried s.a s.b t _ c.lowered-term.ensures (λ h. omega arith) (λ h. omega arith) (no (omega arith))
+    let small : c.lowered-term.result ≤ Q = omega (arith, c.lowered-term.ensures, lowered-le s.b (omega arith)) in
+    as_carried s.a s.b c.lowered-term.result _ c.lowered-term.ensures (λ h. omega arith) (λ h. omega arith) (no (omega arith))
 
 pub returns-else-sum-term : goal.returns-else-sum-term
 returns-else-sum-term c =
-    let w = (goal.at.returns-else-sum-term c).After-wrapping_add_u32-sum in
     let s = c.args in
-    let t = c.lowered-term.result in
-    let l = term-le w in
-    let within : s.a + t < 4294967296 = omega arith in
-    as_carried s.a s.b t _ c.lowered-term.ensures (λ h. omega arith) (λ h. omega arith) (yes within)
+    let small : c.lowered-term.result ≤ Q = omega (arith, c.lowered-term.ensures, lowered-le s.b (omega arith)) in
+    let within : s.a + c.lowered-term.result < 4294967296 = omega arith in
+    as_carried s.a s.b c.lowered-term.result _ c.lowered-term.ensures (λ h. omega arith) (λ h. omega arith) (yes within)
 
 pub overflow_add-result : goal.overflow_add-result
-overflow_add-result c = let l = term-le (goal.at.overflow_add-result c).After-wrapping_add_u32-sum in omega arith
+overflow_add-result c = omega (arith, c.lowered-term.ensures, lowered-le c.args.b (omega arith))

@@ -1,5 +1,5 @@
 -- `conjugate_run` meets its contract. The invariant: the first m elements are conjugated.
-use Rattle.std.proofs.Common.{◌≡◌, ◌-◌, ◌≤◌, length}
+use Rattle.std.proofs.Common.{◌≡◌, ◌≤◌, length}
 use Rattle.math.specs.lists.Table.{table}
 use Rattle.math.specs.lists.Part.{splice}
 use Rattle.spec_leaves.specs.Ring.{conj}
@@ -10,6 +10,3 @@ use Rattle.core_jl_transpose.proofs.conjugate_run.Given as goal
 abbrev pub invariant-loop-m : goal.invariant-loop-m
 invariant-loop-m l =
     (l.m ≤ l.n) × (l.out ≡ splice l.initial.out l.at (flat (table l.m (λ q. conj (element_at l.initial.out l.at q))))) × (length l.out ≡ length l.initial.out)
-
-abbrev pub decreases-loop-m : goal.decreases-loop-m
-decreases-loop-m l = l.n - l.m

@@ -9,12 +9,6 @@ use Rattle.core_workspace.proofs.a_double_prime.Goals as goal
 pub triangle-cells-requires : goal.triangle-cells-requires
 triangle-cells-requires c = (ready-sized _ _ _ _ c.requires.0).within.r.1
 
-pub of_job-requires : goal.of_job-requires
-of_job-requires c = (ready-sized _ _ _ _ c.requires.0, omega arith)
-
-pub of_randomness-requires : goal.of_randomness-requires
-of_randomness-requires c = (ready-sized _ _ _ _ c.requires.0, omega arith)
-
 pub a_double_prime-requires : goal.a_double_prime-requires
 a_double_prime-requires c =
     a''_requires c.args.job.now c.args.randomness.now c.args.scratch.now c.args.params c.args.regions c.requires.0 _ _ _ c.requires.1

@@ -17,15 +17,6 @@ overflow_mul-step c =
     let w = (ready-sized _ _ _ _ c.requires.0).within in
     omega (arith, mul-le-mul w.r.1 w.n.1)
 
-pub of_job-requires : goal.of_job-requires
-of_job-requires c = (ready-sized _ _ _ _ c.requires.0, omega arith)
-
-pub of_randomness-requires : goal.of_randomness-requires
-of_randomness-requires c = (ready-sized _ _ _ _ c.requires.0, omega arith)
-
-pub of_randomness-requires-2 : goal.of_randomness-requires-2
-of_randomness-requires-2 c = (ready-sized _ _ _ _ c.requires.0, omega arith)
-
 pub aggregate-requires : goal.aggregate-requires
 aggregate-requires c =
     φ_requires c.args.job.now c.args.randomness.now c.args.scratch.now c.args.params c.args.regions c.requires.0 _ _ _ c.requires.1 (omega arith)

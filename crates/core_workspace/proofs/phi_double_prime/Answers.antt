@@ -6,18 +6,6 @@ use Rattle.core_workspace.proofs.Ready.{ready-sized}
 use Rattle.core_workspace.proofs.Steps.{φ''_requires, φ''-made}
 use Rattle.core_workspace.proofs.phi_double_prime.Goals as goal
 
-pub of_job-requires : goal.of_job-requires
-of_job-requires c = (ready-sized _ _ _ _ c.requires.0, omega arith)
-
-pub of_randomness-requires : goal.of_randomness-requires
-of_randomness-requires c = (ready-sized _ _ _ _ c.requires.0, omega arith)
-
-pub of_randomness-requires-2 : goal.of_randomness-requires-2
-of_randomness-requires-2 c = (ready-sized _ _ _ _ c.requires.0, omega arith)
-
-pub of_randomness-requires-3 : goal.of_randomness-requires-3
-of_randomness-requires-3 c = (ready-sized _ _ _ _ c.requires.0, omega arith)
-
 pub phi_double_prime-requires : goal.phi_double_prime-requires
 phi_double_prime-requires c =
     φ''_requires c.args.job.now c.args.randomness.now c.args.scratch.now c.args.params c.args.regions c.requires.0 _ _ _ _ c.requires.1

@@ -12,10 +12,9 @@ least_aggregations-least-requires c =
 
 pub returns-then-params-least : goal.returns-then-params-least
 returns-then-params-least c =
-    let e = c.of_words-params.ensures in
-    (too_few _ _ e (omega (arith, c.least_aggregations-least.ensures)), tt)
+    record { found = too_few _ _ c.of_words-params.ensures (omega (arith, c.least_aggregations-least.ensures)); read = tt }
 
 pub returns-else-params-least : goal.returns-else-params-least
 returns-else-params-least c =
     let e = c.of_words-params.ensures in
-    (enough _ _ e (omega (arith, c.least_aggregations-least.ensures)), e)
+    record { found = enough _ _ e (omega (arith, c.least_aggregations-least.ensures)); read = e }

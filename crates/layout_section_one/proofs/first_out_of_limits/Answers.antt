@@ -11,7 +11,7 @@ use Rattle.layout_section_one.proofs.first_out_of_limits.Goals as goal
 
 pub loop-k-init : goal.loop-k-init
 unfolding first
-loop-k-init c = (omega arith, refl)
+loop-k-init c = refl
 
 pub returns-then-value-least : goal.returns-then-value-least
 returns-then-value-least c =
@@ -20,7 +20,7 @@ returns-then-value-least c =
     let value = get_or s.job.now (l.k + 1) 0 in
     let low = get_or s.least (l.k + 1) 0 in
     let high = get_or s.greatest (l.k + 1) 0 in
-    first_found 12 l.k _ (omega arith) l.invariant.1 (limited-low low high (l.k + 1) value (omega arith))
+    first_found 12 l.k _ (omega arith) l.invariant (limited-low low high (l.k + 1) value (omega arith))
 
 pub returns-then-greatest-place : goal.returns-then-greatest-place
 returns-then-greatest-place c =
@@ -29,7 +29,7 @@ returns-then-greatest-place c =
     let value = get_or s.job.now (l.k + 1) 0 in
     let low = get_or s.least (l.k + 1) 0 in
     let high = get_or s.greatest (l.k + 1) 0 in
-    first_found 12 l.k _ (omega arith) l.invariant.1 (limited-high low high (l.k + 1) value (omega arith) (omega arith))
+    first_found 12 l.k _ (omega arith) l.invariant (limited-high low high (l.k + 1) value (omega arith) (omega arith))
 
 pub loop-k-preserved : goal.loop-k-preserved
 loop-k-preserved c =
@@ -38,11 +38,11 @@ loop-k-preserved c =
     let value = get_or s.job.now (l.k + 1) 0 in
     let low = get_or s.least (l.k + 1) 0 in
     let high = get_or s.greatest (l.k + 1) 0 in
-    (omega arith, first_next l.k _ l.invariant.1 (within-fine 4 low high (l.k + 1) value (omega arith) (omega arith)))
+    first_next l.k _ l.invariant (within-fine 4 low high (l.k + 1) value (omega arith) (omega arith))
 
 pub returns : goal.returns
 returns c =
     let l = c.loop-k in
     let s = c.args in
     let e : l.k ≡ 12 = omega arith in
-    sym l.invariant.1 ∙ ap (λ n. first n (limit_at s.least s.greatest s.job.now)) e
+    sym l.invariant ∙ ap (λ n. first n (limit_at s.least s.greatest s.job.now)) e

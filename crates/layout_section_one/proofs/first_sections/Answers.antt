@@ -1,10 +1,8 @@
 -- `first_sections` meets its contract.
 use mathlib.Core.Path.{refl}
-use native.Mathlib.Omega.{arith}
-use Rattle.math.specs.lists.Table.{table}
 use Rattle.layout_sections.specs.Sections.{listed}
 use Rattle.layout_section_one.proofs.first_sections.Goals as goal
 
 pub returns : goal.returns
-unfolding listed table
-returns c = (refl, omega arith)
+unfolding listed
+returns c = refl

@@ -3,12 +3,12 @@ use mathlib.Core.Path.{refl, ap, ◌∙◌}
 use mathlib.Core.List.{[], ◌∷◌}
 use native.Mathlib.Omega.{arith}
 use lib.ListN.{length}
-use Rattle.math.specs.lists.Table.{table}
 use Rattle.math.proofs.lists.Splice.{length-splice}
 use Rattle.spec_protocol.specs.Layout.{span, job_sections}
 use Rattle.spec_protocol.specs.Load.{job_rules}
 use Rattle.relation_env_params.specs.Parameters.{parameters_of}
 use Rattle.load_draw.specs.declared.Rule.TheVariants as R
+use Rattle.load_draw.specs.Rules.{rules_of}
 use Rattle.load_needs.specs.Given.{given}
 use Rattle.load.proofs.Places.{table-drawn, job_drawn_in}
 use Rattle.load.proofs.draw_job.Goals as goal
@@ -23,10 +23,10 @@ sections-requires c =
     let t = c.job_sections.ensures in
     let h = c.requires in
     let long = ap (λ P. span (job_sections P)) h.0.same in
-    (omega (arith, ap span t.lists, long, h.1, ap length c.copy.ensures ∙ length-splice _ _ _), t.few, omega (arith, ap span t.lists, t.spans))
+    (omega (arith, ap span t.lists, long, h.1, ap length c.copy.ensures ∙ length-splice _ _ _), omega (arith, ap span t.lists, t.spans))
 
 pub returns : goal.returns
-unfolding table
+unfolding rules_of
 returns c =
     let s = c.args in
     job_drawn_in (given s.g) (parameters_of s.params) s.seed _ s.job.now _ _ _

@@ -11,6 +11,3 @@ invariant-loop-j l =
     (l.j ≤ l.i + 1)
     × (l.job ≡ plus l.initial.job l.t (terms l.initial.job l.base0 l.m l.row l.j (weight_of l.s l.s_at l.n l.i)) (terms l.initial.job l.base l.m l.row l.j (weight_of l.s l.s_at l.n l.i)))
     × (length l.job ≡ length l.initial.job)
-
-abbrev pub decreases-loop-j : goal.decreases-loop-j
-decreases-loop-j l = l.i + 1 - l.j

@@ -10,6 +10,3 @@ abbrev pub invariant-loop-e : goal.invariant-loop-e
 invariant-loop-e l =
     (l.e ≤ l.m) × (l.job ≡ plus l.initial.job l.t (terms l.initial.job l.base0 l.m 0 l.e (run l.s l.s_at 64)) (terms l.initial.job l.base l.m 0 l.e (run l.s l.s_at 64))) ×
     (length l.job ≡ length l.initial.job)
-
-abbrev pub decreases-loop-e : goal.decreases-loop-e
-decreases-loop-e l = l.m - l.e

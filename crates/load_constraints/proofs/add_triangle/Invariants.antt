@@ -11,6 +11,3 @@ abbrev pub invariant-loop-i : goal.invariant-loop-i
 invariant-loop-i l =
     (l.i ≤ l.r) × (l.row ≡ triangular l.i) × (l.job ≡ plus l.initial.job l.t (rows_of l.initial.job l.base0 l.m l.s l.s_at l.n l.i) (rows_of l.initial.job l.base l.m l.s l.s_at l.n l.i)) ×
     (length l.job ≡ length l.initial.job)
-
-abbrev pub decreases-loop-i : goal.decreases-loop-i
-decreases-loop-i l = l.r - l.i

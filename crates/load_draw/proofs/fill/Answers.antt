@@ -13,13 +13,12 @@ loop-k-preserved c =
     let s = c.args in
     let l = c.loop-k in
     let rule = rule_of s.rule in
-    let reached = c.advance-reached.ensures ∙ ap (step rule) l.invariant.3 ∙ state-next rule s.state l.k in
-    let written = c.value.ensures ∙ ap (value_by rule) reached in (
-      omega arith,
-      ap (λ w. set w (s.at + l.k) c.value.result) l.invariant.1
+    let reached = c.advance-reached.ensures ∙ ap (step rule) l.invariant.2 ∙ state-next rule s.state l.k in
+    let written = c.word_at.ensures ∙ ap (value_by rule) reached in (
+      ap (λ w. set w (s.at + l.k) c.word_at.result) l.invariant.0
           ∙ ap (set (splice s.out.now s.at (words_by rule s.state l.k)) (s.at + l.k)) written
           ∙ words-next s.out.now s.at rule s.state l.k,
-      simp length-set l.invariant.2,
+      simp length-set l.invariant.1,
       reached,
     )
 
@@ -29,7 +28,7 @@ returns c =
     let l = c.loop-k in
     let rule = rule_of s.rule in
     let done : l.k ≡ s.count = omega arith in
-    (l.invariant.1 ∙ ap (λ k. splice s.out.now s.at (words_by rule s.state k)) done, l.invariant.3 ∙ ap (state_by rule s.state) done)
+    (l.invariant.0 ∙ ap (λ k. splice s.out.now s.at (words_by rule s.state k)) done, l.invariant.2 ∙ ap (state_by rule s.state) done)
 
 pub loop-k-init : goal.loop-k-init
-loop-k-init c = (omega arith, none-drawn _ _ (rule_of c.args.rule) _, refl, state-none (rule_of c.args.rule) _)
+loop-k-init c = (none-drawn _ _ (rule_of c.args.rule) _, refl, state-none (rule_of c.args.rule) _)

@@ -1,6 +1,5 @@
 -- `fill` meets its contract. The invariant: the first k words are drawn, and x is the state after them.
 use mathlib.Core.Path.{◌≡◌}
-use Prim.Native.Nat.{◌-◌, ◌≤◌}
 use lib.ListN.{length}
 use Rattle.math.specs.lists.Part.{splice}
 use Rattle.spec_protocol.specs.Load.{words_by, state_by}
@@ -9,7 +8,4 @@ use Rattle.load_draw.proofs.fill.Given as goal
 
 abbrev pub invariant-loop-k : goal.invariant-loop-k
 invariant-loop-k l =
-    (l.k ≤ l.count) × (l.out ≡ splice l.initial.out l.at (words_by (rule_of l.rule) l.state l.k)) × (length l.out ≡ length l.initial.out) × (l.x ≡ state_by (rule_of l.rule) l.state l.k)
-
-abbrev pub decreases-loop-k : goal.decreases-loop-k
-decreases-loop-k l = l.count - l.k
+    (l.out ≡ splice l.initial.out l.at (words_by (rule_of l.rule) l.state l.k)) × (length l.out ≡ length l.initial.out) × (l.x ≡ state_by (rule_of l.rule) l.state l.k)

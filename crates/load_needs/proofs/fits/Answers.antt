@@ -1,29 +1,29 @@
 -- `fits` meets its contract.
-use mathlib.Core.Path.{refl}
-use Rattle.layout_sections.proofs.Then.{stops, goes_on}
-use Rattle.load_needs.proofs.Refusals.{too_short, long_enough}
+use Rattle.std.proofs.lemmas.Result.{err_from_is_err_and}
+use Rattle.layout_sections.proofs.Then.{goes_on}
+use Rattle.admission_slices.proofs.Stages.{stops_at}
+use Rattle.load_needs.proofs.Refusals.{length_found}
 use Rattle.load_needs.proofs.fits.Goals as goal
 
-pub returns-then-job-needs : goal.returns-then-job-needs
-returns-then-job-needs c = let rules = c.lengths-needs.ensures in record { result_value = stops _ (stops _ (too_short _ _ rules.job c.if-job-needs.true)); at = tt }
+pub returns-in_err-check_length : goal.returns-in_err-check_length
+returns-in_err-check_length c =
+    let need = c.lengths-needs.ensures in
+    let f = c.from_residual in
+    let p = err_from_is_err_and f.result f.ensures.1 in
+    rw (p.1, p.2) (stops_at _ _ (stops_at _ _ (length_found c.args.job need.job c.in_err-check_length.ensures)))
 
-pub returns-then-witness-needs : goal.returns-then-witness-needs
-returns-then-witness-needs c =
-    let rules = c.lengths-needs.ensures in
-    record { result_value = stops _ (goes_on (long_enough _ _ rules.job c.if-job-needs.false) (too_short _ _ rules.witness c.if-witness-needs.true)); at = tt }
-
-pub returns-then-randomness-needs : goal.returns-then-randomness-needs
-returns-then-randomness-needs c =
-    let rules = c.lengths-needs.ensures in record {
-      result_value = goes_on (goes_on (long_enough _ _ rules.job c.if-job-needs.false) (long_enough _ _ rules.witness c.if-witness-needs.false))
-          (too_short _ _ rules.randomness c.if-randomness-needs.true);
-      at = tt;
-    }
+pub returns-in_err-check_length-2 : goal.returns-in_err-check_length-2
+returns-in_err-check_length-2 c =
+    let need = c.lengths-needs.ensures in
+    let s = c.args in
+    let f = c.from_residual-in_err-check_length-2 in
+    let p = err_from_is_err_and f.result f.ensures.1 in
+    rw (p.1, p.2) (stops_at _ _ (goes_on (length_found s.job need.job c.in_ok-check_length.ensures) (length_found s.witness need.witness c.in_err-check_length-2.ensures)))
 
 pub returns : goal.returns
 returns c =
-    let rules = c.lengths-needs.ensures in record {
-      result_value = goes_on (goes_on (long_enough _ _ rules.job c.if-job-needs.false) (long_enough _ _ rules.witness c.if-witness-needs.false))
-          (long_enough _ _ rules.randomness c.if-randomness-needs.false);
-      at = refl;
-    }
+    let need = c.lengths-needs.ensures in
+    let s = c.args in
+    goes_on
+    (goes_on (length_found s.job need.job c.in_ok-check_length.ensures) (length_found s.witness need.witness c.in_ok-check_length-2.ensures))
+    (length_found s.randomness need.randomness c.check_length-3.ensures)

@@ -5,8 +5,8 @@ use Rattle.prover_fill.proofs.add_h.Goals as goal
 pub compute_h-requires : goal.compute_h-requires
 compute_h-requires c = c.requires
 
-pub check_h-requires : goal.check_h-requires
-check_h-requires c = placed_then _ _ _ _ c.requires _ c.compute_h.ensures
+pub check_triangle-requires : goal.check_triangle-requires
+check_triangle-requires c = let p = placed_then _ _ _ _ c.requires _ c.compute_h.ensures in (p.sized, p.h, p.sized.within.t₁.1)
 
 pub returns : goal.returns
-returns c = record { result_value = c.check_h.ensures; unchanged = c.compute_h.ensures }
+returns c = record { result_value = c.check_triangle.ensures; unchanged = c.compute_h.ensures }

@@ -1,10 +1,16 @@
 -- `commit_with_h` meets its contract.
 use mathlib.Core.Path.{refl, ◌∙◌}
+use Rattle.std.proofs.lemmas.Result.{err_from_is_err_and}
 use Rattle.spec_protocol.specs.Prover.{round₄}
-use Rattle.prover_commit.proofs.Answers.{passed_on, gone_on, with_h}
+use Rattle.layout_sections.proofs.Then.{goes_on}
+use Rattle.admission_slices.proofs.Stages.{stops_at}
+use Rattle.prover_commit.proofs.Answers.{with_h}
 use Rattle.prover_commit.proofs.Commitments.{where_made}
-use Rattle.prover_fill.proofs.WithH.{double_prime_needs, pass_needs, unchanged_φ, weighed, h_answered, h_unchanged, h-aggregated}
+use Rattle.prover_fill.proofs.WithH.{double_prime_needs, pass_needs, unchanged_φ, weighed, weighed_after}
 use Rattle.prover_fill.proofs.commit_with_h.Goals as goal
+
+pub commit-requires : goal.commit-requires
+commit-requires c = c.requires.0
 
 pub double_prime-requires : goal.double_prime-requires
 double_prime-requires c =
@@ -15,29 +21,27 @@ weigh-requires c =
     pass_needs _ c.args.randomness.now c.args.witness.now _ _ _ c.requires.0 c.requires.1 _
     c.commit.ensures.unchanged _ c.double_prime.ensures
 
-pub returns-in-Refused : goal.returns-in-Refused
-returns-in-Refused c =
+pub returns-in_err-commit-clause-result_value : goal.returns-in_err-commit-clause-result_value
+returns-in_err-commit-clause-result_value c =
     let a = c.args in
-    let m = c.commit in
-    let whole = passed_on m.result _ _ c.in-Refused.is m.ensures.result_value (with_h a.job.now a.randomness.now a.witness.now round₄ refl) m.ensures.unchanged in
-    record { result_value = whole.0; unchanged = whole.1.0; where_made = whole.1.1 }
+    let f = c.from_residual in
+    let p = err_from_is_err_and f.result f.ensures.1 in
+    rw (p.1, p.2) (stops_at _ _ c.in_err-commit.ensures.result_value ∙ with_h a.job.now a.randomness.now a.witness.now round₄ refl)
 
-pub returns-in-Made : goal.returns-in-Made
-returns-in-Made c =
-    let m = c.commit in
-    let told = c.in-Made.is in
+pub returns-in_err-commit-clause-unchanged : goal.returns-in_err-commit-clause-unchanged
+returns-in_err-commit-clause-unchanged c = c.commit.ensures.unchanged
+
+pub returns : goal.returns
+returns c =
+    let m = c.commit.ensures in
     let d = c.double_prime.ensures in
     let R = c.args.randomness.now in
     let W = c.args.witness.now in
-    let unchanged = unchanged_φ _ R W _ _ _ c.requires.0 c.requires.1 _ m.ensures.unchanged _ d _ refl in
-    let k = weighed _ R W _ _ _ c.requires.0 c.requires.1 _ m.ensures.unchanged _ d _ refl m.result told m.ensures.where_made in
-    let h = c.weigh in record {
-      result_value = gone_on m.result h.result told m.ensures.result_value (h.ensures.result_value
-          ∙ h_answered _ R W _ _ _ c.requires.0 _ unchanged k _ h.ensures.unchanged) (with_h c.args.job.now R W round₄ refl);
-      unchanged = h_unchanged _ R W _ _ _ c.requires.0 _ unchanged k _
-          h.ensures.unchanged;
-      where_made = where_made h.result (h-aggregated _ R W _ _ _ c.requires.0 _ unchanged k _ h.ensures.unchanged);
+    let unchanged = unchanged_φ _ R W _ _ _ c.requires.0 c.requires.1 _ m.unchanged _ d _ refl in
+    let k = weighed _ R W _ _ _ c.requires.0 c.requires.1 _ m.unchanged _ d _ refl c.in_ok-commit.ensures.made in
+    let h = c.weigh in
+    let after = weighed_after _ R W _ _ _ c.requires.0 _ unchanged k c.args.with_b _ h.ensures.unchanged in record {
+      result_value = goes_on c.in_ok-commit.ensures.result_value (h.ensures.result_value ∙ after.0) ∙ with_h c.args.job.now R W round₄ refl;
+      unchanged = after.1.0;
+      made = where_made h.result after.1.1;
     }
-
-pub commit-requires : goal.commit-requires
-commit-requires c = c.requires.0

@@ -14,7 +14,7 @@ use Rattle.prover_sections.specs.Sections.{u₁_in}
 use Rattle.core_workspace.proofs.Ready.{ready-sized}
 use Rattle.prover_sections.proofs.SectionMade.{u₁-stored}
 use Rattle.prover_p_and_b.proofs.TranscriptSections.{next_place, section_stored}
-use Rattle.prover_commit.proofs.Room.{fits_product, placed, base-room, B-room, C-room, t_cells, g_cells}
+use Rattle.prover_commit.proofs.Room.{fits_product, placed, base-room, B-room, C-room, t_cells, triangle-cells}
 use Rattle.prover_p_and_b.proofs.SectionRoom.{fits_words, fits_count, section_room, count_room, words-room, fits_next, fits_end}
 use Rattle.prover_sections.proofs.compute_u1.Goals.{After-compute_u1, Start}
 use Rattle.prover_sections.proofs.compute_u1.Goals as goal
@@ -96,13 +96,13 @@ overflow_add-at c =
 pub compute_u1-requires : goal.compute_u1-requires
 compute_u1-requires c =
     let i = (goal.at.compute_u1-requires c).Start in
+    let p = placed c.args.job.now c.args.params c.args.regions c.args.scratch.now c.requires.0 in
     let tri = c.triangle in (
       B-room c.args.job.now c.args.params c.args.regions c.args.scratch.now c.requires.0 c.of_job-b_at.result c.of_job-b_at.ensures,
-      t_cells c.args.params c.args.regions c.args.scratch.now (placed c.args.job.now c.args.params c.args.regions c.args.scratch.now c.requires.0),
+      t_cells c.args.params c.args.regions c.args.scratch.now p,
       C-room c.args.job.now c.args.params c.args.regions c.args.scratch.now c.requires.0 c.of_job-c_at.result tri.result c.of_job-c_at.ensures tri.ensures.0,
-      g_cells c.args.params c.args.regions c.args.scratch.now (placed c.args.job.now c.args.params c.args.regions c.args.scratch.now c.requires.0) tri.result
-          tri.ensures,
-      base-room c.args.params c.args.regions c.args.scratch.now (placed c.args.job.now c.args.params c.args.regions c.args.scratch.now c.requires.0),
+      triangle-cells c.args.params c.args.regions.g c.args.params.t_2 tri.result c.args.scratch.now p.g p.sized.within.t₂.1 tri.ensures,
+      base-room c.args.params c.args.regions c.args.scratch.now p,
       words-room c.args.at (64 * c.args.params.kappa_1) (64 * c.args.params.kappa_1) c.args.output.now (room i),
     )
 

@@ -14,7 +14,7 @@ use Rattle.prover_sections.specs.Sections.{u₂_in}
 use Rattle.core_workspace.proofs.Ready.{ready-sized}
 use Rattle.prover_sections.proofs.SectionMade.{u₂-stored}
 use Rattle.prover_p_and_b.proofs.TranscriptSections.{next_place, section_stored}
-use Rattle.prover_commit.proofs.Room.{placed, base-room, D-room, h_cells}
+use Rattle.prover_commit.proofs.Room.{placed, base-room, D-room, triangle-cells}
 use Rattle.prover_p_and_b.proofs.SectionRoom.{fits_words, fits_count, section_room, count_room, words-room, fits_next, fits_end}
 use Rattle.prover_sections.proofs.compute_u2.Goals.{After-compute_u2, Start}
 use Rattle.prover_sections.proofs.compute_u2.Goals as goal
@@ -85,12 +85,12 @@ overflow_add-at c =
 
 pub compute_u2-requires : goal.compute_u2-requires
 compute_u2-requires c =
-    let i = (goal.at.compute_u2-requires c).Start in (
+    let i = (goal.at.compute_u2-requires c).Start in
+    let p = placed c.args.job.now c.args.params c.args.regions c.args.scratch.now c.requires.0 in (
       D-room c.args.job.now c.args.params c.args.regions c.args.scratch.now c.requires.0 c.of_job-d_at.result c.triangle.result c.of_job-d_at.ensures
           c.triangle.ensures.0,
-      h_cells c.args.params c.args.regions c.args.scratch.now (placed c.args.job.now c.args.params c.args.regions c.args.scratch.now c.requires.0)
-          c.triangle.result c.triangle.ensures,
-      base-room c.args.params c.args.regions c.args.scratch.now (placed c.args.job.now c.args.params c.args.regions c.args.scratch.now c.requires.0),
+      triangle-cells c.args.params c.args.regions.a_or_h c.args.params.t_1 c.triangle.result c.args.scratch.now p.h p.sized.within.t₁.1 c.triangle.ensures,
+      base-room c.args.params c.args.regions c.args.scratch.now p,
       words-room c.args.at (64 * c.args.params.kappa_2) (64 * c.args.params.kappa_2) c.args.output.now (room i),
     )
 

@@ -10,6 +10,3 @@ use Rattle.relation_statement.proofs.left_of_diagonal.Given as goal
 abbrev pub invariant-loop-j : goal.invariant-loop-j
 invariant-loop-j l =
     (l.j ≤ l.i) × (l.place ≡ l.row + 64 * l.j) × (l.s_j ≡ l.s_at + 64 * (l.j * l.n)) × (l.total.coeffs ≡ words (sum l.j (λ k. run l.a l.row 64 k ⊗ gram l.s l.s_at l.n l.i k)))
-
-abbrev pub decreases-loop-j : goal.decreases-loop-j
-decreases-loop-j l = l.i - l.j

@@ -17,6 +17,3 @@ row_of a a_at s s-at n i = mirrored_row i (λ j. run a a_at 64 (triangular i + j
 abbrev pub invariant-loop-i : goal.invariant-loop-i
 invariant-loop-i l =
     (l.i ≤ l.r) × (l.row ≡ l.a_at + 64 * triangular l.i) × (l.total.coeffs ≡ words (sum l.i (row_of l.a l.a_at l.s l.s_at l.n)))
-
-abbrev pub decreases-loop-i : goal.decreases-loop-i
-decreases-loop-i l = l.r - l.i

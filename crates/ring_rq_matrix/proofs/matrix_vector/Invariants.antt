@@ -1,7 +1,7 @@
 -- `matrix_vector` meets its contract. The invariant: the first k entries are stored, and the places stand at the next row and entry.
 use mathlib.Core.Path.{◌≡◌}
 use mathlib.Core.List.{List}
-use Prim.Native.Nat.{ℕ, ◌+◌, ◌-◌, ◌*◌, ◌≤◌}
+use Prim.Native.Nat.{ℕ, ◌+◌, ◌*◌, ◌≤◌}
 use lib.ListN.{length}
 use Rattle.math.specs.lists.Table.{table}
 use Rattle.math.specs.lists.Part.{splice}
@@ -19,6 +19,3 @@ abbrev pub invariant-loop-k : goal.invariant-loop-k
 invariant-loop-k l =
     (l.k ≤ l.rows) × (l.row_at ≡ l.m_at + 64 * (l.k * l.cols)) × (l.place ≡ l.out_at + 64 * l.k) ×
     (l.out ≡ splice l.initial.out l.out_at (flat (table l.k (entry_of l.m l.m_at l.cols l.v l.v_at)))) × (length l.out ≡ length l.initial.out)
-
-abbrev pub decreases-loop-k : goal.decreases-loop-k
-decreases-loop-k l = l.rows - l.k

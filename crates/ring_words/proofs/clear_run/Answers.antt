@@ -1,26 +1,11 @@
-use mathlib.Core.Path.{◌≡◌, refl, sym, ◌∙◌, ap}
-use Prim.Native.Nat.{◌+◌}
-use native.Mathlib.Omega.{arith}
-use lib.ListN.{set, replicate, length-set}
-use Rattle.math.specs.lists.Part.{splice}
-use Rattle.math.proofs.lists.Splice.{splice-nil, splice-replicate-next}
+-- `clear_run` meets its contract.
+use Rattle.std.proofs.Common.{◌≡◌, ℕ, ◌+◌, ◌-◌, refl, ap, ◌∙◌, length, take, drop, replicate, arith}
+use Rattle.std.proofs.Math.ListN.{length-replicate, length-take, length-drop}
+use Rattle.ring_words.proofs.Overwritten.{overwritten}
 use Rattle.ring_words.proofs.clear_run.Goals as goal
-
-pub loop-m-preserved : goal.loop-m-preserved
-loop-m-preserved c =
-    let s = c.args in
-    let l = c.loop-m in (
-      omega arith,
-      ap (λ w. set w (s.at + l.m) 0) l.invariant.1 ∙ splice-replicate-next 0 s.words.now s.at l.m,
-      simp length-set l.invariant.2,
-    )
 
 pub returns : goal.returns
 returns c =
     let s = c.args in
-    let l = c.loop-m in
-    let n : l.m ≡ s.count = omega arith in
-    l.invariant.1 ∙ ap (λ k. splice s.words.now s.at (replicate k 0)) n
-
-pub loop-m-init : goal.loop-m-init
-loop-m-init c = (omega arith, sym (splice-nil _ _), refl)
+    let n : length (take (s.at + s.count - s.at) (drop s.at s.words.now)) ≡ s.count = simp (length-take, length-drop) (omega arith) in
+    overwritten s.at s.count _ s.words.now _ _ refl (c.fill.ensures.after (λ x same. same) ∙ ap (λ n. replicate n 0) n) (length-replicate {A = ℕ} s.count 0) (omega arith)

@@ -1,15 +1,19 @@
 -- `check` meets its contract.
-use Rattle.admission_slices.proofs.Found.{told}
+use Rattle.std.proofs.lemmas.Result.{err_from_is_err_and}
 use Rattle.shed_sums.proofs.Order.{first_refuses, second_refuses, output-answers}
 use Rattle.shed_sums.proofs.check.Goals as goal
 
-pub returns-in-Refused : goal.returns-in-Refused
-returns-in-Refused c = first_refuses _ _ _ c.in-Refused.refusal (told c.check_p.ensures c.in-Refused.is)
+pub returns-in_err-check_p : goal.returns-in_err-check_p
+returns-in_err-check_p c =
+    let f = c.from_residual in
+    let p = err_from_is_err_and f.result f.ensures.1 in
+    rw (p.1, p.2) (first_refuses _ _ _ _ c.in_err-check_p.ensures)
 
-pub returns-in-Refused-check_p : goal.returns-in-Refused-check_p
-returns-in-Refused-check_p c = second_refuses _ _ _ (told c.check_p.ensures c.in-Fine.is)
-    c.in-Refused-check_p.refusal (told c.check_p-in-Fine.ensures c.in-Refused-check_p.is)
+pub returns-in_err-check_p-2 : goal.returns-in_err-check_p-2
+returns-in_err-check_p-2 c =
+    let f = c.from_residual-in_err-check_p-2 in
+    let p = err_from_is_err_and f.result f.ensures.1 in
+    rw (p.1, p.2) (second_refuses _ _ _ c.in_ok-check_p.ensures _ c.in_err-check_p-2.ensures)
 
-pub returns-in-Fine-check_p : goal.returns-in-Fine-check_p
-returns-in-Fine-check_p c = output-answers _ _ _ (told c.check_p.ensures c.in-Fine.is)
-    (told c.check_p-in-Fine.ensures c.in-Fine-check_p.is) c.check_output.ensures
+pub returns : goal.returns
+returns c = output-answers _ _ _ c.in_ok-check_p.ensures c.in_ok-check_p-2.ensures c.check_length.ensures

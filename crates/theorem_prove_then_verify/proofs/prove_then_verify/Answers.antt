@@ -6,24 +6,24 @@ pub verify_first-requires : goal.verify_first-requires
 verify_first-requires c =
     let a = c.args in
     let e = c.prove.ensures in
-    let made = c.in-Made.is in
+    let made = c.in-Ok.is in
     sent-within a.job.now a.randomness.now a.witness.now a.scratch.now a.output.now _ _ e.answer e.output_left made _ c.transcript_length-count.ensures
 
-pub returns-in-Refused : goal.returns-in-Refused
-returns-in-Refused c =
+pub returns-in-Err : goal.returns-in-Err
+returns-in-Err c =
     let a = c.args in
     let e = c.prove.ensures in
     record {
-      result_value = prover_refuses a.job.now a.randomness.now a.witness.now a.scratch.now a.output.now _ _ e.answer e.output_left c.in-Refused.refusal c.in-Refused.is;
+      result_value = prover_refuses a.job.now a.randomness.now a.witness.now a.scratch.now a.output.now _ _ e.answer e.output_left c.in-Err.refusal c.in-Err.is;
       output_after = e.output_left;
       scratch_after = e.scratch_left;
     }
 
-pub returns-in-Made : goal.returns-in-Made
-returns-in-Made c =
+pub returns-in-Ok : goal.returns-in-Ok
+returns-in-Ok c =
     let a = c.args in
     let e = c.prove.ensures in
-    let made = c.in-Made.is in
+    let made = c.in-Ok.is in
     let size = c.transcript_length-count.ensures in
     let v = c.verify_first in
     let answer = both_calls a.job.now a.randomness.now a.witness.now a.scratch.now a.output.now _ _ e.answer e.output_left made v.result _ _ _

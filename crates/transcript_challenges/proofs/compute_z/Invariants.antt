@@ -18,6 +18,3 @@ z_of s s-at c c-at r n m = sum r (λ i. vector s s-at n i m ⊗ run c c-at 64 i)
 abbrev pub invariant-loop-m : goal.invariant-loop-m
 invariant-loop-m l =
     (l.m ≤ l.n) × (l.place ≡ l.out_at + 64 * l.m) × (l.out ≡ splice l.initial.out l.out_at (flat (table l.m (z_of l.s l.s_at l.c l.c_at l.r l.n)))) × (length l.out ≡ length l.initial.out)
-
-abbrev pub decreases-loop-m : goal.decreases-loop-m
-decreases-loop-m l = l.n - l.m

@@ -20,6 +20,3 @@ invariant-loop-i l =
     (l.i ≤ l.r) × (l.signs ≡ l.signs_at + 41 * l.i) × (l.shuffle ≡ l.shuffle_at + 63 * l.i) × (l.place ≡ l.out_at + 64 * l.i) ×
     (l.out ≡ splice l.initial.out l.out_at (flat (table l.i (challenge_of l.words l.signs_at l.shuffle_at))))
     × (length l.out ≡ length l.initial.out)
-
-abbrev pub decreases-loop-i : goal.decreases-loop-i
-decreases-loop-i l = l.r - l.i

@@ -1,75 +1,47 @@
 -- `take` meets its contract.
-use mathlib.Core.Path.{◌≡◌, sym, ap, subst, ◌∙◌}
-use Prim.Native.Nat.{ℕ, ◌+◌, ◌*◌, ◌≤◌, ◌<◌, ◌^◌}
+use mathlib.Core.Path.{◌≡◌, refl, sym, ap, subst}
+use Prim.Native.Nat.{ℕ, ◌+◌, ◌*◌, ◌≤◌, ◌^◌}
 use native.Mathlib.Omega.{arith}
 use lib.Dec.{leb}
 use lib.ListN.{length}
 use Rattle.math.specs.lists.Table.{table}
-use Rattle.spec_leaves.specs.Answer.{value128}
 use Rattle.spec_leaves.specs.Rq.{Element}
 use Rattle.ring_inner_product.specs.Run.{run}
 use Rattle.spec_protocol.specs.Formulas.{count_left}
 use Rattle.spec_protocol.proofs.CellsLeft.{count-at_most}
-use Rattle.verifier_common.proofs.Sent.{received_room, product_small}
+use Rattle.verifier_common.proofs.Sent.{received, received_room, product_small}
 use Rattle.verifier_digits.proofs.Digits.{t_norm_is, g_norm_is, h_norm_is, Found, sum_is, cells_left_is}
-use Rattle.verifier_digits.proofs.take.Goals.{After-add, After-add-2, After-add-arg-1, After-add-arg-2-1, After-add-arg-3-1, After-at_most, After-digits_norm-h}
+use Rattle.verifier_digits.proofs.take.Goals.{After-digits_norm-h}
 use Rattle.verifier_digits.proofs.take.Goals as goal
 
 -- few cells
 few : (n m : ℕ) → n ≤ m → m ≤ 256 → n ≤ 2 ^ 18
 few n m h h' = omega arith
 
--- the upper halves of two norms can be added
-small : (x y a b : ℕ) → x ≤ a → y ≤ b → a + b ≤ 2 ^ 40 → x + y + 1 < 2 ^ 64
-small x y a b h h' e = omega arith
+-- the norm of few cells
+norm_small : (x n m : ℕ) → x ≤ 2048 * n * 2 ^ 64 → n ≤ m → m ≤ 256 → x ≤ 524288 * 2 ^ 64
+norm_small x n m h h' e = omega arith
 
--- the upper half of a norm of few cells
-norm_hi : (x n m : ℕ) → x ≤ 2048 * n → n ≤ m → m ≤ 256 → x ≤ 524288
-norm_hi x n m h h' e = omega arith
+-- the norm of two parts of few elements
+parts_small : (x n : ℕ) → x ≤ 128 * n * 2 ^ 64 → n ≤ 64 → x ≤ 524288 * 2 ^ 64
+parts_small x n h e = omega arith
 
--- the upper half of the norm of two parts of few elements
-parts_hi : (x n : ℕ) → x ≤ 128 * n → n ≤ 64 → x ≤ 524288
-parts_hi x n h e = omega arith
+-- the four norms
+z_small : (c : After-digits_norm-h) → c.two_parts_norm-z.result ≤ 524288 * 2 ^ 64
+z_small c = parts_small _ _ c.two_parts_norm-z.ensures.1 (received c.args.exchange.now.sent.posed).sized.within.n.1
 
--- the upper half of a sum
-sum_hi : (r x y a b : ℕ) → r ≤ x + y + 1 → x ≤ a → y ≤ b → r ≤ a + b + 1
-sum_hi r x y a b h h' e = omega arith
-
--- the upper halves of the four norms
-z_hi : (c : After-digits_norm-h) → c.two_parts_norm-z.result.hi ≤ 524288
-z_hi c =
-    parts_hi _ _ c.two_parts_norm-z.ensures.1
-    c.requires.sized.within.n.1
-
-t_hi : (c : After-digits_norm-h) → c.digits_norm-t.result.norm.hi ≤ 524288
-t_hi c =
+t_small : (c : After-digits_norm-h) → c.digits_norm-t.result.norm ≤ 524288 * 2 ^ 64
+t_small c =
     let s = c.args in
-    let w = c.requires in
-    norm_hi _ _ 256 c.digits_norm-t.ensures.norm_value.1 (product_small s.params.multiplicity s.params.kappa w.sized.within.r.1 w.sized.within.κ.1)
+    let w = (received c.args.exchange.now.sent.posed) in
+    norm_small _ _ 256 c.digits_norm-t.ensures.norm_value.1 (product_small s.exchange.now.params.multiplicity s.exchange.now.params.kappa w.sized.within.r.1 w.sized.within.κ.1)
     (omega arith)
 
-g_hi : (c : After-digits_norm-h) → c.digits_norm-g.result.norm.hi ≤ 524288
-g_hi c = norm_hi _ _ 136 c.digits_norm-g.ensures.norm_value.1 c.triangle-cells.ensures.1 (omega arith)
+g_small : (c : After-digits_norm-h) → c.digits_norm-g.result.norm ≤ 524288 * 2 ^ 64
+g_small c = norm_small _ _ 136 c.digits_norm-g.ensures.norm_value.1 c.triangle-cells.ensures.1 (omega arith)
 
-h_hi : (c : After-digits_norm-h) → c.digits_norm-h.result.norm.hi ≤ 524288
-h_hi c = norm_hi _ _ 136 c.digits_norm-h.ensures.norm_value.1 c.triangle-cells.ensures.1 (omega arith)
-
--- the upper halves of the sums
-add_hi : (c : After-add) → c.add.result.hi ≤ 1048577
-add_hi c =
-    sum_hi c.add.result.hi c.two_parts_norm-z.result.hi c.digits_norm-t.result.norm.hi 524288 524288 c.add.ensures.1
-    (parts_hi _ _ c.two_parts_norm-z.ensures.1 c.requires.sized.within.n.1)
-    (norm_hi _ _ 256 c.digits_norm-t.ensures.norm_value.1
-    (product_small c.args.params.multiplicity c.args.params.kappa c.requires.sized.within.r.1 c.requires.sized.within.κ.1) (omega arith))
-
-add2_hi : (c : After-add-2) → c.add-2.result.hi ≤ 1572866
-add2_hi c =
-    let first : c.add.result.hi ≤ 1048577 = sum_hi c.add.result.hi c.two_parts_norm-z.result.hi c.digits_norm-t.result.norm.hi 524288 524288 c.add.ensures.1
-    (parts_hi _ _ c.two_parts_norm-z.ensures.1 c.requires.sized.within.n.1)
-    (norm_hi _ _ 256 c.digits_norm-t.ensures.norm_value.1
-    (product_small c.args.params.multiplicity c.args.params.kappa c.requires.sized.within.r.1 c.requires.sized.within.κ.1) (omega arith)) in
-    sum_hi c.add-2.result.hi c.add.result.hi c.digits_norm-g.result.norm.hi 1048577 524288 c.add-2.ensures.1 first
-    (norm_hi _ _ 136 c.digits_norm-g.ensures.norm_value.1 c.triangle-cells.ensures.1 (omega arith))
+h_small : (c : After-digits_norm-h) → c.digits_norm-h.result.norm ≤ 524288 * 2 ^ 64
+h_small c = norm_small _ _ 136 c.digits_norm-h.ensures.norm_value.1 c.triangle-cells.ensures.1 (omega arith)
 
 -- how many cells of each have something left
 few-left : (b parts n m x : ℕ) (f : ℕ → Element) → x ≡ count_left b parts (table n f) → n ≤ m → x ≤ m
@@ -77,19 +49,19 @@ few-left b parts n m x f e l = omega (arith, count-at_most b parts n f)
 
 t-left : (c : After-digits_norm-h) → c.digits_norm-t.result.cells_left ≤ 256
 t-left c =
-    let w = c.requires.sized.within in
+    let w = (received c.args.exchange.now.sent.posed).sized.within in
     let d = c.digits_norm-t in
-    few-left c.args.params.b c.args.params.t_1 (c.args.params.multiplicity * c.args.params.kappa) 256 d.result.cells_left
-    (run c.args.transcript.now c.of_transcript-2.result 64)
+    few-left c.args.exchange.now.params.b c.args.exchange.now.params.t_1 (c.args.exchange.now.params.multiplicity * c.args.exchange.now.params.kappa) 256 d.result.cells_left
+    (run c.args.exchange.now.transcript.now c.transcript_at-2.result 64)
     d.ensures.cells_left_value
-    (product_small c.args.params.multiplicity c.args.params.kappa w.r.1 w.κ.1)
+    (product_small c.args.exchange.now.params.multiplicity c.args.exchange.now.params.kappa w.r.1 w.κ.1)
 
 g-left : (c : After-digits_norm-h) → c.digits_norm-g.result.cells_left ≤ 136
 g-left c =
     let s = c.args in
     let t = c.triangle-cells in
     let d = c.digits_norm-g in
-    few-left s.params.b s.params.t_2 t.result 136 d.result.cells_left (run s.transcript.now c.of_transcript-3.result 64) d.ensures.cells_left_value
+    few-left s.exchange.now.params.b s.exchange.now.params.t_2 t.result 136 d.result.cells_left (run s.exchange.now.transcript.now c.transcript_at-3.result 64) d.ensures.cells_left_value
     t.ensures.1
 
 h-left : (c : After-digits_norm-h) → c.digits_norm-h.result.cells_left ≤ 136
@@ -97,22 +69,22 @@ h-left c =
     let s = c.args in
     let t = c.triangle-cells in
     let d = c.digits_norm-h in
-    few-left s.params.b s.params.t_1 t.result 136 d.result.cells_left (run s.transcript.now c.of_transcript-4.result 64) d.ensures.cells_left_value t.ensures.1
+    few-left s.exchange.now.params.b s.exchange.now.params.t_1 t.result 136 d.result.cells_left (run s.exchange.now.transcript.now c.transcript_at-4.result 64) d.ensures.cells_left_value t.ensures.1
 
 -- what is found of the four norms
 found : (c : After-digits_norm-h)
     → let s = c.args in
-    Found s.transcript.now s.params c.triangle-cells.result
-    c.of_transcript.result c.of_transcript-2.result
-    c.of_transcript-3.result c.of_transcript-4.result
-    (value128 c.two_parts_norm-z.result) (value128 c.digits_norm-t.result.norm)
-    (value128 c.digits_norm-g.result.norm) (value128 c.digits_norm-h.result.norm)
+    Found s.exchange.now.transcript.now s.exchange.now.params c.triangle-cells.result
+    c.transcript_at.result c.transcript_at-2.result
+    c.transcript_at-3.result c.transcript_at-4.result
+    c.two_parts_norm-z.result c.digits_norm-t.result.norm
+    c.digits_norm-g.result.norm c.digits_norm-h.result.norm
 found c = record {
   size = c.triangle-cells.ensures.0;
-  z-place = c.of_transcript.ensures;
-  t-place = c.of_transcript-2.ensures;
-  g-place = c.of_transcript-3.ensures;
-  h-place = c.of_transcript-4.ensures;
+  z-place = c.transcript_at.ensures;
+  t-place = c.transcript_at-2.ensures;
+  g-place = c.transcript_at-3.ensures;
+  h-place = c.transcript_at-4.ensures;
   z_is = c.two_parts_norm-z.ensures.0;
   t_is = c.digits_norm-t.ensures.norm_value.0;
   g_is = c.digits_norm-g.ensures.norm_value.0;
@@ -121,34 +93,34 @@ found c = record {
 
 pub two_parts_norm-z-requires : goal.two_parts_norm-z-requires
 two_parts_norm-z-requires c =
-    let w = c.requires in
-    (received_room w 4 c.of_transcript.result (omega arith) c.of_transcript.ensures, w.sized.within.b.0, few _ 64 w.sized.within.n.1 (omega arith))
+    let w = (received c.args.exchange.now.sent.posed) in
+    (received_room w 4 c.transcript_at.result (omega arith) c.transcript_at.ensures, w.sized.within.b.0, few _ 64 w.sized.within.n.1 (omega arith))
 
 pub overflow_mul-params : goal.overflow_mul-params
 overflow_mul-params c =
     let s = c.args in
-    let w = c.requires in
-    omega (arith, product_small s.params.multiplicity s.params.kappa w.sized.within.r.1 w.sized.within.κ.1)
+    let w = (received c.args.exchange.now.sent.posed) in
+    omega (arith, product_small s.exchange.now.params.multiplicity s.exchange.now.params.kappa w.sized.within.r.1 w.sized.within.κ.1)
 
 pub digits_norm-t-requires : goal.digits_norm-t-requires
 digits_norm-t-requires c =
     let s = c.args in
-    let w = c.requires in
-    let o = c.of_transcript-2 in (
+    let w = (received c.args.exchange.now.sent.posed) in
+    let o = c.transcript_at-2 in (
       received_room w 5 o.result (omega arith) o.ensures,
       w.sized.within.b.0,
       w.sized.within.t₁.1,
       few _ 256
-          (product_small s.params.multiplicity s.params.kappa w.sized.within.r.1 w.sized.within.κ.1) (omega arith),
+          (product_small s.exchange.now.params.multiplicity s.exchange.now.params.kappa w.sized.within.r.1 w.sized.within.κ.1) (omega arith),
     )
 
 pub digits_norm-g-requires : goal.digits_norm-g-requires
 digits_norm-g-requires c =
     let s = c.args in
-    let w = c.requires in
+    let w = (received c.args.exchange.now.sent.posed) in
     let t = c.triangle-cells in
-    let o = c.of_transcript-3 in (
-      subst (λ n. o.result + 64 * n ≤ length s.transcript.now) (sym t.ensures.0)
+    let o = c.transcript_at-3 in (
+      subst (λ n. o.result + 64 * n ≤ length s.exchange.now.transcript.now) (sym t.ensures.0)
           (received_room w 6 o.result (omega arith) o.ensures),
       w.sized.within.b.0,
       w.sized.within.t₂.1,
@@ -158,27 +130,24 @@ digits_norm-g-requires c =
 pub digits_norm-h-requires : goal.digits_norm-h-requires
 digits_norm-h-requires c =
     let s = c.args in
-    let w = c.requires in
+    let w = (received c.args.exchange.now.sent.posed) in
     let t = c.triangle-cells in
-    let o = c.of_transcript-4 in (
-      subst (λ n. o.result + 64 * n ≤ length s.transcript.now) (sym t.ensures.0)
+    let o = c.transcript_at-4 in (
+      subst (λ n. o.result + 64 * n ≤ length s.exchange.now.transcript.now) (sym t.ensures.0)
           (received_room w 7 o.result (omega arith) o.ensures),
       w.sized.within.b.0,
       w.sized.within.t₁.1,
       few t.result 136 t.ensures.1 (omega arith),
     )
 
-pub add-requires : goal.add-requires
-add-requires c =
-    small c.two_parts_norm-z.result.hi c.digits_norm-t.result.norm.hi 524288 524288
-    (z_hi (goal.at.add-requires c).After-digits_norm-h) (t_hi (goal.at.add-requires c).After-digits_norm-h) (omega arith)
+pub overflow_add-sum : goal.overflow_add-sum
+overflow_add-sum c = let m = (goal.at.overflow_add-sum c).After-digits_norm-h in omega (arith, z_small m, t_small m)
 
-pub add-requires-2 : goal.add-requires-2
-add-requires-2 c = small c.add.result.hi c.digits_norm-g.result.norm.hi 1048577 524288 (add_hi (goal.at.add-requires-2 c).After-add) (g_hi (goal.at.add-requires-2 c).After-digits_norm-h) (omega arith)
+pub overflow_add-sum-2 : goal.overflow_add-sum-2
+overflow_add-sum-2 c = let m = (goal.at.overflow_add-sum-2 c).After-digits_norm-h in omega (arith, z_small m, t_small m, g_small m)
 
-pub add-sum-requires : goal.add-sum-requires
-add-sum-requires c = small c.add-2.result.hi c.digits_norm-h.result.norm.hi 1572866 524288 (add2_hi (goal.at.add-sum-requires c).After-add-2)
-    (h_hi (goal.at.add-sum-requires c).After-digits_norm-h) (omega arith)
+pub overflow_add-sum-3 : goal.overflow_add-sum-3
+overflow_add-sum-3 c = let m = (goal.at.overflow_add-sum-3 c).After-digits_norm-h in omega (arith, z_small m, t_small m, g_small m, h_small m)
 
 pub overflow_add-result : goal.overflow_add-result
 overflow_add-result c =
@@ -193,26 +162,13 @@ returns c =
     let m = (goal.at.returns c).After-digits_norm-h in
     let s = c.args in
     let f = found m in record {
-      sum = sum_is s.transcript.now s.params _ _ _ _ _ _ _ _ _ f _ _ _ c.add.ensures.0
-          c.add-2.ensures.0 c.add-sum.ensures.0;
-      t = c.at_most.ensures ∙ ap (λ x. leb x (value128 s.params.bound_b)) (t_norm_is s.transcript.now s.params _ _ f.t-place f.t_is);
-      g = c.at_most-2.ensures ∙ ap (λ x. leb x (value128 s.params.bound_c)) (g_norm_is s.transcript.now s.params _ _ _ f.g-place f.size f.g_is);
-      h = c.at_most-3.ensures ∙ ap (λ x. leb x (value128 s.params.bound_d)) (h_norm_is s.transcript.now s.params _ _ _ f.h-place f.size f.h_is);
-      left = cells_left_is s.transcript.now s.params _ _ _ _ _ _ _ f.size f.t-place f.g-place f.h-place c.digits_norm-t.ensures.cells_left_value
+      sum = sum_is s.exchange.now.transcript.now s.exchange.now.params _ _ _ _ _ _ _ _ _ f _ _ _ refl refl refl;
+      t = ap (λ x. leb x s.exchange.now.params.bound_b) (t_norm_is s.exchange.now.transcript.now s.exchange.now.params _ _ f.t-place f.t_is);
+      g = ap (λ x. leb x s.exchange.now.params.bound_c) (g_norm_is s.exchange.now.transcript.now s.exchange.now.params _ _ _ f.g-place f.size f.g_is);
+      h = ap (λ x. leb x s.exchange.now.params.bound_d) (h_norm_is s.exchange.now.transcript.now s.exchange.now.params _ _ _ f.h-place f.size f.h_is);
+      left = cells_left_is s.exchange.now.transcript.now s.exchange.now.params _ _ _ _ _ _ _ f.size f.t-place f.g-place f.h-place c.digits_norm-t.ensures.cells_left_value
           c.digits_norm-g.ensures.cells_left_value c.digits_norm-h.ensures.cells_left_value;
     }
 
 pub triangle-cells-requires : goal.triangle-cells-requires
-triangle-cells-requires c = c.requires.sized.within.r.1
-
-pub of_transcript-requires : goal.of_transcript-requires
-of_transcript-requires c = (c.requires.sized, omega arith)
-
-pub of_transcript-requires-2 : goal.of_transcript-requires-2
-of_transcript-requires-2 c = (c.requires.sized, omega arith)
-
-pub of_transcript-requires-3 : goal.of_transcript-requires-3
-of_transcript-requires-3 c = (c.requires.sized, omega arith)
-
-pub of_transcript-requires-4 : goal.of_transcript-requires-4
-of_transcript-requires-4 c = (c.requires.sized, omega arith)
+triangle-cells-requires c = (received c.args.exchange.now.sent.posed).sized.within.r.1

@@ -8,9 +8,9 @@ ghost use Rattle.verify_many_admission.specs.Admitted.{ManyGiven, TranscriptsFou
 ghost use Rattle.verify_many.specs.Windows.{RowsReady, verdicts_of};
 
 use crate::verdicts::part;
-use admission_slices::answers::SliceChecked;
 use api_answers::verdicts::LabradorVerdict;
 use relation_env_params::env_params::EnvironmentParameters;
+use spec_leaves::answers::Refusal;
 use verify_many_admission::bounds::check_part;
 
 // Eight times a number and zeros.
@@ -36,7 +36,7 @@ pub fn verdicts(
     transcripts: &[u32],
     params: EnvironmentParameters,
     count: usize,
-    found: [SliceChecked; 8],
+    found: [Result<(), Refusal>; 8],
     scratch: &mut [u32],
 ) -> [LabradorVerdict; 8]
     requires many_given { ManyGiven job.now count (length scratch.old) params × TranscriptsFound (parameters job.now) count transcripts.now found }
@@ -45,13 +45,10 @@ pub fn verdicts(
     ensures unchanged { Unchanged (many_need (parameters job.now) count) scratch.old scratch.new }
 {
     let mut out = eight(4294967295);
-    let mut m = 0;
-    while m < count {
-        let sent = found[m];
-        let one = check_part(randomness, params, count, m, sent);
+    for m in 0..count {
+        let one = check_part(randomness, params, count, m, found[m]);
         let v = part::verdict(job, randomness, transcripts, params, count, m, one, scratch);
         out[m] = v;
-        m += 1;
     }
     out
 }

@@ -57,6 +57,3 @@ pub returns : goal.returns
 returns c =
     az-passes c.args.job.now c.args.transcript.now c.args.params c.args.regions c.args.window.now c.requires.posed.0 c.requires.posed.1
     (challenges_in c.args.window.now c.args.regions) c.loop-k.k (omega arith) c.loop-k.invariant.1
-
-pub overflow_add-k : goal.overflow_add-k
-overflow_add-k c = omega (arith, rows_few _ _ _ c.requires.posed.0)

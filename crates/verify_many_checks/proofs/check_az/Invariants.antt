@@ -1,6 +1,6 @@
 -- `check_az` meets its contract. The invariant: the first k rows are found equal.
 use mathlib.Core.Path.{◌≡◌}
-use Prim.Native.Nat.{◌-◌, ◌≤◌}
+use Prim.Native.Nat.{◌≤◌}
 use Rattle.spec_leaves.specs.Answer.{fine}
 use Rattle.spec_protocol.specs.Checks.{first}
 use Rattle.verifier_relations.specs.Weighed.{challenges_in}
@@ -9,6 +9,3 @@ use Rattle.verify_many_checks.proofs.check_az.Given as goal
 
 abbrev pub invariant-loop-k : goal.invariant-loop-k
 invariant-loop-k l = (l.k ≤ l.kappa) × (first l.k (az_test l.job l.transcript (challenges_in l.window l.regions)) ≡ fine)
-
-abbrev pub decreases-loop-k : goal.decreases-loop-k
-decreases-loop-k l = l.kappa - l.k

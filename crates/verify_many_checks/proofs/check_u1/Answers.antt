@@ -79,6 +79,3 @@ overflow_add-b c = omega (arith, rows_few _ _ _ c.requires.posed.0)
 
 pub overflow_add-c-in-loop-k : goal.overflow_add-c-in-loop-k
 overflow_add-c-in-loop-k c = omega (arith, rows_few _ _ _ c.requires.posed.0)
-
-pub overflow_add-k : goal.overflow_add-k
-overflow_add-k c = omega (arith, rows_few _ _ _ c.requires.posed.0)

@@ -75,6 +75,3 @@ load-sent-requires c = omega (arith, within (goal.at.load-sent-requires c).In-lo
 
 pub overflow_add-d-in-loop-k : goal.overflow_add-d-in-loop-k
 overflow_add-d-in-loop-k c = omega (arith, rows_few _ _ _ c.requires.posed.0)
-
-pub overflow_add-k : goal.overflow_add-k
-overflow_add-k c = omega (arith, rows_few _ _ _ c.requires.posed.0)

@@ -1,60 +1,48 @@
 -- `verifier::admit` meets its contract.
-use mathlib.Core.Path.{sym, ap, ◌∙◌}
-use Rattle.admission_slices.specs.Admission.{of_admitted}
-use Rattle.admission_slices.proofs.Found.{fitted, told}
+use mathlib.Core.Path.{sym}
+use Rattle.std.proofs.lemmas.Result.{err_from_is_err_and}
 use Rattle.admission_order.proofs.Refusals.{job_refuses', randomness_refuses', transcript_refuses, scratch-answers}
 use Rattle.admission_slices.proofs.Ready.{job-sized, verifiable}
 use Rattle.admission_order.proofs.verifier.admit.Goals as goal
 
-pub check-requires-in-Fit : goal.check-requires-in-Fit
-check-requires-in-Fit c =
-    let f = fitted _ c.check.ensures.result_value c.check.ensures.at c.in-Fit.is in
-    job-sized _ _ f.0 f.1
+pub check-requires-2 : goal.check-requires-2
+check-requires-2 c = let job = c.in_ok-params.ensures in job-sized _ _ job.result_value job.at
 
-pub check-requires-in-Fine : goal.check-requires-in-Fine
-check-requires-in-Fine c =
-    let f = fitted _ c.check.ensures.result_value c.check.ensures.at
-    c.in-Fit.is in
-    job-sized _ _ f.0 f.1
+pub check-requires-3 : goal.check-requires-3
+check-requires-3 c = let job = c.in_ok-params.ensures in job-sized _ _ job.result_value job.at
 
-pub check-requires-in-Fine-check : goal.check-requires-in-Fine-check
-check-requires-in-Fine-check c =
-    let f = fitted _ c.check.ensures.result_value
-    c.check.ensures.at c.in-Fit.is in
-    job-sized _ _ f.0 f.1
+pub check-requires-4 : goal.check-requires-4
+check-requires-4 c = let job = c.in_ok-params.ensures in job-sized _ _ job.result_value job.at
 
-pub returns-in-Refused : goal.returns-in-Refused
-returns-in-Refused c =
-    record { result_value = job_refuses' _ _ _ _ c.in-Refused.refusal (sym (ap of_admitted c.in-Refused.is) ∙ c.check.ensures.result_value); at = tt }
+pub returns-in_err-params-clause-result_value : goal.returns-in_err-params-clause-result_value
+returns-in_err-params-clause-result_value c =
+    let f = c.from_residual in
+    let p = err_from_is_err_and f.result f.ensures.1 in
+    rw (p.1, p.2) (job_refuses' _ _ _ _ _ c.in_err-params.ensures.result_value)
 
-pub returns-in-Refused-check : goal.returns-in-Refused-check
-returns-in-Refused-check c =
-    let f = fitted _ c.check.ensures.result_value c.check.ensures.at
-    c.in-Fit.is in
-    record { result_value = randomness_refuses' _ _ _ _ _ f.1 f.0 c.in-Refused-check.refusal (told c.check-in-Fit.ensures c.in-Refused-check.is); at = tt }
+pub returns-in_err-check-clause-result_value : goal.returns-in_err-check-clause-result_value
+returns-in_err-check-clause-result_value c =
+    let f = c.from_residual-in_err-check in
+    let p = err_from_is_err_and f.result f.ensures.1 in
+    let job = c.in_ok-params.ensures in
+    rw (p.1, p.2) (randomness_refuses' _ _ _ _ _ job.at job.result_value _ c.in_err-check.ensures)
 
-pub returns-in-Refused-check-2 : goal.returns-in-Refused-check-2
-returns-in-Refused-check-2 c =
-    let f = fitted _ c.check.ensures.result_value
-    c.check.ensures.at c.in-Fit.is in
-    let r = told c.check-in-Fit.ensures c.in-Fine.is in
-    record { result_value = transcript_refuses _ _ _ _ _ f.1 f.0 r c.in-Refused-check-2.refusal (told c.check-in-Fine.ensures c.in-Refused-check-2.is); at = tt }
+pub returns-in_err-check-2-clause-result_value : goal.returns-in_err-check-2-clause-result_value
+returns-in_err-check-2-clause-result_value c =
+    let f = c.from_residual-in_err-check-2 in
+    let p = err_from_is_err_and f.result f.ensures.1 in
+    let job = c.in_ok-params.ensures in
+    rw (p.1, p.2) (transcript_refuses _ _ _ _ _ job.at job.result_value c.in_ok-check.ensures _ c.in_err-check-2.ensures)
 
-pub returns-in-Refused-check-3 : goal.returns-in-Refused-check-3
-returns-in-Refused-check-3 c =
-    let f = fitted _ c.check.ensures.result_value
-    c.check.ensures.at
-    c.in-Fit.is in
-    let r = told c.check-in-Fit.ensures c.in-Fine.is in
-    let t = told c.check-in-Fine.ensures c.in-Fine-check.is in
-    record { result_value = scratch-answers _ _ _ _ _ f.1 f.0 r t (told c.check-in-Fine-check.ensures c.in-Refused-check-3.is); at = tt }
+pub returns-in_err-check-3-clause-result_value : goal.returns-in_err-check-3-clause-result_value
+returns-in_err-check-3-clause-result_value c =
+    let f = c.from_residual-in_err-check-3 in
+    let p = err_from_is_err_and f.result f.ensures.1 in
+    let job = c.in_ok-params.ensures in
+    rw (p.1, p.2) (scratch-answers _ _ _ _ _ job.at job.result_value c.in_ok-check.ensures c.in_ok-check-2.ensures c.in_err-check-3.ensures)
 
-pub returns-in-Fine-check-2 : goal.returns-in-Fine-check-2
-returns-in-Fine-check-2 c =
-    let f = fitted _ c.check.ensures.result_value
-    c.check.ensures.at
-    c.in-Fit.is in
-    let r = told c.check-in-Fit.ensures c.in-Fine.is in
-    let t = told c.check-in-Fine.ensures c.in-Fine-check.is in
-    let e = scratch-answers _ _ _ _ _ f.1 f.0 r t (told c.check-in-Fine-check.ensures c.in-Fine-check-2.is) in
-    record { result_value = e; at = verifiable _ _ _ _ _ f.1 (sym e) }
+pub returns : goal.returns
+returns c =
+    let job = c.in_ok-params.ensures in
+    let e = scratch-answers _ _ _ _ _ job.at job.result_value c.in_ok-check.ensures c.in_ok-check-2.ensures c.in_ok-check-3.ensures in
+    record { result_value = e; at = verifiable _ _ _ _ _ job.at (sym e) }

@@ -6,11 +6,5 @@ use Rattle.admission_slices.proofs.job.sections.Goals as goal
 pub job_sections-requires : goal.job_sections-requires
 job_sections-requires c = sized _ _ c.requires.0 c.requires.1
 
-pub returns-in-Layout : goal.returns-in-Layout
-returns-in-Layout c = examined 3 6 _ 31 c.job_sections.ensures.lists c.examine.ensures c.in-Layout.is
-
-pub returns-in-Word : goal.returns-in-Word
-returns-in-Word c = examined 3 6 _ 31 c.job_sections.ensures.lists c.examine.ensures c.in-Word.is
-
-pub returns-in-Fit : goal.returns-in-Fit
-returns-in-Fit c = examined 3 6 _ 31 c.job_sections.ensures.lists c.examine.ensures c.in-Fit.is
+pub returns : goal.returns
+returns c = examined 3 6 _ 31 c.job_sections.ensures.lists c.check.ensures

@@ -1,18 +1,16 @@
 -- `elements` meets its contract.
-use mathlib.Core.Path.{◌≡◌}
-use native.Mathlib.Omega.{arith}
-use borrow.Author.Rules.{rules}
-use lib.ListN.{length}
-use Rattle.api_operands.proofs.Scans.{after-element}
+use Rattle.std.proofs.Common.{◌≡◌, ◌∙◌, length, rules}
+use Rattle.std.proofs.lemmas.Result.{err_from_is_err_and}
+use Rattle.api_operands.proofs.Scans.{after-element, refused_first, passed_first}
 use Rattle.api_operands.proofs.leaf.elements.Goals as goal
 
-pub words_from-requires : goal.words_from-requires
-words_from-requires c =
-    let m : length c.args.a.coeffs ≡ 64 = search rules in
-    let n : length c.args.b.coeffs ≡ 64 = search rules in
-    omega arith
+pub returns-in_err-element : goal.returns-in_err-element
+returns-in_err-element c =
+    let n : length c.args.a.coeffs ≡ 64 = search rules in
+    let p = err_from_is_err_and c.from_residual.result c.from_residual.ensures.1 in
+    rw (p.1, p.2) (refused_first _ _ c.in_err-element.was c.element.ensures ∙ after-element _ _ n)
 
 pub returns : goal.returns
 returns c =
     let n : length c.args.a.coeffs ≡ 64 = search rules in
-    after-element _ _ _ _ _ n c.first.ensures c.element.ensures c.words_from.ensures
+    c.words_from.ensures ∙ passed_first _ _ c.in_ok-element.was c.element.ensures ∙ after-element _ _ n

@@ -1,13 +1,6 @@
--- `all_below` meets its contract. The invariant: as long as no word was bad, those looked at are passed.
-use mathlib.Core.Path.{◌≡◌}
-use mathlib.Core.Bool.{true}
-use Prim.Native.Nat.{◌-◌, ◌≤◌}
-use lib.ListN.{length}
-use Rattle.api_operands.proofs.Scans.{Passed}
+-- As long as no word was bad, those looked at are below the limit.
+use Rattle.std.proofs.Common.{◌≡◌, ℕ, ◌<◌, true, get_or}
 use Rattle.api_operands.proofs.scan.all_below.Given as goal
 
-abbrev pub invariant-loop-k : goal.invariant-loop-k
-invariant-loop-k l = (l.k ≤ length l.words) × (l.fit ≡ true → Passed l.limit l.words l.k)
-
-abbrev pub decreases-loop-k : goal.decreases-loop-k
-decreases-loop-k l = length l.words - l.k
+abbrev pub invariant-loop-word : goal.invariant-loop-word
+invariant-loop-word l = l.fit ≡ true → (k d : ℕ) → k < l.word-index → get_or l.words k d < l.limit

@@ -1,9 +1,10 @@
 -- `words_from` meets its contract.
-use Rattle.api_operands.proofs.Scans.{found_bad, found_none}
+use Rattle.std.proofs.Common.{◌∙◌, sym, ap}
+use Rattle.api_operands.proofs.Scans.{found, below_position}
 use Rattle.api_operands.proofs.scan.words_from.Goals as goal
 
-pub returns-then-i-words : goal.returns-then-i-words
-returns-then-i-words c = found_bad _ _ _ _ _ c.first_not_below-i.ensures c.if-i-words.true
+pub returns-in-Some : goal.returns-in-Some
+returns-in-Some c = ap (found 6 c.args.place) (sym c.in-Some.is) ∙ below_position _ _ _ _ _ c.first_not_below.ensures
 
-pub returns-else-i-words : goal.returns-else-i-words
-returns-else-i-words c = found_none _ _ _ _ _ c.first_not_below-i.ensures c.if-i-words.false
+pub returns-in-None : goal.returns-in-None
+returns-in-None c = ap (found 6 c.args.place) (sym c.in-None.is) ∙ below_position _ _ _ _ _ c.first_not_below.ensures

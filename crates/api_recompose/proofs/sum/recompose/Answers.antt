@@ -19,25 +19,23 @@ next-sum total digit weight sum power r s p e = e ∙ rw p (omega (arith, mul_mo
 next_power : (base i power r : ℕ) → power ≡ base ^ i % Q → r ≡ zmul power base → r ≡ base ^ (i + 1) % Q
 next_power base i power r p e = e ∙ ap (λ x. (x * base) % Q) p ∙ mul_mod_first Q (base ^ i) base ∙ ap (λ x. x % Q) (sym (ap (λ n. base ^ n) (add-one i) ∙ pow-suc base i))
 
-pub loop-i-init : goal.loop-i-init
+pub loop-digit-init : goal.loop-digit-init
 unfolding Σ
-loop-i-init c = (refl, omega arith, refl, sym (ap (λ x. x % Q) (pow-zero _)))
+loop-digit-init c = (refl, sym (ap (λ x. x % Q) (pow-zero _)))
 
-pub loop-i-preserved : goal.loop-i-preserved
-loop-i-preserved c =
+pub loop-digit-preserved : goal.loop-digit-preserved
+loop-digit-preserved c =
     let a = c.args in
-    let l = c.loop-i in
+    let l = c.loop-digit in
     let term : ℕ → ℕ = λ k. get_or a.digits.now k 0 * a.base ^ k in (
-      refl,
-      omega arith,
-      next-sum (Σ l.i term) (get_or a.digits.now l.i 0) (a.base ^ l.i) _ _ _ l.invariant.2 l.invariant.3 (c.add-sum.ensures ∙ ap (zadd l.sum.0) c.mul.ensures)
-          ∙ ap (λ t. t % Q) (sym (Σ-suc l.i term)),
-      next_power a.base l.i _ _ l.invariant.3 c.mul-power.ensures,
+      next-sum (Σ l.digit-index term) (get_or a.digits.now l.digit-index 0) (a.base ^ l.digit-index) _ _ _ l.invariant.0 l.invariant.1 (c.add-sum.ensures ∙ ap (zadd l.sum.0) c.mul.ensures)
+          ∙ ap (λ t. t % Q) (sym (Σ-suc l.digit-index term)),
+      next_power a.base l.digit-index _ _ l.invariant.1 c.mul-power.ensures,
     )
 
 pub returns : goal.returns
 unfolding recompose
 returns c =
-    let l = c.loop-i in
-    let n : l.i ≡ length c.args.digits.now = omega arith in
-    l.invariant.2 ∙ ap (λ m. Σ m (λ k. get_or c.args.digits.now k 0 * c.args.base ^ k) % Q) n
+    let l = c.loop-digit in
+    let n : l.digit-index ≡ length c.args.digits.now = omega arith in
+    l.invariant.0 ∙ ap (λ m. Σ m (λ k. get_or c.args.digits.now k 0 * c.args.base ^ k) % Q) n

@@ -8,17 +8,11 @@ use Rattle.ntt_product.proofs.Residue.{Words}
 use Rattle.bench_calls.proofs.Steps.{held_none, held-room, held_next, held-inverse}
 use Rattle.bench_calls.proofs.ntt.with_ntt_form.Goals as goal
 
-pub transform-x-requires : goal.transform-x-requires
-transform-x-requires c = c.twiddles-w.ensures
-
-pub transform-y-requires : goal.transform-y-requires
-transform-y-requires c = c.twiddles-w.ensures
-
 pub loop-m-init : goal.loop-m-init
 loop-m-init c = (omega arith, λ a b wa wb tx ty. held_none a b _ _ _ c.no_sums-sums.ensures.0 c.no_sums-sums.ensures.1 c.no_sums-sums.ensures.2)
 
-pub add_product-next-requires : goal.add_product-next-requires
-add_product-next-requires c =
+pub add_product-sums-requires : goal.add_product-sums-requires
+add_product-sums-requires c =
     let s = c.args in
     let wa : Words s.a = λ k l. let f : Fits w32 (get_or s.a k 0) = search rules in omega arith in
     let wb : Words s.b = λ k l. let f : Fits w32 (get_or s.b k 0) = search rules in omega arith in
@@ -31,11 +25,8 @@ add_product-next-requires c =
 pub loop-m-preserved : goal.loop-m-preserved
 loop-m-preserved c =
     let l = c.loop-m in
-    let e = c.add_product-next.ensures in
+    let e = c.add_product-sums.ensures in
     (omega arith, λ a b wa wb tx ty. held_next l.m (omega arith) a b wa wb _ _ _ _ _ _ _ _ _ (l.invariant.1 a b wa wb tx ty) tx ty _ _ _ e.first e.second e.third)
-
-pub inverse-requires : goal.inverse-requires
-inverse-requires c = c.twiddles-w.ensures
 
 pub returns : goal.returns
 returns c =

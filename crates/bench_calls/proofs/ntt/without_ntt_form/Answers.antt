@@ -11,14 +11,8 @@ use Rattle.bench_calls.proofs.ntt.without_ntt_form.Goals as goal
 pub loop-m-init : goal.loop-m-init
 loop-m-init c = (omega arith, held_none _ _ _ _ _ c.no_sums-sums.ensures.0 c.no_sums-sums.ensures.1 c.no_sums-sums.ensures.2)
 
-pub transform-x-requires : goal.transform-x-requires
-transform-x-requires c = c.twiddles-w.ensures
-
-pub transform-y-requires : goal.transform-y-requires
-transform-y-requires c = c.twiddles-w.ensures
-
-pub add_product-next-requires : goal.add_product-next-requires
-add_product-next-requires c =
+pub add_product-sums-requires : goal.add_product-sums-requires
+add_product-sums-requires c =
     let s = c.args in
     let wa : Words s.a = λ k l. let f : Fits w32 (get_or s.a k 0) = search rules in omega arith in
     let wb : Words s.b = λ k l. let f : Fits w32 (get_or s.b k 0) = search rules in omega arith in
@@ -32,14 +26,11 @@ loop-m-preserved c =
     let wa : Words s.a = λ k l. let f : Fits w32 (get_or s.a k 0) = search rules in omega arith in
     let wb : Words s.b = λ k l. let f : Fits w32 (get_or s.b k 0) = search rules in omega arith in
     let l = c.loop-m in
-    let e = c.add_product-next.ensures in (
+    let e = c.add_product-sums.ensures in (
       omega arith,
       held_next l.m (omega arith) s.a s.b wa wb _ _ _ _ _ _ _ _ _ l.invariant.1 c.transform-x.ensures c.transform-y.ensures
           _ _ _ e.first e.second e.third,
     )
-
-pub inverse-requires : goal.inverse-requires
-inverse-requires c = c.twiddles-w.ensures
 
 pub returns : goal.returns
 returns c =

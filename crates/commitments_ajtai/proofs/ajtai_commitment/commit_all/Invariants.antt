@@ -1,6 +1,6 @@
 -- `commit_all` meets its contract. The invariant: the commitments to the first i vectors are stored.
 use mathlib.Core.Path.{◌≡◌}
-use Prim.Native.Nat.{◌+◌, ◌-◌, ◌*◌, ◌≤◌}
+use Prim.Native.Nat.{◌+◌, ◌*◌, ◌≤◌}
 use lib.ListN.{length}
 use Rattle.math.specs.lists.Part.{splice}
 use Rattle.spec_protocol.specs.Formulas.{dot, flat, rows}
@@ -14,6 +14,3 @@ invariant-loop-i l =
     × (l.place ≡ l.out_at + 64 * (i * l.count))
     × (l.out ≡ splice l.initial.out l.out_at (flat (rows i l.count (λ i k. dot l.n (vector l.matrix l.m_at l.n k) (vector l.vectors l.at l.n i)))))
     × (length l.out ≡ length l.initial.out)
-
-abbrev pub decreases-loop-i : goal.decreases-loop-i
-decreases-loop-i l = l.r - l.i

@@ -16,19 +16,17 @@ loop-k-init c = (omega arith, omega arith, omega arith, spread_none _ _ _ _, ref
 
 pub inner_product-e-requires : goal.inner_product-e-requires
 inner_product-e-requires c =
-    let b = c.before.before.before.before.before.before in
-    let s = b.args in
+    let s = c.args in
     let l = c.loop-k in
     let same = spread-before s.scratch.now l.scratch s.out_at s.step l.k (ntt_row s.v.now s.scratch.now s.at s.n) l.invariant.3 in (
-      b.requires.0,
-      b.requires.1,
+      c.requires.0,
       vector-values l.scratch s.at s.count s.n l.k l.place
-          (values_same s.scratch.now l.scratch s.at (s.count * s.n) s.out_at l.invariant.4 same (omega arith) b.requires.2) (omega arith) l.invariant.1,
+          (values_same s.scratch.now l.scratch s.at (s.count * s.n) s.out_at l.invariant.4 same (omega arith) c.requires.1) (omega arith) l.invariant.1,
       omega arith,
     )
 
 pub store-requires : goal.store-requires
-store-requires c = omega (arith, c.requires.3.1 c.loop-k.k (omega arith))
+store-requires c = omega (arith, c.requires.2.1 c.loop-k.k (omega arith))
 
 pub overflow_add-place : goal.overflow_add-place
 overflow_add-place c = let s = c.args in omega
@@ -37,7 +35,7 @@ overflow_add-place c = let s = c.args in omega
 pub overflow_add-to : goal.overflow_add-to
 overflow_add-to c = omega (
   arith,
-  c.requires.3.1
+  c.requires.2.1
       c.loop-k.k (omega arith),
 )
 

@@ -1,6 +1,6 @@
 -- `column` meets its contract. The invariant: the first k inner products are stored, and the places stand at the next.
 use mathlib.Core.Path.{◌≡◌}
-use Prim.Native.Nat.{◌+◌, ◌-◌, ◌*◌, ◌≤◌}
+use Prim.Native.Nat.{◌+◌, ◌*◌, ◌≤◌}
 use lib.ListN.{length}
 use Rattle.ntt_vectors.specs.NttForm.{ntt_row}
 use Rattle.commitments_ajtai.specs.Spread.{spread}
@@ -13,6 +13,3 @@ invariant-loop-k l =
     × (l.to ≡ l.out_at + l.step * l.k)
     × (l.scratch ≡ spread l.initial.scratch l.out_at l.step l.k (ntt_row l.v l.initial.scratch l.at l.n))
     × (length l.scratch ≡ length l.initial.scratch)
-
-abbrev pub decreases-loop-k : goal.decreases-loop-k
-decreases-loop-k l = l.count - l.k

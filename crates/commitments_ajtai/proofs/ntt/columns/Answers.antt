@@ -19,14 +19,13 @@ loop-k-init c = (omega arith, omega arith, omega arith, columns_none _ _ _ _ _ (
 pub to_ntt_form-requires : goal.to_ntt_form-requires
 to_ntt_form-requires c =
     let s = c.args in
-    (c.twiddles-w.ensures, omega (arith, rows-within c.loop-k.k s.width s.n (omega arith)), omega arith)
+    (omega (arith, rows-within c.loop-k.k s.width s.n (omega arith)), omega arith)
 
 pub column-requires : goal.column-requires
 column-requires c =
     let s = c.args in
     let l = c.loop-k in
     let size = l.invariant.3.size in (
-      c.twiddles-w.ensures,
       ntt_form-values _ 0 s.matrix.now l.start s.n c.to_ntt_form.ensures.ntt_form,
       values_same s.scratch.now l.scratch s.at (s.r * s.n) s.out_at size (λ x h. l.invariant.3.outside x (inl h)) (omega arith) c.requires.1,
       (omega arith, λ i h. omega (arith, size, rows-within i s.r s.width h), omega arith, omega arith, omega arith),

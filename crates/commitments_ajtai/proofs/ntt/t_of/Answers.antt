@@ -32,4 +32,4 @@ pub overflow_mul-r : goal.overflow_mul-r
 overflow_mul-r c = omega (arith, product_bound c.args.r c.args.n (omega arith) (omega arith))
 
 pub to_ntt_form-requires : goal.to_ntt_form-requires
-to_ntt_form-requires c = (c.twiddles-w.ensures, omega arith, omega arith)
+to_ntt_form-requires c = (omega arith, omega arith)

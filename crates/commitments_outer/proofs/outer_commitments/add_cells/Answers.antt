@@ -106,6 +106,3 @@ overflow_mul-block c = omega (arith, c.requires.1.few_parts)
 
 pub overflow_add-place : goal.overflow_add-place
 overflow_add-place c = omega (arith, c.requires.1.within)
-
-pub overflow_add-c : goal.overflow_add-c
-overflow_add-c c = omega (arith, c.requires.1.few_cells)

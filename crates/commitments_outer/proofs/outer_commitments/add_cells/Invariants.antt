@@ -19,6 +19,3 @@ invariant-loop-c l =
     × (length l.out ≡ length l.initial.out)
     × (length l.digits ≡ 2048)
     × (length l.forms ≡ 4096)
-
-abbrev pub decreases-loop-c : goal.decreases-loop-c
-decreases-loop-c l = l.cells - l.c

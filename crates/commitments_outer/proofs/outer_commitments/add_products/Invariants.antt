@@ -15,6 +15,3 @@ invariant-loop-k l =
     × (l.place ≡ l.out_at + 64 * k)
     × (l.out ≡ splice l.initial.out l.out_at (flat (table k (λ k. run l.initial.out l.out_at 64 k ⊕ dot l.n (run l.matrix (l.m_at + l.m_step * k) 64) (run l.v 0 64)))))
     × (length l.out ≡ length l.initial.out)
-
-abbrev pub decreases-loop-k : goal.decreases-loop-k
-decreases-loop-k l = l.rows - l.k

@@ -1,6 +1,6 @@
 -- `omega_ones` meets its contract. The invariant: the regions of the first k are stored.
 use mathlib.Core.Path.{◌≡◌}
-use Prim.Native.Nat.{◌+◌, ◌-◌, ◌*◌, ◌≤◌}
+use Prim.Native.Nat.{◌+◌, ◌*◌, ◌≤◌}
 use lib.ListN.{length}
 use Rattle.math.specs.lists.Table.{cat}
 use Rattle.math.specs.lists.Part.{splice}
@@ -15,6 +15,3 @@ invariant-loop-k l =
     × (l.place ≡ l.to + 64 * (l.k * (l.r * l.n)))
     × (l.out ≡ splice l.initial.out l.to (flat (cat l.k (omega_rows l.randomness l.pi_at l.omega_at l.r l.n))))
     × (length l.out ≡ length l.initial.out)
-
-abbrev pub decreases-loop-k : goal.decreases-loop-k
-decreases-loop-k l = l.aggregations - l.k

@@ -1,6 +1,6 @@
 -- `omega_parts` meets its contract. The invariant: the first i vectors are stored.
 use mathlib.Core.Path.{◌≡◌}
-use Prim.Native.Nat.{◌+◌, ◌-◌, ◌*◌, ◌≤◌}
+use Prim.Native.Nat.{◌+◌, ◌*◌, ◌≤◌}
 use lib.ListN.{length}
 use Rattle.math.specs.lists.Part.{splice}
 use Rattle.core_jl_transpose.specs.Omega.{omega_element}
@@ -14,6 +14,3 @@ invariant-loop-i l =
     × (l.place ≡ l.to + 64 * (i * l.n))
     × (l.out ≡ splice l.initial.out l.to (flat (rows i l.n (λ i. omega_element l.randomness (l.pi_at + i * 256 * (64 * l.n)) l.omega_at l.n))))
     × (length l.out ≡ length l.initial.out)
-
-abbrev pub decreases-loop-i : goal.decreases-loop-i
-decreases-loop-i l = l.r - l.i

@@ -11,31 +11,30 @@ use Rattle.core_aggregate_ntt.proofs.forms.add_column.Goals as goal
 
 pub loop-k-init : goal.loop-k-init
 loop-k-init c =
-    (omega arith, omega arith, omega arith, terms-none _ _ _ _ _ _ c.requires.2.whole, refl, forms-none _ _ _ _ _, refl)
+    (omega arith, omega arith, omega arith, terms-none _ _ _ _ _ _ c.requires.1.whole, refl, forms-none _ _ _ _ _, refl)
 
 pub add_both-requires : goal.add_both-requires
 add_both-requires c =
     let s = c.args in
     let l = c.loop-k in
     let more : l.k < s.run.count = omega arith in (
-      c.requires.0,
       (
-        omega (arith, c.requires.1.0.within l.k more),
-        one_value s.weights.now s.weights_at s.run.count l.k l.weight c.requires.1.1 more l.invariant.2,
-        c.requires.1.2,
+        omega (arith, c.requires.0.0.within l.k more),
+        one_value s.weights.now s.weights_at s.run.count l.k l.weight c.requires.0.1 more l.invariant.2,
+        c.requires.0.2,
       ),
-      terms-small s.sums.now s.weights.now s.weights_at s.from.now s.run.at s.run.step l.sums s.run.count l.k l.invariant.3 more c.requires.1.1
-          (λ j. omega (arith, c.type_inv.from j)) c.requires.2,
-      form_small s.forms.now s.from.now s.run.at s.run.step s.s.now l.forms s.run.count l.k l.invariant.5 more c.requires.3,
+      terms-small s.sums.now s.weights.now s.weights_at s.from.now s.run.at s.run.step l.sums s.run.count l.k l.invariant.3 more c.requires.0.1
+          (λ j. omega (arith, c.type_inv.from j)) c.requires.1,
+      form_small s.forms.now s.from.now s.run.at s.run.step s.s.now l.forms s.run.count l.k l.invariant.5 more c.requires.2,
     )
 
 pub overflow_add-i : goal.overflow_add-i
 overflow_add-i c =
-    omega (arith, c.requires.1.0.within c.loop-k.k (omega arith), c.requires.1.0.near)
+    omega (arith, c.requires.0.0.within c.loop-k.k (omega arith), c.requires.0.0.near)
 
 pub overflow_add-weight : goal.overflow_add-weight
 overflow_add-weight c =
-    omega (arith, c.requires.1.1.within)
+    omega (arith, c.requires.0.1.within)
 
 pub loop-k-preserved : goal.loop-k-preserved
 loop-k-preserved c =
@@ -48,7 +47,7 @@ loop-k-preserved c =
       omega arith,
       omega arith,
       e,
-      omega (arith, terms-length s.sums.now s.weights.now s.weights_at s.from.now s.run.at s.run.step _ (l.k + 1) e, c.requires.2.whole),
+      omega (arith, terms-length s.sums.now s.weights.now s.weights_at s.from.now s.run.at s.run.step _ (l.k + 1) e, c.requires.1.whole),
       forms-next s.forms.now s.from.now s.run.at s.run.step s.s.now l.forms _ l.k l.i l.invariant.5 l.invariant.1 made.forms_after,
       length_filled _ _ _ _ made.forms_after ∙ l.invariant.6,
     )

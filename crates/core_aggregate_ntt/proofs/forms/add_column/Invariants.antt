@@ -1,6 +1,6 @@
 -- `add_column` meets its contract. The invariant: the terms of the first k are added, and the places stand at the next.
 use mathlib.Core.Path.{◌≡◌}
-use Prim.Native.Nat.{◌+◌, ◌-◌, ◌*◌, ◌≤◌}
+use Prim.Native.Nat.{◌+◌, ◌*◌, ◌≤◌}
 use lib.ListN.{length}
 use Rattle.math.specs.lists.Part.{splice}
 use Rattle.core_aggregate_ntt.specs.Terms.{terms_added}
@@ -16,6 +16,3 @@ invariant-loop-k l =
     × (length l.sums ≡ length l.initial.sums)
     × (l.forms ≡ splice l.initial.forms 0 (forms_added l.initial.forms l.from l.initial.i l.step l.k l.s))
     × (length l.forms ≡ length l.initial.forms)
-
-abbrev pub decreases-loop-k : goal.decreases-loop-k
-decreases-loop-k l = l.count - l.k

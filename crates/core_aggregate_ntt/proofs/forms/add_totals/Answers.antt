@@ -33,6 +33,3 @@ returns c = stored-all _ _ _ _ _ _ c.loop-k.invariant.1 (omega arith)
 
 pub loop-k-init : goal.loop-k-init
 loop-k-init c = (omega arith, stored-none _ _ _, refl)
-
-pub inverse-e-requires : goal.inverse-e-requires
-inverse-e-requires c = (c.requires.0, omega arith)

@@ -9,23 +9,23 @@ use Rattle.core_aggregate_ntt.proofs.Terms.{term_made, term-room}
 use Rattle.core_aggregate_ntt.proofs.mix.add_term.Goals as goal
 
 pub store_ntt_form-requires : goal.store_ntt_form-requires
-store_ntt_form-requires c = (c.requires.0, omega (arith, length-replicate {A = ℕ} 192 0))
+store_ntt_form-requires c = omega (arith, length-replicate {A = ℕ} 192 0)
 
 pub add_product-requires : goal.add_product-requires
 add_product-requires c =
     let s = c.args in
     let stored = c.store_ntt_form.ensures in
     let loaded = c.load.ensures in (
-      omega (arith, c.requires.3.whole),
-      omega (arith, c.requires.2.within),
+      omega (arith, c.requires.2.whole),
+      omega (arith, c.requires.1.within),
       omega (arith, length_filled _ _ _ _ stored, length-replicate {A = ℕ} 192 0),
       term-room (part s.from.now s.at 64) _ _ loaded stored s.sums.now s.weights.now s.weight
           (part-words s.from.now (λ j. omega (arith, c.type_inv.from j)) s.at)
-          c.requires.2 c.requires.3,
+          c.requires.1 c.requires.2,
     )
 
 pub returns : goal.returns
 returns c =
     let s = c.args in
     term_made (part s.from.now s.at 64) _ _ c.load.ensures
-    c.store_ntt_form.ensures s.sums.now _ s.weights.now s.weight c.requires.3.whole c.add_product.ensures
+    c.store_ntt_form.ensures s.sums.now _ s.weights.now s.weight c.requires.2.whole c.add_product.ensures

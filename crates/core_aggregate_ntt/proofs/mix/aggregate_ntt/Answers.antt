@@ -14,7 +14,7 @@ use Rattle.core_aggregate_ntt.proofs.mix.aggregate_ntt.Goals as goal
 pub weights_to_ntt_form-requires : goal.weights_to_ntt_form-requires
 weights_to_ntt_form-requires c =
     let p = c.requires in
-    (c.twiddles-w.ensures, (p.0.1, p.0.2, p.1, omega (arith, length-replicate {A = ℕ} 18432 0)))
+    (p.0.1, p.0.2, p.1, omega (arith, length-replicate {A = ℕ} 18432 0))
 
 pub mix_all-requires : goal.mix_all-requires
 mix_all-requires c =
@@ -22,7 +22,7 @@ mix_all-requires c =
     let p = c.requires in
     let transformed = c.weights_to_ntt_form.ensures in
     let values = both_values _ s.weights.now s.alpha s.beta s.constraints.count s.aggregated.count transformed.0 transformed.1 in
-    (c.twiddles-w.ensures, (p.0.0, p.0.3, p.0.4, p.0.5, values, omega arith))
+    (p.0.0, p.0.3, p.0.4, p.0.5, values, omega arith)
 
 pub returns : goal.returns
 returns c =

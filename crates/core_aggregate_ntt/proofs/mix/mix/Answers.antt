@@ -10,24 +10,23 @@ pub add_terms-requires : goal.add_terms-requires
 add_terms-requires c =
     let s = c.args in
     let p = c.requires in
-    (p.0, p.1.0, values-first s.weights.now 0 (s.constraints.count + s.aggregated.count) s.constraints.count (omega arith) p.1.2, none-small s.constraints.count (omega arith))
+    (p.0, values-first s.weights.now 0 (s.constraints.count + s.aggregated.count) s.constraints.count (omega arith) p.2, none-small s.constraints.count (omega arith))
 
 pub add_terms-requires-2 : goal.add_terms-requires-2
 add_terms-requires-2 c =
     let s = c.args in
     let p = c.requires in (
-      p.0,
-      p.1.1,
-      values-last s.weights.now s.constraints.count s.aggregated.count p.1.2,
+      p.1,
+      values-last s.weights.now s.constraints.count s.aggregated.count p.2,
       terms-after s.weights.now s.job.now s.constraints.at s.constraints.step _ s.constraints.count s.aggregated.count c.add_terms.ensures
-          p.1.2 (omega arith)
+          p.2 (omega arith)
           (λ j. omega (arith, c.type_inv.job j)),
     )
 
 pub inverse-requires : goal.inverse-requires
 inverse-requires c =
     let size = terms-length _ _ _ _ _ _ _ _ c.add_terms-2.ensures in
-    (c.requires.0, omega (arith, size))
+    omega (arith, size)
 
 pub returns : goal.returns
 returns c =

@@ -1,11 +1,12 @@
-use mathlib.Core.Path.{refl, ◌∙◌, ap}
+use mathlib.Core.Path.{refl, sym, ◌∙◌, ap, ap₂, subst}
 use native.Mathlib.Omega.{arith}
 use lib.ListN.{length}
 use Rattle.math.proofs.lists.Splice.{length-splice}
 use Rattle.spec_leaves.specs.Ring.{words}
 use Rattle.spec_protocol.proofs.Stored.{stored-none, stored_next, stored-all}
-use Rattle.ring_inner_product.specs.Run.{further}
+use Rattle.ring_inner_product.specs.Run.{Within, further}
 use Rattle.core_aggregate.proofs.Grid.{rows_run, rows_same, row_ends}
+use Rattle.core_aggregate_ntt.specs.Terms.{ntt_mixed}
 use Rattle.core_aggregate_ntt.proofs.Mixed.{ntt_mixed-before}
 use Rattle.core_aggregate_ntt.proofs.mix.mix_all.Goals as goal
 
@@ -14,13 +15,10 @@ mix-e-requires c =
     let s = c.args in
     let h = c.requires in
     let l = c.loop-c in (
-      h.0,
-      (
-        rows_run s.job.now s.constraints s.width l.c h.1.0 (omega arith) (omega arith),
-        rows_run l.scratch s.aggregated s.width l.c (rows_same _ _ _ _ l.invariant.2 h.1.1) (omega arith) (omega arith),
-        h.1.4,
-        h.1.5,
-      ),
+      subst (Within s.job.now) (sym c.further-constraint.ensures) (rows_run s.job.now s.constraints s.width l.c h.0 (omega arith) (omega arith)),
+      subst (Within l.scratch) (sym c.further-one.ensures) (rows_run l.scratch s.aggregated s.width l.c (rows_same _ _ _ _ l.invariant.2 h.1) (omega arith) (omega arith)),
+      (rw (c.further-constraint.ensures, c.further-one.ensures) h.4),
+      (rw (c.further-constraint.ensures, c.further-one.ensures) h.5),
     )
 
 pub loop-c-preserved : goal.loop-c-preserved
@@ -28,8 +26,10 @@ loop-c-preserved c =
     let s = c.args in
     let h = c.requires in
     let l = c.loop-c in
-    let e = c.mix-e.ensures ∙ ap words (ntt_mixed-before _ _ _ _ (further s.aggregated l.c) _ s.to _ l.invariant.1
-    (λ m i. row_ends s.aggregated s.width s.to l.c m h.1.1.1 h.1.2 (omega arith) i)) in
+    let e = c.mix-e.ensures
+    ∙ ap₂ (λ x y. words (ntt_mixed s.job.now x l.scratch y s.weights.now)) c.further-constraint.ensures c.further-one.ensures
+    ∙ ap words (ntt_mixed-before _ _ _ _ (further s.aggregated l.c) _ s.to _ l.invariant.1
+    (λ m i. row_ends s.aggregated s.width s.to l.c m h.1.1 h.2 (omega arith) i)) in
     let w = c.store.ensures ∙ stored_next _ _ _ l.c _ _ l.invariant.1 e in
     (omega arith, w, ap length w ∙ length-splice _ _ _)
 

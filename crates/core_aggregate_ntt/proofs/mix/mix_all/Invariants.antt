@@ -1,6 +1,6 @@
 -- `mix_all` meets its contract. The invariant: the first c elements are stored, and what they are made of is as it was.
 use mathlib.Core.Path.{◌≡◌}
-use Prim.Native.Nat.{◌-◌, ◌≤◌}
+use Prim.Native.Nat.{◌≤◌}
 use lib.ListN.{length}
 use Rattle.math.specs.lists.Table.{table}
 use Rattle.math.specs.lists.Part.{splice}
@@ -14,6 +14,3 @@ invariant-loop-c l =
     let c = l.c in (c ≤ l.width)
     × (l.scratch ≡ splice l.initial.scratch l.to (flat (table c (λ c. ntt_mixed l.job (further l.constraints c) l.initial.scratch (further l.aggregated c) l.weights))))
     × (length l.scratch ≡ length l.initial.scratch)
-
-abbrev pub decreases-loop-c : goal.decreases-loop-c
-decreases-loop-c l = l.width - l.c

@@ -11,14 +11,13 @@ pub to_ntt_form-requires : goal.to_ntt_form-requires
 to_ntt_form-requires c =
     let s = c.args in
     let first = c.first_of-first.ensures in
-    (c.requires.0, first-end s.weights.now s.alpha s.alphas _ c.requires.1.0 first.0 first.1, omega arith)
+    (first-end s.weights.now s.alpha s.alphas _ c.requires.0 first.0 first.1, omega arith)
 
 pub to_ntt_form-requires-2 : goal.to_ntt_form-requires-2
 to_ntt_form-requires-2 c =
     let s = c.args in
     let second = c.first_of-second.ensures in (
-      c.requires.0,
-      first-end s.weights.now s.beta s.betas _ c.requires.1.1 second.0 second.1,
+      first-end s.weights.now s.beta s.betas _ c.requires.1 second.0 second.1,
       omega (arith, length_filled _ _ _ _ c.to_ntt_form.ensures.out_after),
     )
 

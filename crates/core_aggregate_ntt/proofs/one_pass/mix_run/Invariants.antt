@@ -1,6 +1,6 @@
 -- `mix_run` meets its contract. The invariant: the first m elements are stored, and the sums of every k are those of m products.
 use mathlib.Core.Path.{◌≡◌}
-use Prim.Native.Nat.{◌-◌, ◌≤◌}
+use Prim.Native.Nat.{◌≤◌}
 use lib.ListN.{length}
 use Rattle.math.specs.lists.Table.{table}
 use Rattle.math.specs.lists.Part.{splice}
@@ -16,6 +16,3 @@ invariant-loop-m l =
     × (length l.scratch ≡ length l.initial.scratch)
     × (length l.forms ≡ 6144)
     × Lines l.initial.scratch l.aggregated l.witness l.s_at l.forms l.m
-
-abbrev pub decreases-loop-m : goal.decreases-loop-m
-decreases-loop-m l = l.n - l.m

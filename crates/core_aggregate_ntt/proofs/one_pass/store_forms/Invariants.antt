@@ -1,6 +1,6 @@
 -- `store_forms` meets its contract. The invariant: the first k elements are stored, and what they are made of is as it was.
 use mathlib.Core.Path.{◌≡◌}
-use Prim.Native.Nat.{◌+◌, ◌-◌, ◌*◌, ◌≤◌}
+use Prim.Native.Nat.{◌+◌, ◌*◌, ◌≤◌}
 use lib.ListN.{length}
 use Rattle.math.specs.lists.Table.{table}
 use Rattle.math.specs.lists.Part.{splice}
@@ -15,6 +15,3 @@ invariant-loop-k l =
     × (l.a ≡ l.a_at + 64 * (l.k * triangular l.r))
     × (l.scratch ≡ splice l.initial.scratch l.to (flat (table l.k (formed_with l.initial.scratch l.a_at l.g_at l.r l.totals))))
     × (length l.scratch ≡ length l.initial.scratch)
-
-abbrev pub decreases-loop-k : goal.decreases-loop-k
-decreases-loop-k l = l.count - l.k

@@ -21,7 +21,6 @@ g_row-requires c =
     let cells = ntt_gram s.scratch.now s.at s.n in
     let within = rows-within l.i s.r s.n (omega arith) in
     let few : (l.i + 1) * s.n ≤ s.r * s.n = omega (arith, within) in (
-      c.twiddles-w.ensures,
       values-first l.scratch s.at (s.r * s.n) ((l.i + 1) * s.n) few
           (values-before s.scratch.now l.scratch s.out_at (flat (triangle l.i cells)) s.at (s.r * s.n) l.invariant.2 (omega arith) c.requires.0),
       (omega (arith, few), omega (arith, triangle-within l.i s.r (omega arith))),

@@ -1,6 +1,6 @@
 -- `compute_g` meets its contract. The invariant: the first i rows are stored, and the place stands at the next row.
 use mathlib.Core.Path.{◌≡◌}
-use Prim.Native.Nat.{◌+◌, ◌-◌, ◌*◌, ◌≤◌}
+use Prim.Native.Nat.{◌+◌, ◌*◌, ◌≤◌}
 use lib.ListN.{length}
 use Rattle.math.specs.lists.Part.{splice}
 use Rattle.spec_protocol.specs.Parameters.{triangular}
@@ -15,6 +15,3 @@ invariant-loop-i l =
     × (l.scratch ≡ splice l.initial.scratch l.out_at (flat (triangle l.i (ntt_gram l.initial.scratch l.at l.n))))
     × (length l.scratch ≡ length l.initial.scratch)
     × (length l.buffer ≡ 12288)
-
-abbrev pub decreases-loop-i : goal.decreases-loop-i
-decreases-loop-i l = l.r - l.i

@@ -13,25 +13,24 @@ use Rattle.core_garbage_ntt.proofs.g.g_row.Goals as goal
 pub copy-requires : goal.copy-requires
 copy-requires c =
     let s = c.args in
-    (omega arith, omega (arith, c.requires.1.within, rows-within s.i (s.i + 1) s.n (omega arith)))
+    (omega arith, omega (arith, c.requires.0.within, rows-within s.i (s.i + 1) s.n (omega arith)))
 
 pub row-requires : goal.row-requires
 row-requires c =
     let s = c.args in
-    let within : s.at + 192 * (s.i * s.n) + 192 * s.n ≤ length s.scratch.now = omega (arith, c.requires.1.within, rows-within s.i (s.i + 1) s.n (omega arith)) in (
-      c.requires.0,
+    let within : s.at + 192 * (s.i * s.n) + 192 * s.n ≤ length s.scratch.now = omega (arith, c.requires.0.within, rows-within s.i (s.i + 1) s.n (omega arith)) in (
       values_copied s.buffer.now _ s.scratch.now (s.at + 192 * (s.i * s.n)) s.n c.copy.ensures (omega arith) within
-          (vector-values s.scratch.now s.at (s.i + 1) s.n s.i (s.at + 192 * (s.i * s.n)) c.requires.1 (omega arith) refl),
+          (vector-values s.scratch.now s.at (s.i + 1) s.n s.i (s.at + 192 * (s.i * s.n)) c.requires.0 (omega arith) refl),
+      c.requires.0,
+      omega arith,
+      omega arith,
       c.requires.1,
-      omega arith,
-      omega arith,
-      c.requires.2,
     )
 
 pub returns : goal.returns
 returns c =
     let s = c.args in
-    let within : s.at + 192 * (s.i * s.n) + 192 * s.n ≤ length s.scratch.now = omega (arith, c.requires.1.within, rows-within s.i (s.i + 1) s.n (omega arith)) in
+    let within : s.at + 192 * (s.i * s.n) + 192 * s.n ≤ length s.scratch.now = omega (arith, c.requires.0.within, rows-within s.i (s.i + 1) s.n (omega arith)) in
     let copied = c.copy.ensures in record {
       scratch_after = c.row.ensures
           ∙ ap (λ cells. splice s.scratch.now s.out_at (flat cells))

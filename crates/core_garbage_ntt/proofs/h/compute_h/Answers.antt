@@ -13,7 +13,6 @@ use Rattle.core_garbage_ntt.proofs.h.compute_h.Goals as goal
 
 pub to_ntt_form-requires : goal.to_ntt_form-requires
 to_ntt_form-requires c = (
-  c.twiddles-w.ensures,
   omega arith,
   omega
       (arith, product_bound c.args.r c.args.r (omega arith) (omega arith)),

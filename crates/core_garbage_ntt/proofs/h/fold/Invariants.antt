@@ -1,6 +1,6 @@
 -- `fold` meets its contract. The invariant: the first i rows are stored, and the place stands at the next row.
 use mathlib.Core.Path.{◌≡◌}
-use Prim.Native.Nat.{◌+◌, ◌-◌, ◌*◌, ◌≤◌}
+use Prim.Native.Nat.{◌+◌, ◌*◌, ◌≤◌}
 use lib.ListN.{length}
 use Rattle.math.specs.lists.Part.{splice}
 use Rattle.spec_protocol.specs.Parameters.{triangular}
@@ -14,6 +14,3 @@ invariant-loop-i l =
     × (l.place ≡ l.out_at + 64 * triangular l.i)
     × (l.scratch ≡ splice l.initial.scratch l.out_at (flat (triangle l.i (both_ways l.initial.scratch l.square l.r))))
     × (length l.scratch ≡ length l.initial.scratch)
-
-abbrev pub decreases-loop-i : goal.decreases-loop-i
-decreases-loop-i l = l.r - l.i

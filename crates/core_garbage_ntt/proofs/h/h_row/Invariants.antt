@@ -1,6 +1,6 @@
 -- `h_row` meets its contract. The invariant: the first j cells are stored, and the places stand at the next.
 use mathlib.Core.Path.{◌≡◌}
-use Prim.Native.Nat.{◌+◌, ◌-◌, ◌*◌, ◌≤◌}
+use Prim.Native.Nat.{◌+◌, ◌*◌, ◌≤◌}
 use lib.ListN.{length}
 use Rattle.math.specs.lists.Table.{table}
 use Rattle.math.specs.lists.Part.{splice}
@@ -16,6 +16,3 @@ invariant-loop-j l =
     × (l.place ≡ l.out_at + 64 * l.j)
     × (l.scratch ≡ splice l.initial.scratch l.out_at (flat (table l.j (both_ways l.initial.scratch l.square l.r l.i))))
     × (length l.scratch ≡ length l.initial.scratch)
-
-abbrev pub decreases-loop-j : goal.decreases-loop-j
-decreases-loop-j l = l.i + 1 - l.j

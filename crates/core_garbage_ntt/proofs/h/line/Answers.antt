@@ -10,9 +10,8 @@ use Rattle.core_garbage_ntt.proofs.h.line.Goals as goal
 pub row-requires : goal.row-requires
 row-requires c =
     let s = c.args in (
-      c.requires.0,
       ntt_form-values _ 0 s.scratch.now s.phi_at s.n c.to_ntt_form.ensures.ntt_form,
-      c.requires.1,
+      c.requires.0,
       omega arith,
       omega arith,
       (omega arith, omega arith),
@@ -29,4 +28,4 @@ returns c =
     }
 
 pub to_ntt_form-requires : goal.to_ntt_form-requires
-to_ntt_form-requires c = (c.requires.0, omega arith, omega arith)
+to_ntt_form-requires c = (omega arith, omega arith)

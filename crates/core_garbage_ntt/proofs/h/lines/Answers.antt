@@ -25,7 +25,6 @@ line-requires c =
     let l = c.loop-i in
     let across = rows-within l.i s.r s.r (omega arith) in
     let within = rows-within l.i s.r s.n (omega arith) in (
-      c.twiddles-w.ensures,
       values-before s.scratch.now l.scratch s.out_at (flat (rows l.i s.r (ntt_line s.scratch.now s.phi_at s.at s.n))) s.at (s.r * s.n)
           l.invariant.3 (omega arith) c.requires.0,
       (omega arith, omega (arith, across), omega (arith, within), omega arith, omega arith, omega arith),

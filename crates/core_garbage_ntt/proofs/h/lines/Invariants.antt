@@ -1,6 +1,6 @@
 -- `lines` meets its contract. The invariant: the first i rows are stored, and the places stand at the next vector and row.
 use mathlib.Core.Path.{◌≡◌}
-use Prim.Native.Nat.{◌+◌, ◌-◌, ◌*◌, ◌≤◌}
+use Prim.Native.Nat.{◌+◌, ◌*◌, ◌≤◌}
 use lib.ListN.{length}
 use Rattle.math.specs.lists.Part.{splice}
 use Rattle.spec_protocol.specs.Formulas.{flat, rows}
@@ -15,6 +15,3 @@ invariant-loop-i l =
     × (l.scratch ≡ splice l.initial.scratch l.out_at (flat (rows l.i l.r (ntt_line l.initial.scratch l.phi_at l.at l.n))))
     × (length l.scratch ≡ length l.initial.scratch)
     × (length l.buffer ≡ 12288)
-
-abbrev pub decreases-loop-i : goal.decreases-loop-i
-decreases-loop-i l = l.r - l.i

@@ -1,16 +1,11 @@
--- `compute_g` meets its contract. The invariant: the first i rows are stored, and the place stands at the next row.
+-- `compute_g` meets its contract. The invariant: the first i rows are stored.
 use mathlib.Core.Path.{◌≡◌}
-use Prim.Native.Nat.{◌+◌, ◌-◌, ◌*◌, ◌≤◌}
 use lib.ListN.{length}
 use Rattle.math.specs.lists.Part.{splice}
-use Rattle.spec_protocol.specs.Parameters.{triangular}
 use Rattle.spec_protocol.specs.Formulas.{flat, triangle}
 use Rattle.ring_rq_matrix.specs.Region.{gram}
 use Rattle.core_garbage_polynomials.proofs.g.compute_g.Given as goal
 
 abbrev pub invariant-loop-i : goal.invariant-loop-i
 invariant-loop-i l =
-    (l.i ≤ l.r) × (l.place ≡ l.out_at + 64 * triangular l.i) × (l.out ≡ splice l.initial.out l.out_at (flat (triangle l.i (gram l.s l.s_at l.n)))) × (length l.out ≡ length l.initial.out)
-
-abbrev pub decreases-loop-i : goal.decreases-loop-i
-decreases-loop-i l = l.r - l.i
+    (l.out ≡ splice l.initial.out l.out_at (flat (triangle l.i (gram l.s l.s_at l.n)))) × (length l.out ≡ length l.initial.out)

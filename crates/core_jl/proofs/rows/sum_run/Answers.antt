@@ -17,7 +17,7 @@ loop-i-init c =
     let s = c.args in
     let none = none_made s.randomness.now s.pi_at s.witness.now s.s_at s.n s.first in
     let made : ℕ → List ℕ = λ k. table 256 (made_sum s.randomness.now s.pi_at s.witness.now s.s_at s.n s.first k) in
-    (omega arith, omega arith, c.requires.1 ∙ none ∙ ap made (sym (sub_self s.first)))
+    (omega arith, c.requires.1 ∙ none ∙ ap made (sym (sub_self s.first)))
 
 -- what the places of vector i need
 pub overflow_add-at : goal.overflow_add-at
@@ -39,7 +39,7 @@ add_vector-requires c =
       omega (arith, matrices-within l.i s.end (64 * s.n) (omega arith)),
       omega (arith, rows-within l.i s.end (64 * s.n) (omega arith)),
       omega arith,
-      made-room s.randomness.now s.pi_at s.witness.now s.s_at s.n s.first l.sums (l.i - s.first) words h.narrow (omega (arith, h.few)) l.invariant.2,
+      made-room s.randomness.now s.pi_at s.witness.now s.s_at s.n s.first l.sums (l.i - s.first) words h.narrow (omega (arith, h.few)) l.invariant.1,
     )
 
 pub loop-i-preserved : goal.loop-i-preserved
@@ -48,15 +48,14 @@ loop-i-preserved c =
     let l = c.loop-i in
     let next : l.i - s.first + 1 ≡ l.i + 1 - s.first = omega arith in (
       omega arith,
-      omega arith,
       c.add_vector.ensures
-          ∙ made-next s.randomness.now s.pi_at s.witness.now s.s_at s.n s.first l.sums (l.i - s.first) l.i l.invariant.2 (omega arith)
+          ∙ made-next s.randomness.now s.pi_at s.witness.now s.s_at s.n s.first l.sums (l.i - s.first) l.i l.invariant.1 (omega arith)
           ∙ ap (λ k. table 256 (made_sum s.randomness.now s.pi_at s.witness.now s.s_at s.n s.first k)) next,
     )
 
 pub shape_of-sums : goal.shape_of-sums
 shape_of-sums c =
-    let made = ap length c.loop-i.invariant.2 ∙ length-table 256 _ in
+    let made = ap length c.loop-i.invariant.1 ∙ length-table 256 _ in
     made ∙ sym (ap length c.requires.1 ∙ length-replicate {A = ℕ} 256 0)
 
 pub returns : goal.returns
@@ -64,7 +63,7 @@ returns c =
     let s = c.args in
     let l = c.loop-i in
     let all : l.i - s.first ≡ s.end - s.first = omega arith in
-    l.invariant.2 ∙ ap (λ k. table 256 (made_sum s.randomness.now s.pi_at s.witness.now s.s_at s.n s.first k)) all
+    l.invariant.1 ∙ ap (λ k. table 256 (made_sum s.randomness.now s.pi_at s.witness.now s.s_at s.n s.first k)) all
 
 pub overflow_mul-at-in-loop-i : goal.overflow_mul-at-in-loop-i
 overflow_mul-at-in-loop-i c = omega (arith, matrices-within c.loop-i.i c.args.end (64 * c.args.n) (omega arith))

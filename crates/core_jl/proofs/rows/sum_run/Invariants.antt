@@ -7,7 +7,4 @@ use Rattle.core_jl.proofs.rows.sum_run.Given as goal
 
 abbrev pub invariant-loop-i : goal.invariant-loop-i
 invariant-loop-i l =
-    (l.first ≤ l.i) × (l.i - l.first ≤ l.end - l.first) × (l.sums ≡ table 256 (made_sum l.randomness l.pi_at l.witness l.s_at l.n l.first (l.i - l.first)))
-
-abbrev pub decreases-loop-i : goal.decreases-loop-i
-decreases-loop-i l = l.end - l.i
+    (l.i - l.first ≤ l.end - l.first) × (l.sums ≡ table 256 (made_sum l.randomness l.pi_at l.witness l.s_at l.n l.first (l.i - l.first)))

@@ -1,5 +1,5 @@
 -- `four_places` meets its contract. The invariant: the first w places are stored.
-use Rattle.std.proofs.Common.{◌≡◌, ◌+◌, ◌-◌, ◌≤◌, length}
+use Rattle.std.proofs.Common.{◌≡◌, ◌+◌, ◌≤◌, length}
 use Rattle.math.specs.lists.Table.{table}
 use Rattle.math.specs.lists.Part.{splice}
 use Rattle.core_jl_tables.specs.Pairs.{four_place}
@@ -7,6 +7,3 @@ use Rattle.core_jl_tables.proofs.tables.four_places.Given as goal
 
 abbrev pub invariant-loop-w : goal.invariant-loop-w
 invariant-loop-w l = (l.w ≤ 64) × (l.places ≡ splice l.initial.places l.to (table l.w (λ j. four_place l.randomness (l.at + j) l.step))) × (length l.places ≡ length l.initial.places)
-
-abbrev pub decreases-loop-w : goal.decreases-loop-w
-decreases-loop-w l = 64 - l.w

@@ -6,4 +6,4 @@ use Rattle.labrador.proofs.calls.labrador_verify.Goals as goal
 pub returns : goal.returns
 returns c =
     let e = c.verify.ensures in
-    record { answer = c.verdict_of.ensures ∙ ap labrador_verdict e.result_value; scratch_left = e.scratch_after }
+    record { answer = c.from.ensures ∙ ap labrador_verdict e.result_value; scratch_left = e.scratch_after }

@@ -7,7 +7,7 @@ pub returns : goal.returns
 returns c =
     let e = c.load.ensures in
     record {
-      answer = c.answer_of.ensures ∙ ap labrador_answer e.result_value;
+      answer = c.from.ensures ∙ ap labrador_answer e.result_value;
       job_left = e.job_after;
       witness_left = e.witness_after;
       randomness_left = e.randomness_after;

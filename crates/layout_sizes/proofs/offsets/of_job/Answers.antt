@@ -9,13 +9,12 @@ use Rattle.layout_sizes.proofs.Tables.{table-spans}
 use Rattle.layout_sizes.proofs.offsets.of_job.Goals as goal
 
 pub start-requires : goal.start-requires
-start-requires c = let t = c.job_sections.ensures in (omega (arith, t.size), t.few, table-spans t)
+start-requires c = (omega (arith, c.requires.1), table-spans c.job_sections.ensures)
 
 pub overflow_add-result : goal.overflow_add-result
 overflow_add-result c =
-    let t = c.job_sections.ensures in
-    let e = ap (λ l. start l c.args.m) t.lists in
-    omega (arith, c.start.ensures, e, start-within (job_sections (parameters_of c.args.params)) c.args.m (omega (arith, t.size)))
+    let e = ap (λ l. start l c.args.m) c.job_sections.ensures.lists in
+    omega (arith, c.start.ensures, e, start-within (job_sections (parameters_of c.args.params)) c.args.m (omega arith))
 
 pub returns : goal.returns
 returns c = ap (λ n. 31 + n) (c.start.ensures ∙ ap (λ l. start l c.args.m) c.job_sections.ensures.lists)

@@ -6,7 +6,7 @@ use Rattle.layout_sizes.proofs.Tables.{table-spans}
 use Rattle.layout_sizes.proofs.offsets.of_transcript.Goals as goal
 
 pub start-requires : goal.start-requires
-start-requires c = let t = c.transcript_sections.ensures in (omega (arith, t.size), t.few, table-spans t)
+start-requires c = (omega (arith, c.requires.1), table-spans c.transcript_sections.ensures)
 
 pub returns : goal.returns
 returns c = c.start.ensures ∙ ap (λ l. start l c.args.m) c.transcript_sections.ensures.lists

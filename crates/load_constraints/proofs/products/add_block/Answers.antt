@@ -7,7 +7,7 @@ use Rattle.load_constraints.proofs.products.add_block.Goals as goal
 pub add_ntt-requires : goal.add_ntt-requires
 add_ntt-requires c =
     let s = c.args in
-    (c.requires.0, c.requires.1, c.requires.2, ntt_form-values _ 0 s.s.now s.s_at s.n c.to_ntt_form.ensures.ntt_form, omega arith)
+    (c.requires.0, c.requires.1, ntt_form-values _ 0 s.s.now s.s_at s.n c.to_ntt_form.ensures.ntt_form, omega arith)
 
 pub returns : goal.returns
 returns c =

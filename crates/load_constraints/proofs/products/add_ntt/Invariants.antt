@@ -1,6 +1,6 @@
 -- `add_ntt` meets its contract. The invariant: the first k elements are stored, and the places stand at the next.
 use mathlib.Core.Path.{◌≡◌}
-use Prim.Native.Nat.{◌+◌, ◌-◌, ◌*◌, ◌≤◌}
+use Prim.Native.Nat.{◌+◌, ◌*◌}
 use lib.ListN.{length}
 use Rattle.math.specs.lists.Table.{table}
 use Rattle.math.specs.lists.Part.{splice}
@@ -10,11 +10,7 @@ use Rattle.load_constraints.proofs.products.add_ntt.Given as goal
 
 abbrev pub invariant-loop-k : goal.invariant-loop-k
 invariant-loop-k l =
-    (l.k ≤ l.count)
-    × (l.at ≡ l.base + 64 * (l.k * l.m + l.cell))
+    (l.at ≡ l.base + 64 * (l.k * l.m + l.cell))
     × (l.place ≡ l.to + 64 * l.k)
     × (l.job ≡ splice l.initial.job l.to (flat (table l.k (with_line l.initial.job l.base l.m l.to l.cell l.n l.transformed))))
     × (length l.job ≡ length l.initial.job)
-
-abbrev pub decreases-loop-k : goal.decreases-loop-k
-decreases-loop-k l = l.count - l.k

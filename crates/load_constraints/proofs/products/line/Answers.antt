@@ -6,7 +6,7 @@ use Rattle.load_constraints.proofs.products.line.Goals as goal
 
 pub add_terms-requires : goal.add_terms-requires
 add_terms-requires c =
-    (c.requires.0, c.requires.1, c.requires.2, none-small c.args.n (omega arith))
+    (c.requires.0, c.requires.1, none-small c.args.n (omega arith))
 
 pub returns : goal.returns
 returns c =

@@ -14,6 +14,3 @@ invariant-loop-x l =
     × (l.at ≡ l.base + 64 * (l.x * l.m + l.cell))
     × (l.job ≡ splice l.initial.job l.to (table l.x (λ i. zadd (get_or l.initial.job (l.to + i) 0) (dot_at l.coeffs l.initial.job (l.base + 64 * (i * l.m + l.cell))))))
     × (length l.job ≡ length l.initial.job)
-
-abbrev pub decreases-loop-x : goal.decreases-loop-x
-decreases-loop-x l = l.count - l.x

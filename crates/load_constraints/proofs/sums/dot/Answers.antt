@@ -22,7 +22,7 @@ unfolding Σ
 loop-k-init c = (omega arith, refl, omega arith)
 
 pub overflow_mul-sum : goal.overflow_mul-sum
-overflow_mul-sum c = omega (arith, product_max c.wide.ensures.1 c.wide-in-loop-k.ensures.1)
+overflow_mul-sum c = omega (arith, product_max {a = c.from.result} {b = c.from-in-loop-k.result} (omega (arith, c.from.ensures)) (omega (arith, c.from-in-loop-k.ensures)))
 
 pub overflow_add-sum : goal.overflow_add-sum
 overflow_add-sum c = omega (arith, c.loop-k.invariant)
@@ -32,8 +32,8 @@ loop-k-preserved c =
     let s = c.args in
     let l = c.loop-k in (
       omega arith,
-      ap₂ (λ t p. t + p % Q) l.invariant.1 (ap₂ ◌*◌ c.wide.ensures.0 c.wide-in-loop-k.ensures.0) ∙ sym (Σ-suc l.k (λ i. coeff s.coeffs i * get_or s.words.now (s.at + i) 0 % Q)),
-      one_more l.k l.sum (c.wide.result * c.wide-in-loop-k.result) l.invariant.2,
+      ap₂ (λ t p. t + p % Q) l.invariant.1 (ap₂ ◌*◌ c.from.ensures c.from-in-loop-k.ensures) ∙ sym (Σ-suc l.k (λ i. coeff s.coeffs i * get_or s.words.now (s.at + i) 0 % Q)),
+      one_more l.k l.sum (c.from.result * c.from-in-loop-k.result) l.invariant.2,
     )
 
 pub returns : goal.returns

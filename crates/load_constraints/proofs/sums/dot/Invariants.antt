@@ -9,6 +9,3 @@ use Rattle.load_constraints.proofs.sums.dot.Given as goal
 
 abbrev pub invariant-loop-k : goal.invariant-loop-k
 invariant-loop-k l = (l.k ≤ 64) × (l.sum ≡ Σ l.k (λ i. coeff l.coeffs i * get_or l.words (l.at + i) 0 % Q)) × (l.sum ≤ l.k * Q)
-
-abbrev pub decreases-loop-k : goal.decreases-loop-k
-decreases-loop-k l = 64 - l.k

@@ -16,6 +16,3 @@ invariant-loop-k l =
     × (l.place ≡ l.to + 64 * l.k)
     × (l.job ≡ splice l.initial.job l.to (flat (table l.k (λ i. element_at l.initial.job l.to i ⊕ term l.initial.job l.base l.m l.cell l.weight.coeffs i))))
     × (length l.job ≡ length l.initial.job)
-
-abbrev pub decreases-loop-k : goal.decreases-loop-k
-decreases-loop-k l = l.count - l.k

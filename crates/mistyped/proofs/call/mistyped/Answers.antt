@@ -1,5 +1,5 @@
 -- `mistyped` meets its contract.
-use mathlib.Core.Path.{◌≡◌, sym, ap, ◌∙◌}
+use mathlib.Core.Path.{◌≡◌, ap, ◌∙◌}
 use Prim.Native.Nat.{◌*◌}
 use native.Mathlib.Omega.{arith}
 use lib.ListN.{length}
@@ -7,8 +7,7 @@ use Rattle.spec_leaves.specs.Answer.{fine, refused}
 use Rattle.spec_protocol.specs.Parameters.{parameters}
 use Rattle.spec_protocol.specs.Verifier.{verify_refusal}
 use Rattle.spec_protocol.specs.Mistyped.{list_need}
-use Rattle.admission_slices.specs.Admission.{Verifiable, of_admitted}
-use Rattle.verifier.proofs.Whole.{admitted}
+use Rattle.admission_slices.specs.Admission.{Verifiable}
 use Rattle.mistyped.specs.Told.{mistyped_answer}
 use Rattle.mistyped.proofs.Verdicts.{numbered}
 use Rattle.mistyped.proofs.Whole.{first_refusal, short_list, long_list, refused_call, refused-scratch, worked_call, worked-scratch}
@@ -18,18 +17,15 @@ use Rattle.mistyped.proofs.call.mistyped.Goals as goal
 -- a call that the verifier would not refuse before its work
 module _ (c : After-struct_known-1) where
   fit : let s = c.args in Verifiable s.job.now s.randomness.now s.transcript.now
-      (length s.scratch.now) c.in-Fit.params
-  fit =
-      let s = c.args in
-      let e = c.admit.ensures in
-      admitted s.job.now s.randomness.now s.transcript.now s.scratch.now _ e.result_value _ c.in-Fit.is e.at
+      (length s.scratch.now) c.in-Ok.params
+  fit = c.in-Ok.ensures.at
 
   unrefused : let s = c.args in fine ≡ verify_refusal s.job.now s.randomness.now
       s.transcript.now (length s.scratch.now)
-  unrefused = sym (ap of_admitted c.in-Fit.is) ∙ c.admit.ensures.result_value
+  unrefused = c.in-Ok.ensures.result_value
 
   -- the length that the list needs
-  need_is : 2 * c.in-Fit.params.constraint_l ≡ list_need (parameters c.args.job.now)
+  need_is : 2 * c.in-Ok.params.constraint_l ≡ list_need (parameters c.args.job.now)
   need_is = ap (λ P. 2 * P.l) fit.handed.same
 
 pub returns-then-list-need : goal.returns-then-list-need
@@ -46,14 +42,14 @@ pub work-requires : goal.work-requires
 work-requires c =
     let k = (goal.at.work-requires c).After-struct_known-1 in (fit k, c.if-list-need.false)
 
-pub returns-in-Refused : goal.returns-in-Refused
-returns-in-Refused c =
+pub returns-in-Err : goal.returns-in-Err
+returns-in-Err c =
     let s = c.args in
-    let n = numbered c.in-Refused.refusal in
-    let g = sym (ap of_admitted c.in-Refused.is) ∙ c.admit.ensures.result_value in
-    let f = first_refusal s.job.now s.randomness.now s.transcript.now s.scratch.now s.list.now c.in-Refused.refusal g in
+    let n = numbered c.in-Err.refusal in
+    let g = c.in-Err.ensures.result_value in
+    let f = first_refusal s.job.now s.randomness.now s.transcript.now s.scratch.now s.list.now c.in-Err.refusal g in
     record {
-      told = refused_call s.job.now s.randomness.now s.transcript.now s.scratch.now s.list.now (f ∙ n.is) _ (c.refusal_of.ensures ∙ ap (λ a. mistyped_answer a 0) n.is);
+      told = refused_call s.job.now s.randomness.now s.transcript.now s.scratch.now s.list.now (f ∙ n.is) _ (c.from.ensures ∙ ap (λ a. mistyped_answer a 0) n.is);
       scratch_left = refused-scratch s.job.now s.randomness.now s.transcript.now s.scratch.now s.list.now (f ∙ n.is);
     }
 

@@ -3,8 +3,7 @@ use Rattle.mistyped_solve.proofs.Division.{Carried}
 use Rattle.mistyped_solve.proofs.congruence.combine.Given as goal
 
 abbrev pub invariant-loop-lower : goal.invariant-loop-lower
-invariant-loop-lower l =
-    Carried (record { factor = l.initial.lower; value = l.initial.lower_value }) (record { factor = l.initial.upper; value = l.initial.upper_value }) l.upper l.upper_value l.lower l.lower_value
+invariant-loop-lower l = Carried l.fn.first l.fn.second l.upper l.lower
 
 abbrev pub decreases-loop-lower : goal.decreases-loop-lower
-decreases-loop-lower l = l.lower
+decreases-loop-lower l = l.lower.factor

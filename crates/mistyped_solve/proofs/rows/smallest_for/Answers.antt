@@ -16,18 +16,16 @@ combine-requires c =
     let l = c.loop-k in
     (l.invariant.1.reduced, c.requires.by_index l.k (omega arith))
 
-pub returns-in-None : goal.returns-in-None
-returns-in-None c =
-    let j = c.combine in
-    let l = c.loop-k in
+pub returns-in_err-taken : goal.returns-in_err-taken
+returns-in_err-taken c =
     let s = c.args in
-    taken_stop _ _ _ _ l.invariant.1 j.result c.in-None.is j.ensures s.rows (omega arith)
+    rw c.from_residual.ensures (taken_stop _ _ _ _ c.loop-k.invariant.1 c.combine.result c.in_err-taken.was c.combine.ensures s.rows (omega arith))
 
 pub loop-k-preserved : goal.loop-k-preserved
 loop-k-preserved c =
     let j = c.combine in
     let l = c.loop-k in
-    (omega arith, taken_next _ _ _ _ l.invariant.1 j.result c.in-One.both c.in-One.is j.ensures)
+    (omega arith, taken_next _ _ _ _ l.invariant.1 j.result c.in_ok-taken.taken c.in_ok-taken.was j.ensures)
 
 pub returns : goal.returns
 returns c =

@@ -1,10 +1,7 @@
 -- `smallest_for` meets its contract. The loop's invariant: the congruence at hand stands for the rows taken.
-use Prim.Native.Nat.{◌-◌, ◌≤◌}
+use Prim.Native.Nat.{◌≤◌}
 use Rattle.mistyped_solve.proofs.Taken.{Taken}
 use Rattle.mistyped_solve.proofs.rows.smallest_for.Given as goal
 
 abbrev pub invariant-loop-k : goal.invariant-loop-k
-invariant-loop-k l = (l.k ≤ l.rows) × Taken l.randomness l.at l.width l.lacking l.k (record { factor = l.factor; value = l.value })
-
-abbrev pub decreases-loop-k : goal.decreases-loop-k
-decreases-loop-k l = l.rows - l.k
+invariant-loop-k l = (l.k ≤ l.rows) × Taken l.randomness l.at l.width l.lacking l.k l.taken

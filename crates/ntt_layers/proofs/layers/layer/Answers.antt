@@ -1,6 +1,5 @@
 -- `layer` meets its contract.
 use mathlib.Core.Path.{◌≡◌, sym, subst, ◌∙◌, ap}
-use native.Mathlib.Omega.{arith}
 use borrow.Author.Rules.{rules}
 use lib.ListN.{length}
 use Rattle.ntt_layers.specs.Layer.{SpreadFits, spread_of}
@@ -11,16 +10,13 @@ pub spread-requires : goal.spread-requires
 spread-requires c =
     let s = c.args in
     let n : length s.x ≡ 64 = search rules in
-    subst (λ y. SpreadFits s.d y) (sym c.turn.ensures) (spread_fits s.d s.neginv s.w.now s.at s.x n c.requires)
+    subst (λ y. SpreadFits s.prime.delta y) (sym c.turn.ensures) (spread_fits s.prime.delta s.prime.opposite s.w.now s.at s.x n c.requires)
 
 pub returns : goal.returns
 returns c =
     let s = c.args in
     let n : length s.x ≡ 64 = search rules in
-    c.spread.ensures ∙ ap (spread_of s.d) c.turn.ensures ∙ sym (turned-spread s.d s.neginv s.w.now s.at s.x n)
+    c.spread.ensures ∙ ap (spread_of s.prime.delta) c.turn.ensures ∙ sym (turned-spread s.prime.delta s.prime.opposite s.w.now s.at s.x n)
 
 pub turn-requires : goal.turn-requires
 turn-requires c = c.requires.powers
-
-pub overflow_cast-d : goal.overflow_cast-d
-overflow_cast-d c = omega (arith, c.requires.powers.small)

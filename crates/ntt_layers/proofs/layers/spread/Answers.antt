@@ -26,9 +26,9 @@ loop-t-preserved c =
     let h' : 2 * l.t + 1 < 64 = omega arith in
     let more : 2 * l.t + 1 + 1 ≡ 2 * (l.t + 1) = omega arith in (
       omega arith,
-      padded-next 64 0 (spread_at s.d s.x) _ (2 * l.t + 1) _
-          (padded-next 64 0 (spread_at s.d s.x) _ (2 * l.t) _ l.invariant.1 h (sym (spread_at_even s.d s.x l.t))) h' (sym (spread_at_odd s.d s.x l.t))
-          ∙ ap (λ m. padded 64 m 0 (spread_at s.d s.x)) more,
+      padded-next 64 0 (spread_at s.prime.delta s.x) _ (2 * l.t + 1) _
+          (padded-next 64 0 (spread_at s.prime.delta s.x) _ (2 * l.t) _ l.invariant.1 h (sym (spread_at_even s.prime.delta s.x l.t))) h' (sym (spread_at_odd s.prime.delta s.x l.t))
+          ∙ ap (λ m. padded 64 m 0 (spread_at s.prime.delta s.x)) more,
     )
 
 pub returns : goal.returns

@@ -12,9 +12,3 @@ loop-k-preserved c = (omega arith, padded-next 64 0 _ _ _ _ c.loop-k.invariant.1
 pub returns : goal.returns
 unfolding folded_of
 returns c = padded_done 64 0 _ _ _ c.loop-k.invariant.1 (omega arith)
-
-pub overflow_cast-d : goal.overflow_cast-d
-overflow_cast-d c = omega (arith, c.requires)
-
-pub fold_word-requires : goal.fold_word-requires
-fold_word-requires c = c.requires

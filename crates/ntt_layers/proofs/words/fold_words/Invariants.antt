@@ -1,13 +1,10 @@
 -- `fold_words` meets its contract. The invariant: the first k entries are the definition's, and the later ones zero.
 use mathlib.Core.Path.{◌≡◌}
-use Prim.Native.Nat.{◌-◌, ◌≤◌}
+use Prim.Native.Nat.{◌≤◌}
 use lib.ListN.{get_or}
 use Rattle.math.specs.lists.Table.{padded}
 use Rattle.ntt_layers.specs.Fold.{fold}
 use Rattle.ntt_layers.proofs.words.fold_words.Given as goal
 
 abbrev pub invariant-loop-k : goal.invariant-loop-k
-invariant-loop-k l = (l.k ≤ 64) × (l.out ≡ padded 64 l.k 0 (λ i. fold l.d (get_or l.x i 0)))
-
-abbrev pub decreases-loop-k : goal.decreases-loop-k
-decreases-loop-k l = 64 - l.k
+invariant-loop-k l = (l.k ≤ 64) × (l.out ≡ padded 64 l.k 0 (λ i. fold l.prime.delta (get_or l.x i 0)))

@@ -12,10 +12,10 @@ pub crt-requires : goal.crt-requires
 crt-requires c =
     let h = c.requires in
     let k = c.loop-k.k in (
-      omega (arith, c.wide.ensures.0, h.first k (omega arith)),
-      omega (arith, c.wide-in-loop-k.ensures.0, h.second k (omega arith)),
+      omega (arith, c.from.ensures, h.first k (omega arith)),
+      omega (arith, c.from-in-loop-k.ensures, h.second k (omega arith)),
       omega
-          (arith, c.wide-in-loop-k-2.ensures.0, h.third k (omega arith)),
+          (arith, c.from-in-loop-k-2.ensures, h.third k (omega arith)),
     )
 
 pub overflow_cast-out : goal.overflow_cast-out
@@ -28,8 +28,8 @@ loop-k-preserved c =
       omega arith,
       padded-next 64 0 _ _ _ _ l.invariant.1 (omega arith)
           (c.crt.ensures.0
-          ∙ ap₂ (λ x y. crt_of x y c.wide-in-loop-k-2.result) c.wide.ensures.0 c.wide-in-loop-k.ensures.0
-          ∙ ap (crt_of (get_or s.first l.k 0) (get_or s.second l.k 0)) c.wide-in-loop-k-2.ensures.0),
+          ∙ ap₂ (λ x y. crt_of x y c.from-in-loop-k-2.result) c.from.ensures c.from-in-loop-k.ensures
+          ∙ ap (crt_of (get_or s.first l.k 0) (get_or s.second l.k 0)) c.from-in-loop-k-2.ensures),
     )
 
 pub returns : goal.returns

@@ -13,21 +13,21 @@ pub overflow_mul-out : goal.overflow_mul-out
 overflow_mul-out c =
     let s = c.args in
     let k = c.loop-k.k in
-    let e : c.wide.result * c.wide-in-loop-k.result ≡ get_or s.x k 0 * get_or s.y k 0 = ap₂ ◌*◌ c.wide.ensures.0 c.wide-in-loop-k.ensures.0 in
+    let e : c.from.result * c.from-in-loop-k.result ≡ get_or s.x k 0 * get_or s.y k 0 = ap₂ ◌*◌ c.from.ensures c.from-in-loop-k.ensures in
     omega (arith, c.requires k (omega arith))
 
 pub overflow_add-out : goal.overflow_add-out
 overflow_add-out c =
     let s = c.args in
     let k = c.loop-k.k in
-    let e : c.wide.result * c.wide-in-loop-k.result ≡ get_or s.x k 0 * get_or s.y k 0 = ap₂ ◌*◌ c.wide.ensures.0 c.wide-in-loop-k.ensures.0 in
+    let e : c.from.result * c.from-in-loop-k.result ≡ get_or s.x k 0 * get_or s.y k 0 = ap₂ ◌*◌ c.from.ensures c.from-in-loop-k.ensures in
     omega (arith, c.requires k (omega arith))
 
 pub loop-k-preserved : goal.loop-k-preserved
 loop-k-preserved c =
     let s = c.args in
     let k = c.loop-k.k in
-    let e : c.wide.result * c.wide-in-loop-k.result ≡ get_or s.x k 0 * get_or s.y k 0 = ap₂ ◌*◌ c.wide.ensures.0 c.wide-in-loop-k.ensures.0 in
+    let e : c.from.result * c.from-in-loop-k.result ≡ get_or s.x k 0 * get_or s.y k 0 = ap₂ ◌*◌ c.from.ensures c.from-in-loop-k.ensures in
     (omega arith, padded-next 64 0 _ _ _ _ c.loop-k.invariant.1 (omega arith) (ap (λ p. get_or s.s k 0 + p) e))
 
 pub returns : goal.returns

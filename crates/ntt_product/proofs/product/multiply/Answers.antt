@@ -10,12 +10,6 @@ use Rattle.ntt_product.proofs.Residue.{Words}
 use Rattle.ntt_product.proofs.Inner.{first-room, first-sums, one_product}
 use Rattle.ntt_product.proofs.product.multiply.Goals as goal
 
-pub transform-x-requires : goal.transform-x-requires
-transform-x-requires c = c.twiddles-w.ensures
-
-pub transform-y-requires : goal.transform-y-requires
-transform-y-requires c = c.twiddles-w.ensures
-
 pub add_product-sums-requires : goal.add_product-sums-requires
 add_product-sums-requires c =
     let s = c.args in
@@ -27,9 +21,6 @@ add_product-sums-requires c =
       third = first-room 2 (omega arith) s.a s.b _ _ _ wa wb c.no_sums.ensures.2 c.transform-x.ensures.three
           c.transform-y.ensures.three;
     }
-
-pub inverse-requires : goal.inverse-requires
-inverse-requires c = c.twiddles-w.ensures
 
 pub returns : goal.returns
 returns c =

@@ -9,8 +9,8 @@ use Rattle.ntt_layers.specs.Fold.{prime}
 use Rattle.ntt_layers.proofs.Folds.{prime_pos}
 use Rattle.ntt_transform.specs.Roots.{delta, entry, scaled}
 use Rattle.ntt_transform.proofs.Rule.{roots, roots_entry}
-use Rattle.ntt_transform.proofs.Roots.{delta-small, entry-small}
-use Rattle.ntt_transform.proofs.table.scale.Goals.{After-wide}
+use Rattle.ntt_transform.proofs.Roots.{entry-small}
+use Rattle.ntt_transform.proofs.table.scale.Goals.{After-from}
 use Rattle.ntt_transform.proofs.table.scale.Goals as goal
 
 -- 2^32 is 32·d
@@ -22,18 +22,15 @@ scaled_is x d h =
     sums : (x p : ℕ) → p + d ≡ 134217728 → x * (32 * d) + x * 32 * p ≡ x * 4294967296
     sums x p e = omega (arith, ap (λ y. x * y) e)
 
-module _ (c : After-wide) where
-  small : c.args.d ≤ 2175
-  small = omega (arith, c.requires.1, delta-small c.args.i)
-
-  power : c.wide.result ≡ entry (128 * c.args.i + c.loop-e.e)
+module _ (c : After-from) where
+  power : c.from.result ≡ entry (128 * c.args.i + c.loop-e.e)
   unfolding roots
-  power = c.wide.ensures.0 ∙ roots_entry (128 * c.args.i + c.loop-e.e) (omega (arith, c.requires.0))
+  power = c.from.ensures ∙ roots_entry (128 * c.args.i + c.loop-e.e) (omega (arith, c.requires.0))
 
-  product : c.wide.result * (32 * c.args.d) ≤ 134217727 * 69600
+  product : c.from.result * (32 * c.args.prime.delta) ≤ 134217727 * 69600
   product =
-      mul-le-mul {n₁ = c.wide.result} {m₁ = 32 * c.args.d} {n₂ = 134217727} {m₂ = 69600}
-      (omega (arith, power, entry-small (128 * c.args.i + c.loop-e.e))) (omega (arith, small))
+      mul-le-mul {n₁ = c.from.result} {m₁ = 32 * c.args.prime.delta} {n₂ = 134217727} {m₂ = 69600}
+      (omega (arith, power, entry-small (128 * c.args.i + c.loop-e.e))) (omega (arith, c.args.prime.small))
 
 pub loop-e-preserved : goal.loop-e-preserved
 unfolding scaled
@@ -47,8 +44,8 @@ loop-e-preserved c =
       omega arith,
       padded-next 384 0 scaled _ k _ l.invariant.1 (omega (arith, h.0))
           (c.remainder.ensures
-          ∙ scaled_is c.wide.result s.d (small (goal.at.loop-e-preserved c).After-wide)
-          ∙ ap₂ (λ x d. x * 4294967296 % prime d) (power (goal.at.loop-e-preserved c).After-wide) (h.1 ∙ ap delta (sym n)))
+          ∙ scaled_is c.from.result s.prime.delta c.args.prime.small
+          ∙ ap₂ (λ x d. x * 4294967296 % prime d) (power (goal.at.loop-e-preserved c).After-from) (h.1 ∙ ap delta (sym n)))
           ∙ ap (λ m. padded 384 m 0 scaled) more,
       simp length-set l.invariant.2,
     )
@@ -61,37 +58,19 @@ returns c =
 pub loop-e-init : goal.loop-e-init
 loop-e-init c = (omega arith, c.requires.2 ∙ ap (λ m. padded 384 m 0 scaled) (sym (add-zero (128 * c.args.i))), refl)
 
-pub overflow_mul-k : goal.overflow_mul-k
-overflow_mul-k c = omega (arith, c.requires.0)
-
-pub overflow_add-k : goal.overflow_add-k
-overflow_add-k c = omega (arith, c.requires.0)
-
-pub offset_bounds-powers-k : goal.offset_bounds-powers-k
-offset_bounds-powers-k c = omega (arith, c.requires.0)
-
-pub bounds-powers-k : goal.bounds-powers-k
-bounds-powers-k c = omega (arith, c.requires.0)
-
-pub overflow_mul-d : goal.overflow_mul-d
-overflow_mul-d c = omega (arith, small (goal.at.overflow_mul-d c).After-wide)
-
-pub overflow_mul-wide : goal.overflow_mul-wide
-overflow_mul-wide c = omega (arith, product (goal.at.overflow_mul-wide c).After-wide)
+pub overflow_mul-from : goal.overflow_mul-from
+overflow_mul-from c = omega (arith, product (goal.at.overflow_mul-from c).After-from)
 
 pub remainder-requires : goal.remainder-requires
-remainder-requires c = (omega (arith, product (goal.at.remainder-requires c).After-wide), small (goal.at.remainder-requires c).After-wide)
+remainder-requires c = omega (arith, product (goal.at.remainder-requires c).After-from)
 
 pub overflow_cast-out : goal.overflow_cast-out
 overflow_cast-out c = omega (
   arith,
   c.remainder.ensures,
-  mod-lt (c.wide.result * (32 * c.args.d))
-      (prime_pos c.args.d (small (goal.at.overflow_cast-out c).After-wide)),
+  mod-lt (c.from.result * (32 * c.args.prime.delta))
+      (prime_pos c.args.prime.delta c.args.prime.small),
 )
-
-pub offset_bounds-out-k : goal.offset_bounds-out-k
-offset_bounds-out-k c = omega (arith, c.requires.0)
 
 pub bounds-out-k : goal.bounds-out-k
 bounds-out-k c = omega (

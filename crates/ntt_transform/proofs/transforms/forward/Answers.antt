@@ -63,73 +63,55 @@ pub layer-x1-requires : goal.layer-x1-requires
 layer-x1-requires c =
     let s = c.args in
     let words : (k : ℕ) → k < 64 → get_or s.a k 0 < 4294967296 = λ k l. let f : Fits w32 (get_or s.a k 0) = search rules in omega arith in
-    subst (LayerFits s.d s.neginv s.w.now (s.at + 0)) (sym (after0 s.d s.neginv s.w.now s.at (folded_of s.d s.a) c.fold_words-x0.ensures))
-    (layer_fits s.d s.neginv s.w.now s.at c.requires s.a words 0 (omega arith))
+    subst (LayerFits s.prime.delta s.prime.opposite s.w.now (s.at + 0)) (sym (after0 s.prime.delta s.prime.opposite s.w.now s.at (folded_of s.prime.delta s.a) c.fold_words-x0.ensures))
+    (layer_fits s.prime.delta s.prime.opposite s.w.now s.at c.requires s.a words 0 (omega arith))
 
 pub layer-x2-requires : goal.layer-x2-requires
 layer-x2-requires c =
     let s = c.args in
     let words : (k : ℕ) → k < 64 → get_or s.a k 0 < 4294967296 = λ k l. let f : Fits w32 (get_or s.a k 0) = search rules in omega arith in
-    subst (LayerFits s.d s.neginv s.w.now (s.at + 32)) (sym (after1 s.d s.neginv s.w.now s.at (folded_of s.d s.a) c.fold_words-x0.ensures c.layer-x1.ensures))
-    (layer_fits s.d s.neginv s.w.now s.at c.requires s.a words 1 (omega arith))
+    subst (LayerFits s.prime.delta s.prime.opposite s.w.now (s.at + 32)) (sym (after1 s.prime.delta s.prime.opposite s.w.now s.at (folded_of s.prime.delta s.a) c.fold_words-x0.ensures
+    c.layer-x1.ensures))
+    (layer_fits s.prime.delta s.prime.opposite s.w.now s.at c.requires s.a words 1 (omega arith))
 
 pub layer-x3-requires : goal.layer-x3-requires
 layer-x3-requires c =
     let s = c.args in
     let words : (k : ℕ) → k < 64 → get_or s.a k 0 < 4294967296 = λ k l. let f : Fits w32 (get_or s.a k 0) = search rules in omega arith in
-    subst (LayerFits s.d s.neginv s.w.now (s.at + 64)) (sym (after2 s.d s.neginv s.w.now s.at (folded_of s.d s.a) c.fold_words-x0.ensures c.layer-x1.ensures c.layer-x2.ensures))
-    (layer_fits s.d s.neginv s.w.now s.at c.requires s.a words 2 (omega arith))
+    subst (LayerFits s.prime.delta s.prime.opposite s.w.now (s.at + 64)) (sym (after2 s.prime.delta s.prime.opposite s.w.now s.at (folded_of s.prime.delta s.a) c.fold_words-x0.ensures
+    c.layer-x1.ensures c.layer-x2.ensures))
+    (layer_fits s.prime.delta s.prime.opposite s.w.now s.at c.requires s.a words 2 (omega arith))
 
 pub layer-x4-requires : goal.layer-x4-requires
 layer-x4-requires c =
     let s = c.args in
     let words : (k : ℕ) → k < 64 → get_or s.a k 0 < 4294967296 = λ k l. let f : Fits w32 (get_or s.a k 0) = search rules in omega arith in
-    subst (LayerFits s.d s.neginv s.w.now (s.at + 96)) (sym (after3 s.d s.neginv s.w.now s.at (folded_of s.d s.a) c.fold_words-x0.ensures c.layer-x1.ensures c.layer-x2.ensures c.layer-x3.ensures))
-    (layer_fits s.d s.neginv s.w.now s.at c.requires s.a words 3 (omega arith))
+    subst (LayerFits s.prime.delta s.prime.opposite s.w.now (s.at + 96)) (sym (after3 s.prime.delta s.prime.opposite s.w.now s.at (folded_of s.prime.delta s.a) c.fold_words-x0.ensures
+    c.layer-x1.ensures c.layer-x2.ensures c.layer-x3.ensures))
+    (layer_fits s.prime.delta s.prime.opposite s.w.now s.at c.requires s.a words 3 (omega arith))
 
 pub layer-x5-requires : goal.layer-x5-requires
 layer-x5-requires c =
     let s = c.args in
     let words : (k : ℕ) → k < 64 → get_or s.a k 0 < 4294967296 = λ k l. let f : Fits w32 (get_or s.a k 0) = search rules in omega arith in
-    subst (LayerFits s.d s.neginv s.w.now (s.at + 128)) (sym (after4 s.d s.neginv s.w.now s.at (folded_of s.d s.a) c.fold_words-x0.ensures c.layer-x1.ensures c.layer-x2.ensures
+    subst (LayerFits s.prime.delta s.prime.opposite s.w.now (s.at + 128)) (sym (after4 s.prime.delta s.prime.opposite s.w.now s.at (folded_of s.prime.delta s.a) c.fold_words-x0.ensures
+    c.layer-x1.ensures c.layer-x2.ensures
     c.layer-x3.ensures c.layer-x4.ensures))
-    (layer_fits s.d s.neginv s.w.now s.at c.requires s.a words 4 (omega arith))
+    (layer_fits s.prime.delta s.prime.opposite s.w.now s.at c.requires s.a words 4 (omega arith))
 
 pub layer-x6-requires : goal.layer-x6-requires
 layer-x6-requires c =
     let s = c.args in
     let words : (k : ℕ) → k < 64 → get_or s.a k 0 < 4294967296 = λ k l. let f : Fits w32 (get_or s.a k 0) = search rules in omega arith in
-    subst (LayerFits s.d s.neginv s.w.now (s.at + 160)) (sym (after5 s.d s.neginv s.w.now s.at (folded_of s.d s.a) c.fold_words-x0.ensures c.layer-x1.ensures c.layer-x2.ensures
+    subst (LayerFits s.prime.delta s.prime.opposite s.w.now (s.at + 160)) (sym (after5 s.prime.delta s.prime.opposite s.w.now s.at (folded_of s.prime.delta s.a) c.fold_words-x0.ensures
+    c.layer-x1.ensures c.layer-x2.ensures
     c.layer-x3.ensures c.layer-x4.ensures c.layer-x5.ensures))
-    (layer_fits s.d s.neginv s.w.now s.at c.requires s.a words 5 (omega arith))
+    (layer_fits s.prime.delta s.prime.opposite s.w.now s.at c.requires s.a words 5 (omega arith))
 
 pub returns : goal.returns
 unfolding forward_of
 returns c =
     let s = c.args in
-    c.fold_words.ensures ∙ ap (folded_of s.d) (after6 s.d s.neginv s.w.now s.at (folded_of s.d s.a) c.fold_words-x0.ensures c.layer-x1.ensures c.layer-x2.ensures c.layer-x3.ensures
+    c.fold_words.ensures ∙ ap (folded_of s.prime.delta) (after6 s.prime.delta s.prime.opposite s.w.now s.at (folded_of s.prime.delta s.a) c.fold_words-x0.ensures c.layer-x1.ensures
+    c.layer-x2.ensures c.layer-x3.ensures
     c.layer-x4.ensures c.layer-x5.ensures c.layer-x6.ensures)
-
-pub fold_words-x0-requires : goal.fold_words-x0-requires
-fold_words-x0-requires c = c.requires.small
-
-pub overflow_add-at : goal.overflow_add-at
-overflow_add-at c = omega (arith, c.requires.within)
-
-pub overflow_add-at-2 : goal.overflow_add-at-2
-overflow_add-at-2 c = omega (arith, c.requires.within)
-
-pub overflow_add-at-3 : goal.overflow_add-at-3
-overflow_add-at-3 c = omega (arith, c.requires.within)
-
-pub overflow_add-at-4 : goal.overflow_add-at-4
-overflow_add-at-4 c = omega (arith, c.requires.within)
-
-pub overflow_add-at-5 : goal.overflow_add-at-5
-overflow_add-at-5 c = omega (arith, c.requires.within)
-
-pub overflow_add-at-6 : goal.overflow_add-at-6
-overflow_add-at-6 c = omega (arith, c.requires.within)
-
-pub fold_words-requires : goal.fold_words-requires
-fold_words-requires c = c.requires.small

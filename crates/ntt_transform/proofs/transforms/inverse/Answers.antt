@@ -63,73 +63,54 @@ pub inverse_layer-y1-requires : goal.inverse_layer-y1-requires
 inverse_layer-y1-requires c =
     let s = c.args in
     let words : (k : ℕ) → k < 64 → get_or s.s k 0 < 2 ^ 64 = λ k l. let f : Fits w64 (get_or s.s k 0) = search rules in omega arith in
-    subst (InverseLayerFits s.d s.neginv s.w.now (s.at + 160)) (sym (after0 s.d s.neginv s.w.now s.at (reduced_of s.d s.s) c.reduce_sums-y0.ensures))
-    (inverse-layer_fits s.d s.neginv s.w.now s.at c.requires s.s words 0 (omega arith))
+    subst (InverseLayerFits s.prime.delta s.prime.opposite s.w.now (s.at + 160)) (sym (after0 s.prime.delta s.prime.opposite s.w.now s.at (reduced_of s.prime.delta s.s) c.reduce_sums-y0.ensures))
+    (inverse-layer_fits s.prime.delta s.prime.opposite s.w.now s.at c.requires s.s words 0 (omega arith))
 
 pub inverse_layer-y2-requires : goal.inverse_layer-y2-requires
 inverse_layer-y2-requires c =
     let s = c.args in
     let words : (k : ℕ) → k < 64 → get_or s.s k 0 < 2 ^ 64 = λ k l. let f : Fits w64 (get_or s.s k 0) = search rules in omega arith in
-    subst (InverseLayerFits s.d s.neginv s.w.now (s.at + 128)) (sym (after1 s.d s.neginv s.w.now s.at (reduced_of s.d s.s) c.reduce_sums-y0.ensures c.inverse_layer-y1.ensures))
-    (inverse-layer_fits s.d s.neginv s.w.now s.at c.requires s.s words 1 (omega arith))
+    subst (InverseLayerFits s.prime.delta s.prime.opposite s.w.now (s.at + 128)) (sym (after1 s.prime.delta s.prime.opposite s.w.now s.at (reduced_of s.prime.delta s.s) c.reduce_sums-y0.ensures
+    c.inverse_layer-y1.ensures))
+    (inverse-layer_fits s.prime.delta s.prime.opposite s.w.now s.at c.requires s.s words 1 (omega arith))
 
 pub inverse_layer-y3-requires : goal.inverse_layer-y3-requires
 inverse_layer-y3-requires c =
     let s = c.args in
     let words : (k : ℕ) → k < 64 → get_or s.s k 0 < 2 ^ 64 = λ k l. let f : Fits w64 (get_or s.s k 0) = search rules in omega arith in
-    subst (InverseLayerFits s.d s.neginv s.w.now (s.at + 96)) (sym
-    (after2 s.d s.neginv s.w.now s.at (reduced_of s.d s.s) c.reduce_sums-y0.ensures c.inverse_layer-y1.ensures c.inverse_layer-y2.ensures))
-    (inverse-layer_fits s.d s.neginv s.w.now s.at c.requires s.s words 2 (omega arith))
+    subst (InverseLayerFits s.prime.delta s.prime.opposite s.w.now (s.at + 96)) (sym
+    (after2 s.prime.delta s.prime.opposite s.w.now s.at (reduced_of s.prime.delta s.s) c.reduce_sums-y0.ensures c.inverse_layer-y1.ensures c.inverse_layer-y2.ensures))
+    (inverse-layer_fits s.prime.delta s.prime.opposite s.w.now s.at c.requires s.s words 2 (omega arith))
 
 pub inverse_layer-y4-requires : goal.inverse_layer-y4-requires
 inverse_layer-y4-requires c =
     let s = c.args in
     let words : (k : ℕ) → k < 64 → get_or s.s k 0 < 2 ^ 64 = λ k l. let f : Fits w64 (get_or s.s k 0) = search rules in omega arith in
-    subst (InverseLayerFits s.d s.neginv s.w.now (s.at + 64)) (sym
-    (after3 s.d s.neginv s.w.now s.at (reduced_of s.d s.s) c.reduce_sums-y0.ensures c.inverse_layer-y1.ensures c.inverse_layer-y2.ensures c.inverse_layer-y3.ensures))
-    (inverse-layer_fits s.d s.neginv s.w.now s.at c.requires s.s words 3 (omega arith))
+    subst (InverseLayerFits s.prime.delta s.prime.opposite s.w.now (s.at + 64)) (sym
+    (after3 s.prime.delta s.prime.opposite s.w.now s.at (reduced_of s.prime.delta s.s) c.reduce_sums-y0.ensures c.inverse_layer-y1.ensures c.inverse_layer-y2.ensures c.inverse_layer-y3.ensures))
+    (inverse-layer_fits s.prime.delta s.prime.opposite s.w.now s.at c.requires s.s words 3 (omega arith))
 
 pub inverse_layer-y5-requires : goal.inverse_layer-y5-requires
 inverse_layer-y5-requires c =
     let s = c.args in
     let words : (k : ℕ) → k < 64 → get_or s.s k 0 < 2 ^ 64 = λ k l. let f : Fits w64 (get_or s.s k 0) = search rules in omega arith in
-    subst (InverseLayerFits s.d s.neginv s.w.now (s.at + 32)) (sym
-    (after4 s.d s.neginv s.w.now s.at (reduced_of s.d s.s) c.reduce_sums-y0.ensures c.inverse_layer-y1.ensures c.inverse_layer-y2.ensures c.inverse_layer-y3.ensures c.inverse_layer-y4.ensures))
-    (inverse-layer_fits s.d s.neginv s.w.now s.at c.requires s.s words 4 (omega arith))
+    subst (InverseLayerFits s.prime.delta s.prime.opposite s.w.now (s.at + 32)) (sym
+    (after4 s.prime.delta s.prime.opposite s.w.now s.at (reduced_of s.prime.delta s.s) c.reduce_sums-y0.ensures c.inverse_layer-y1.ensures c.inverse_layer-y2.ensures c.inverse_layer-y3.ensures
+    c.inverse_layer-y4.ensures))
+    (inverse-layer_fits s.prime.delta s.prime.opposite s.w.now s.at c.requires s.s words 4 (omega arith))
 
 pub inverse_layer-requires : goal.inverse_layer-requires
 inverse_layer-requires c =
     let s = c.args in
     let words : (k : ℕ) → k < 64 → get_or s.s k 0 < 2 ^ 64 = λ k l. let f : Fits w64 (get_or s.s k 0) = search rules in omega arith in
-    subst (InverseLayerFits s.d s.neginv s.w.now (s.at + 0)) (sym
-    (after5 s.d s.neginv s.w.now s.at (reduced_of s.d s.s) c.reduce_sums-y0.ensures c.inverse_layer-y1.ensures c.inverse_layer-y2.ensures c.inverse_layer-y3.ensures
+    subst (InverseLayerFits s.prime.delta s.prime.opposite s.w.now (s.at + 0)) (sym
+    (after5 s.prime.delta s.prime.opposite s.w.now s.at (reduced_of s.prime.delta s.s) c.reduce_sums-y0.ensures c.inverse_layer-y1.ensures c.inverse_layer-y2.ensures c.inverse_layer-y3.ensures
     c.inverse_layer-y4.ensures c.inverse_layer-y5.ensures))
-    (inverse-layer_fits s.d s.neginv s.w.now s.at c.requires s.s words 5 (omega arith))
+    (inverse-layer_fits s.prime.delta s.prime.opposite s.w.now s.at c.requires s.s words 5 (omega arith))
 
 pub returns : goal.returns
 unfolding inverse_transform_of
 returns c =
     let s = c.args in
-    after6 s.d s.neginv s.w.now s.at (reduced_of s.d s.s) c.reduce_sums-y0.ensures c.inverse_layer-y1.ensures c.inverse_layer-y2.ensures c.inverse_layer-y3.ensures
+    after6 s.prime.delta s.prime.opposite s.w.now s.at (reduced_of s.prime.delta s.s) c.reduce_sums-y0.ensures c.inverse_layer-y1.ensures c.inverse_layer-y2.ensures c.inverse_layer-y3.ensures
     c.inverse_layer-y4.ensures c.inverse_layer-y5.ensures c.inverse_layer.ensures
-
-pub reduce_sums-y0-requires : goal.reduce_sums-y0-requires
-reduce_sums-y0-requires c = c.requires.small
-
-pub overflow_add-at : goal.overflow_add-at
-overflow_add-at c = omega (arith, c.requires.within)
-
-pub overflow_add-at-2 : goal.overflow_add-at-2
-overflow_add-at-2 c = omega (arith, c.requires.within)
-
-pub overflow_add-at-3 : goal.overflow_add-at-3
-overflow_add-at-3 c = omega (arith, c.requires.within)
-
-pub overflow_add-at-4 : goal.overflow_add-at-4
-overflow_add-at-4 c = omega (arith, c.requires.within)
-
-pub overflow_add-at-5 : goal.overflow_add-at-5
-overflow_add-at-5 c = omega (arith, c.requires.within)
-
-pub overflow_add-at-6 : goal.overflow_add-at-6
-overflow_add-at-6 c = omega (arith, c.requires.within)

@@ -18,15 +18,13 @@ loop-k-init c = (omega arith, omega arith, omega arith, stored-none _ _ _, refl)
 
 pub inner_product-e-requires : goal.inner_product-e-requires
 inner_product-e-requires c =
-    let b = c.before.before.before.before.before.before in
-    let s = b.args in
+    let s = c.args in
     let l = c.loop-k in (
-      b.requires.0,
-      b.requires.1,
+      c.requires.0,
       vector-values l.scratch s.at s.count s.n l.k l.place
           (values-before s.scratch.now l.scratch s.out_at (flat (table l.k (ntt_row s.v.now s.scratch.now s.at s.n))) s.at (s.count * s.n)
-          l.invariant.3 (omega arith) b.requires.2) (omega arith) l.invariant.1,
-      b.requires.3,
+          l.invariant.3 (omega arith) c.requires.1) (omega arith) l.invariant.1,
+      c.requires.2,
     )
 
 pub overflow_add-place : goal.overflow_add-place

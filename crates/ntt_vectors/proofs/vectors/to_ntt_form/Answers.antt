@@ -11,9 +11,6 @@ use Rattle.ntt_vectors.proofs.vectors.to_ntt_form.Goals as goal
 pub loop-m-init : goal.loop-m-init
 loop-m-init c = (omega arith, omega arith, omega arith, ntt_words-none _ _ _ _, refl)
 
-pub store_ntt_form-requires : goal.store_ntt_form-requires
-store_ntt_form-requires c = (c.requires.0, omega arith)
-
 pub loop-m-preserved : goal.loop-m-preserved
 loop-m-preserved c =
     let s = c.args in

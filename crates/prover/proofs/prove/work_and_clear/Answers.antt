@@ -2,9 +2,9 @@
 use native.Mathlib.Omega.{arith}
 use lib.ListN.{length}
 use Rattle.admission_slices.specs.Admission.{call_of}
-use Rattle.prover_commit.proofs.Commitments.{from-made, given-changed}
+use Rattle.prover_commit.proofs.Commitments.{given-changed}
 use Rattle.prover.proofs.Calls.{given_of, handed-few}
-use Rattle.prover.proofs.Cleared.{call_sized, lay_needs, scratch-room, scratch_cleared, answer-made, output_left, answer-refused, output-room, output_cleared}
+use Rattle.prover.proofs.Cleared.{call_sized, lay_needs, scratch-room, scratch_cleared, output_left, output-room, output_cleared}
 use Rattle.prover.proofs.prove.work_and_clear.Goals as goal
 
 pub lay_out-regions-requires : goal.lay_out-regions-requires
@@ -35,8 +35,7 @@ put-requires c =
         g.1,
       );
       filled = (
-        from-made c.fill.result _ c.in-Made.is
-            c.fill.ensures.where_made,
+        c.in-Ok.ensures.made,
         c.requires.output_fits,
       );
     }
@@ -57,19 +56,18 @@ output_length-length-requires c =
     let a = c.args in
     (call_sized a.call a.job.now a.randomness.now a.witness.now a.params a.scratch.now a.output.now c.requires, c.makes-sections.ensures.2)
 
-pub clear-requires-in-Refused : goal.clear-requires-in-Refused
-clear-requires-in-Refused c =
+pub clear-requires-in-Err : goal.clear-requires-in-Err
+clear-requires-in-Err c =
     let a = c.args in
     omega (
       arith,
       output-room a.call a.job.now a.randomness.now a.witness.now a.params a.scratch.now a.output.now c.requires
-          c.fill.result c.in-Refused.refusal
-          c.in-Refused.is c.fill.ensures.result_value _ _ _
+          _ _ _
           c.output_length-length.ensures c.makes-sections.ensures.0 c.makes-sections.ensures.1,
     )
 
-pub clear-requires-in-Refused-2 : goal.clear-requires-in-Refused-2
-clear-requires-in-Refused-2 c =
+pub clear-requires-in-Err-2 : goal.clear-requires-in-Err-2
+clear-requires-in-Err-2 c =
     let a = c.args in
     omega (
       arith,
@@ -79,32 +77,29 @@ clear-requires-in-Refused-2 c =
           c.fill.ensures.unchanged,
     )
 
-pub returns-in-Made : goal.returns-in-Made
-returns-in-Made c =
+pub returns-in-Ok : goal.returns-in-Ok
+returns-in-Ok c =
     let a = c.args in
-    let told = c.in-Made.is in record {
-      result_value = answer-made a.call a.job.now a.randomness.now a.witness.now a.params a.scratch.now a.output.now c.requires c.fill.result told c.fill.ensures.result_value;
-      output_after = output_left a.call a.job.now a.randomness.now a.witness.now a.params a.scratch.now a.output.now c.requires c.fill.result told
-          c.fill.ensures.result_value _ c.put.ensures;
+    let filled = c.in-Ok.ensures in record {
+      result_value = filled.result_value;
+      output_after = output_left a.call a.job.now a.randomness.now a.witness.now a.params a.scratch.now a.output.now c.requires filled.result_value _ c.put.ensures;
       scratch_after = scratch_cleared a.call a.job.now a.randomness.now a.witness.now a.params a.scratch.now a.output.now c.requires
           c.scratch_length-need.result
           c.scratch_length-need.ensures _
           c.fill.ensures.unchanged _ c.clear.ensures;
     }
 
-pub returns-in-Refused : goal.returns-in-Refused
-returns-in-Refused c =
+pub returns-in-Err : goal.returns-in-Err
+returns-in-Err c =
     let a = c.args in
-    let r = c.in-Refused.refusal in
-    let told = c.in-Refused.is in
+    let refused = c.in-Err.ensures in
     let m = c.makes-sections.ensures in
     let l = c.output_length-length.ensures in record {
-      result_value = answer-refused a.call a.job.now a.randomness.now a.witness.now a.params a.scratch.now a.output.now c.requires c.fill.result r told
-          c.fill.ensures.result_value _ _ _ l m.0 m.1;
-      output_after = output_cleared a.call a.job.now a.randomness.now a.witness.now a.params a.scratch.now a.output.now c.requires c.fill.result r told
-          c.fill.ensures.result_value _ _ _ l m.0 m.1 _ c.clear-in-Refused.ensures;
+      result_value = refused.result_value;
+      output_after = output_cleared a.call a.job.now a.randomness.now a.witness.now a.params a.scratch.now a.output.now c.requires _ _ _ l m.0 m.1
+          _ refused.result_value _ c.clear-in-Err.ensures;
       scratch_after = scratch_cleared a.call a.job.now a.randomness.now a.witness.now a.params a.scratch.now a.output.now c.requires
           c.scratch_length-need.result
           c.scratch_length-need.ensures
-          _ c.fill.ensures.unchanged _ c.clear-in-Refused-2.ensures;
+          _ c.fill.ensures.unchanged _ c.clear-in-Err-2.ensures;
     }

@@ -8,7 +8,6 @@ use mir.Val.{to_z, of_z}
 use mir.ValLaws.{to_z-of_z}
 use Rattle.math.specs.lists.Sum.{Σ}
 use Rattle.math.proofs.lists.Sum.{Σ-suc}
-use Rattle.spec_leaves.specs.Answer.{value128}
 use Rattle.spec_protocol.specs.Ranges.{number_at, square, norm}
 use Rattle.ranges_vectors.specs.Ends.{nearest, farthest, picked}
 use Rattle.ranges_vectors.proofs.Picked.{norm-picked}
@@ -38,28 +37,28 @@ all pick lows highs at j count total n e =
     e ∙ ap (λ m. Σ m (λ i. square (pick (number_at lows (at + i)) (number_at highs (at + i))))) n ∙ sym (norm-picked pick lows highs at count)
 
 pub loop-j-init : goal.loop-j-init
-unfolding Σ value128
-loop-j-init c = (omega arith, refl, omega arith, refl, omega arith)
+unfolding Σ
+loop-j-init c = (refl, omega arith, refl, omega arith)
 
 pub add_range-total-requires : goal.add_range-total-requires
 add_range-total-requires c =
-    let at = c.args.at + c.loop-j.j in (
-      omega arith,
-      omega arith,
-      rw (low_is (goal.at.add_range-total-requires c).After-number-in-loop-j) (c.requires.0.low at (omega arith)),
-      rw (high_is (goal.at.add_range-total-requires c).After-number-in-loop-j) (c.requires.0.high at (omega arith)),
-    )
+    let at = c.args.at + c.loop-j.j in record {
+      room = (omega arith, omega arith);
+      centred = (
+        rw (low_is (goal.at.add_range-total-requires c).After-number-in-loop-j) (c.requires.0.low at (omega arith)),
+        rw (high_is (goal.at.add_range-total-requires c).After-number-in-loop-j) (c.requires.0.high at (omega arith)),
+      );
+    }
 
 pub loop-j-preserved : goal.loop-j-preserved
 loop-j-preserved c =
     let s = c.args in
     let l = c.loop-j in (
+      one_more nearest s.lows.now s.highs.now s.at l.j l.total.least c.add_range-total.result.least c.add_range-total.ensures.least_value.0
+          (low_is (goal.at.loop-j-preserved c).After-number-in-loop-j) (high_is (goal.at.loop-j-preserved c).After-number-in-loop-j) l.invariant.0,
       omega arith,
-      one_more nearest s.lows.now s.highs.now s.at l.j (value128 l.total.least) (value128 c.add_range-total.result.least) c.add_range-total.ensures.least_value.0
-          (low_is (goal.at.loop-j-preserved c).After-number-in-loop-j) (high_is (goal.at.loop-j-preserved c).After-number-in-loop-j) l.invariant.1,
-      omega arith,
-      one_more farthest s.lows.now s.highs.now s.at l.j (value128 l.total.greatest) (value128 c.add_range-total.result.greatest) c.add_range-total.ensures.greatest_value.0
-          (low_is (goal.at.loop-j-preserved c).After-number-in-loop-j) (high_is (goal.at.loop-j-preserved c).After-number-in-loop-j) l.invariant.3,
+      one_more farthest s.lows.now s.highs.now s.at l.j l.total.greatest c.add_range-total.result.greatest c.add_range-total.ensures.greatest_value.0
+          (low_is (goal.at.loop-j-preserved c).After-number-in-loop-j) (high_is (goal.at.loop-j-preserved c).After-number-in-loop-j) l.invariant.2,
       omega arith,
     )
 
@@ -68,6 +67,6 @@ returns c =
     let s = c.args in
     let l = c.loop-j in
     let n : l.j ≡ s.count = omega arith in record {
-      least_value = all nearest s.lows.now s.highs.now s.at l.j s.count (value128 l.total.least) n l.invariant.1;
-      greatest_value = all farthest s.lows.now s.highs.now s.at l.j s.count (value128 l.total.greatest) n l.invariant.3;
+      least_value = all nearest s.lows.now s.highs.now s.at l.j s.count l.total.least n l.invariant.0;
+      greatest_value = all farthest s.lows.now s.highs.now s.at l.j s.count l.total.greatest n l.invariant.2;
     }

@@ -1,7 +1,7 @@
 -- `first_beyond` meets its contract. The invariant: each number of the first j pairs is a centre.
 use mathlib.Core.Path.{◌≡◌}
 use mathlib.Core.List.{List}
-use Prim.Native.Nat.{ℕ, ◌-◌, ◌≤◌}
+use Prim.Native.Nat.{ℕ, ◌≤◌}
 use lib.IntN.{ℤ}
 use Rattle.spec_leaves.specs.Answer.{Answer, fine, ◌then◌}
 use Rattle.spec_protocol.specs.Checks.{first}
@@ -14,6 +14,3 @@ test lows highs j = size_refusal j (number_at lows j) then size_refusal j (numbe
 
 abbrev pub invariant-loop-j : goal.invariant-loop-j
 invariant-loop-j l = (l.j ≤ l.count) × (first l.j (test l.lows l.highs) ≡ fine)
-
-abbrev pub decreases-loop-j : goal.decreases-loop-j
-decreases-loop-j l = l.count - l.j

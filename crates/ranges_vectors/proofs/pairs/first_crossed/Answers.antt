@@ -28,14 +28,14 @@ loop-j-init c = (omega arith, refl)
 pub loop-j-preserved : goal.loop-j-preserved
 loop-j-preserved c =
     let f = test c.args.lows.now c.args.highs.now in
-    (omega arith, first_next c.loop-j.j f c.loop-j.invariant.1 (tested (goal.at.loop-j-preserved c).After-in_order ∙ ap (λ b. cond b fine (refused 36 c.loop-j.j)) c.if-in_order.true))
+    (omega arith, first_next c.loop-j.j f c.loop-j.invariant.1 (tested (goal.at.loop-j-preserved c).After-in_order ∙ ap (λ b. cond b fine (refused 36 c.loop-j.j)) c.if-not-in_order.false))
 
-pub returns-else-in_order : goal.returns-else-in_order
+pub returns-then-not-in_order : goal.returns-then-not-in_order
 unfolding crossed_refusal
-returns-else-in_order c =
+returns-then-not-in_order c =
     let f = test c.args.lows.now c.args.highs.now in
     found_at 36 c.loop-j.j c.args.count f (omega arith) c.loop-j.invariant.1
-    (tested (goal.at.returns-else-in_order c).After-in_order ∙ ap (λ b. cond b fine (refused 36 c.loop-j.j)) c.if-in_order.false)
+    (tested (goal.at.returns-then-not-in_order c).After-in_order ∙ ap (λ b. cond b fine (refused 36 c.loop-j.j)) c.if-not-in_order.true)
 
 pub returns : goal.returns
 unfolding crossed_refusal

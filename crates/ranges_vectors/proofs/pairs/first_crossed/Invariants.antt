@@ -2,7 +2,7 @@
 use mathlib.Core.Path.{◌≡◌}
 use mathlib.Core.Bool.{cond}
 use mathlib.Core.List.{List}
-use Prim.Native.Nat.{ℕ, ◌-◌, ◌≤◌}
+use Prim.Native.Nat.{ℕ, ◌≤◌}
 use lib.IntN.{ℤ}
 use lib.Signed.{le_z}
 use Rattle.spec_leaves.specs.Answer.{Answer, fine, refused}
@@ -16,6 +16,3 @@ test lows highs j = cond (le_z (number_at lows j) (number_at highs j)) fine (ref
 
 abbrev pub invariant-loop-j : goal.invariant-loop-j
 invariant-loop-j l = (l.j ≤ l.count) × (first l.j (test l.lows l.highs) ≡ fine)
-
-abbrev pub decreases-loop-j : goal.decreases-loop-j
-decreases-loop-j l = l.count - l.j

@@ -1,10 +1,9 @@
 -- `vectors` meets its contract. The invariant: the answers of the first i vectors stand in their places, and the others are unused.
 use mathlib.Core.Path.{◌≡◌}
 use mathlib.Core.List.{List}
-use Prim.Native.Nat.{ℕ, ◌-◌, ◌*◌, ◌≤◌}
+use Prim.Native.Nat.{ℕ, ◌*◌}
 use lib.IntN.{ℤ}
 use Rattle.math.specs.lists.Table.{padded}
-use Rattle.spec_leaves.specs.Answer.{value128}
 use Rattle.spec_protocol.specs.Ranges.{unused}
 use Rattle.ranges_vectors.specs.declared.vectors.RangeNorms.{RangeNorms}
 use Rattle.ranges_vectors.specs.Vectors.{range_norms, worked}
@@ -16,7 +15,4 @@ of_vector bound lows highs count i = range_norms (worked bound lows highs (i * c
 
 abbrev pub invariant-loop-i : goal.invariant-loop-i
 invariant-loop-i l =
-    (l.i ≤ l.r) × (l.at ≡ l.i * l.count) × (l.out ≡ padded 16 l.i (range_norms unused) (of_vector (value128 l.bound) l.lows l.highs l.count))
-
-abbrev pub decreases-loop-i : goal.decreases-loop-i
-decreases-loop-i l = l.r - l.i
+    (l.out ≡ padded 16 l.i (range_norms unused) (of_vector l.bound l.lows l.highs l.count))

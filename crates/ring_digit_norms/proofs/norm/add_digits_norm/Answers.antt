@@ -9,7 +9,6 @@ use lib.ListN.{length}
 use lib.Seq.{take_all}
 use Rattle.math.specs.lists.Sum.{Σ}
 use Rattle.math.proofs.lists.Sum.{Σ-suc}
-use Rattle.spec_leaves.specs.Answer.{value128}
 use Rattle.spec_leaves.specs.Norm.{norm}
 use Rattle.spec_leaves.specs.Rq.{is_zero, digit_row, left_row}
 use Rattle.ring_rq_digits.proofs.Sizes.{sizes_after, sizes_first, sizes_next, sizes_left, row_is, rows_zero, left_zero}
@@ -41,8 +40,8 @@ loop-k-preserved c =
       sizes_next s.base s.a l.sizes taken.result.sizes l.k l.invariant.1 taken.ensures.1,
       c.add_norm-total.ensures.0
           ∙ ap₂ ◌+◌ l.invariant.2 (ap norm (take_all 64 taken.result.row (omega arith) ∙ row))
-          ∙ add_assoc (value128 s.sum.norm) (Σ l.k f) (f l.k)
-          ∙ ap (λ x. value128 s.sum.norm + x) (sym (Σ-suc l.k f)),
+          ∙ add_assoc s.sum.norm (Σ l.k f) (f l.k)
+          ∙ ap (λ x. s.sum.norm + x) (sym (Σ-suc l.k f)),
       omega arith,
     )
 
@@ -55,7 +54,7 @@ returns-then-is_zero c =
     let left = left_zero s.base s.a l.sizes l.k l.invariant.1 zero s.parts l.invariant.0 in record {
       norm_value = (
         l.invariant.2
-            ∙ ap (λ x. value128 s.sum.norm + x) (Σ_used l.k s.parts (λ q. norm (digit_row s.base s.a q)) l.invariant.0 row),
+            ∙ ap (λ x. s.sum.norm + x) (Σ_used l.k s.parts (λ q. norm (digit_row s.base s.a q)) l.invariant.0 row),
         omega arith,
       );
       cells_left_value = sym (ap (λ t. s.sum.cells_left + cond t 0 1) left ∙ add-zero s.sum.cells_left);
@@ -69,7 +68,7 @@ returns-then-is_zero-2 c =
     let left = nothing_left s.base s.parts l.k s.a l.sizes n l.invariant.1 c.is_zero-2.ensures in record {
       norm_value = (
         l.invariant.2
-            ∙ ap (λ k. value128 s.sum.norm + Σ k (λ q. norm (digit_row s.base s.a q))) n,
+            ∙ ap (λ k. s.sum.norm + Σ k (λ q. norm (digit_row s.base s.a q))) n,
         omega arith,
       );
       cells_left_value = sym (ap (λ t. s.sum.cells_left + cond t 0 1) (left
@@ -84,7 +83,7 @@ returns-else-is_zero-2 c =
     let left = nothing_left s.base s.parts l.k s.a l.sizes n l.invariant.1 c.is_zero-2.ensures in record {
       norm_value = (
         l.invariant.2
-            ∙ ap (λ k. value128 s.sum.norm + Σ k (λ q. norm (digit_row s.base s.a q))) n,
+            ∙ ap (λ k. s.sum.norm + Σ k (λ q. norm (digit_row s.base s.a q))) n,
         omega arith,
       );
       cells_left_value = sym (ap (λ t. s.sum.cells_left + cond t 0 1) (left ∙ c.if-is_zero-2.false));

@@ -1,8 +1,7 @@
 -- `add_digits_norm` meets its contract. The invariant: the sizes are those after k digits, and the first k rows' norms are added.
 use mathlib.Core.Path.{◌≡◌}
-use Prim.Native.Nat.{◌+◌, ◌-◌, ◌*◌, ◌≤◌}
+use Prim.Native.Nat.{◌+◌, ◌*◌, ◌^◌, ◌≤◌}
 use Rattle.math.specs.lists.Sum.{Σ}
-use Rattle.spec_leaves.specs.Answer.{value128}
 use Rattle.spec_leaves.specs.Norm.{norm}
 use Rattle.spec_leaves.specs.Rq.{digit_row}
 use Rattle.ring_rq_digits.proofs.Sizes.{sizes_after}
@@ -12,8 +11,5 @@ abbrev pub invariant-loop-k : goal.invariant-loop-k
 invariant-loop-k l =
     (l.k ≤ l.parts)
     × (l.sizes ≡ sizes_after l.base l.a l.k)
-    × (value128 l.total ≡ value128 l.sum.norm + Σ l.k (λ q. norm (digit_row l.base l.a q)))
-    × (l.total.hi ≤ l.sum.norm.hi + 64 * l.k)
-
-abbrev pub decreases-loop-k : goal.decreases-loop-k
-decreases-loop-k l = l.parts - l.k
+    × (l.total ≡ l.sum.norm + Σ l.k (λ q. norm (digit_row l.base l.a q)))
+    × (l.total ≤ l.sum.norm + 64 * l.k * 2 ^ 64)

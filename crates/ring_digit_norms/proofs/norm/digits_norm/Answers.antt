@@ -1,10 +1,8 @@
 use mathlib.Core.Path.{◌≡◌, refl, sym, ◌∙◌, ap, ap₂}
 use Prim.Native.Nat.{ℕ, ◌+◌}
 use native.Mathlib.Omega.{arith}
-use Rattle.math.specs.lists.Part.{part}
 use Rattle.math.specs.lists.Sum.{Σ}
 use Rattle.math.proofs.lists.Sum.{Σ-suc}
-use Rattle.spec_leaves.specs.Answer.{value128}
 use Rattle.spec_leaves.specs.Ring.{element}
 use Rattle.ring_inner_product.specs.Run.{run}
 use Rattle.spec_protocol.specs.Formulas.{one_if_left}
@@ -16,8 +14,8 @@ use Rattle.ring_digit_norms.proofs.LeftOver.{left_of-words}
 use Rattle.ring_digit_norms.proofs.norm.digits_norm.Goals as goal
 
 pub loop-c-init : goal.loop-c-init
-unfolding Σ value128
-loop-c-init c = (omega arith, omega arith, refl, omega arith, refl)
+unfolding Σ
+loop-c-init c = (omega arith, refl, omega arith, refl)
 
 pub add_digits_norm-total-requires : goal.add_digits_norm-total-requires
 add_digits_norm-total-requires c =
@@ -34,15 +32,14 @@ loop-c-preserved c =
     let a = settled.result.coeffs in
     let fit = settled.ensures.1 in
     let f : ℕ → ℕ = λ m. digits_norm s.base s.parts (run s.from.now s.at 64 m) in
-    let cell : element a ≡ run s.from.now s.at 64 l.c = settled.ensures.0 ∙ ap element (c.load.ensures ∙ ap (λ p. part s.from.now p 64) l.invariant.1) in (
-      omega arith,
+    let cell : element a ≡ run s.from.now s.at 64 l.c = settled.ensures.0 ∙ ap element c.load.ensures in (
       omega arith,
       c.add_digits_norm-total.ensures.norm_value.0
-          ∙ ap₂ ◌+◌ l.invariant.2 (rows-norm s.base s.parts a fit ∙ ap (digits_norm s.base s.parts) cell)
+          ∙ ap₂ ◌+◌ l.invariant.1 (rows-norm s.base s.parts a fit ∙ ap (digits_norm s.base s.parts) cell)
           ∙ sym (Σ-suc l.c f),
       omega arith,
       c.add_digits_norm-total.ensures.cells_left_value
-          ∙ ap₂ ◌+◌ l.invariant.4 (left_of-words s.base s.parts a fit ∙ ap (one_if_left s.base s.parts) cell)
+          ∙ ap₂ ◌+◌ l.invariant.3 (left_of-words s.base s.parts a fit ∙ ap (one_if_left s.base s.parts) cell)
           ∙ sym (Σ-suc l.c (λ m. one_if_left s.base s.parts (run s.from.now s.at 64 m))),
     )
 
@@ -53,12 +50,12 @@ returns c =
     let n : l.c ≡ s.cells = omega arith in
     let f = run s.from.now s.at 64 in record {
       norm_value = (
-        l.invariant.2
+        l.invariant.1
             ∙ ap (λ k. Σ k (λ m. digits_norm s.base s.parts (f m))) n
             ∙ sym (digits_of-table s.base s.parts s.cells f),
         omega arith,
       );
-      cells_left_value = l.invariant.4
+      cells_left_value = l.invariant.3
           ∙ ap (λ k. Σ k (λ m. one_if_left s.base s.parts (f m))) n
           ∙ sym (count_of-table s.base s.parts s.cells f);
     }

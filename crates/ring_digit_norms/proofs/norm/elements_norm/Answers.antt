@@ -4,10 +4,8 @@ use native.Mathlib.Omega.{arith}
 use borrow.Author.Rules.{rules}
 use lib.ListN.{length}
 use lib.Seq.{take_all}
-use Rattle.math.specs.lists.Part.{part}
 use Rattle.math.specs.lists.Sum.{Σ}
 use Rattle.math.proofs.lists.Sum.{Σ-suc}
-use Rattle.spec_leaves.specs.Answer.{value128}
 use Rattle.spec_leaves.specs.Norm.{norm}
 use Rattle.spec_leaves.specs.Ring.{words, element}
 use Rattle.spec_protocol.proofs.Norms.{norm_of-table}
@@ -21,8 +19,8 @@ returns-then-this-eq-LACK c =
     (c.norm_of.ensures.0 ∙ norm_of-run s.from.now s.at s.count (omega arith) (λ i h. omega (arith, c.type_inv.from i)), omega arith)
 
 pub loop-m-init : goal.loop-m-init
-unfolding Σ value128
-loop-m-init c = (omega arith, omega arith, refl, omega arith)
+unfolding Σ
+loop-m-init c = (omega arith, refl, omega arith)
 
 pub loop-m-preserved : goal.loop-m-preserved
 loop-m-preserved c =
@@ -33,11 +31,10 @@ loop-m-preserved c =
     let n : length a ≡ 64 = search rules in
     let f : ℕ → ℕ = λ k. norm (words (run s.from.now s.at 64 k)) in
     let cell : element a ≡ run s.from.now s.at 64 l.m = settled.ensures.0
-    ∙ ap element (c.load.ensures ∙ ap (λ p. part s.from.now p 64) l.invariant.1) in (
-      omega arith,
+    ∙ ap element c.load.ensures in (
       omega arith,
       c.add_norm-total.ensures.0
-          ∙ ap₂ ◌+◌ l.invariant.2 (ap norm (take_all 64 a (omega arith)) ∙ norm_settled a n settled.ensures.1 ∙ ap (λ e. norm (words e)) cell)
+          ∙ ap₂ ◌+◌ l.invariant.1 (ap norm (take_all 64 a (omega arith)) ∙ norm_settled a n settled.ensures.1 ∙ ap (λ e. norm (words e)) cell)
           ∙ sym (Σ-suc l.m f),
       omega arith,
     )
@@ -48,7 +45,7 @@ returns c =
     let l = c.loop-m in
     let n : l.m ≡ s.count = omega arith in
     let f = run s.from.now s.at 64 in
-    (l.invariant.2 ∙ ap (λ k. Σ k (λ m. norm (words (f m)))) n ∙ sym (norm_of-table s.count f), omega arith)
+    (l.invariant.1 ∙ ap (λ k. Σ k (λ m. norm (words (f m)))) n ∙ sym (norm_of-table s.count f), omega arith)
 
 pub add_norm-total-requires : goal.add_norm-total-requires
 add_norm-total-requires c = let n : length c.settled.result.coeffs ≡ 64 = search rules in (omega arith, omega arith)

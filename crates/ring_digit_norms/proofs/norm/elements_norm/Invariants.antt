@@ -1,8 +1,7 @@
 -- `elements_norm` meets its contract. The invariant: the norms of the first m elements are summed.
 use mathlib.Core.Path.{◌≡◌}
-use Prim.Native.Nat.{◌+◌, ◌-◌, ◌*◌, ◌≤◌}
+use Prim.Native.Nat.{◌*◌, ◌^◌, ◌≤◌}
 use Rattle.math.specs.lists.Sum.{Σ}
-use Rattle.spec_leaves.specs.Answer.{value128}
 use Rattle.spec_leaves.specs.Norm.{norm}
 use Rattle.spec_leaves.specs.Ring.{words}
 use Rattle.ring_inner_product.specs.Run.{run}
@@ -10,7 +9,4 @@ use Rattle.ring_digit_norms.proofs.norm.elements_norm.Given as goal
 
 abbrev pub invariant-loop-m : goal.invariant-loop-m
 invariant-loop-m l =
-    (l.m ≤ l.count) × (l.place ≡ l.at + 64 * l.m) × (value128 l.total ≡ Σ l.m (λ k. norm (words (run l.from l.at 64 k)))) × (l.total.hi ≤ 64 * l.m)
-
-abbrev pub decreases-loop-m : goal.decreases-loop-m
-decreases-loop-m l = l.count - l.m
+    (l.m ≤ l.count) × (l.total ≡ Σ l.m (λ k. norm (words (run l.from l.at 64 k)))) × (l.total ≤ 64 * l.m * 2 ^ 64)

@@ -6,7 +6,6 @@ use native.Mathlib.Omega.{arith}
 use borrow.Author.Rules.{rules}
 use lib.ListN.{length}
 use lib.Seq.{take_all}
-use Rattle.spec_leaves.specs.Answer.{value128}
 use Rattle.spec_leaves.specs.Norm.{norm}
 use Rattle.ring_rq_digits.proofs.Sizes.{sizes_first, sizes_next, row_is}
 use Rattle.ring_digit_norms.proofs.Rests.{parts-norm}
@@ -36,8 +35,8 @@ returns c =
     let of_row = row_is s.base s.a first.result row 0 sizes taken.ensures.0 in
     let of-next = sizes_next s.base s.a first.result next 0 sizes taken.ensures.1 in (
       c.add_norm.ensures.0
-          ∙ ap₂ ◌+◌ (c.add_norm-total.ensures.0 ∙ ap (λ l. value128 s.sum + norm l) (take_all 64 row (omega arith))) (ap norm (take_all 64 next (omega arith)))
-          ∙ add_assoc (value128 s.sum) (norm row) (norm next)
-          ∙ ap (λ x. value128 s.sum + x) (parts-norm s.base s.a row next fit of_row of-next),
+          ∙ ap₂ ◌+◌ (c.add_norm-total.ensures.0 ∙ ap (λ l. s.sum + norm l) (take_all 64 row (omega arith))) (ap norm (take_all 64 next (omega arith)))
+          ∙ add_assoc s.sum (norm row) (norm next)
+          ∙ ap (λ x. s.sum + x) (parts-norm s.base s.a row next fit of_row of-next),
       omega arith,
     )

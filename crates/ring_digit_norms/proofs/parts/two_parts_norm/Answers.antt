@@ -1,10 +1,8 @@
 use mathlib.Core.Path.{◌≡◌, refl, sym, ◌∙◌, ap, ap₂}
 use Prim.Native.Nat.{ℕ, ◌+◌}
 use native.Mathlib.Omega.{arith}
-use Rattle.math.specs.lists.Part.{part}
 use Rattle.math.specs.lists.Sum.{Σ}
 use Rattle.math.proofs.lists.Sum.{Σ-suc}
-use Rattle.spec_leaves.specs.Answer.{value128}
 use Rattle.spec_leaves.specs.Ring.{element}
 use Rattle.ring_inner_product.specs.Run.{run}
 use Rattle.spec_protocol.specs.Conditions.{two_parts_norm}
@@ -12,18 +10,17 @@ use Rattle.spec_protocol.proofs.Norms.{parts_of-table}
 use Rattle.ring_digit_norms.proofs.parts.two_parts_norm.Goals as goal
 
 pub loop-m-init : goal.loop-m-init
-unfolding Σ value128
-loop-m-init c = (omega arith, omega arith, refl, omega arith)
+unfolding Σ
+loop-m-init c = (omega arith, refl, omega arith)
 
 pub loop-m-preserved : goal.loop-m-preserved
 loop-m-preserved c =
     let s = c.args in
     let l = c.loop-m in
     let f : ℕ → ℕ = λ k. two_parts_norm s.base (run s.from.now s.at 64 k) in
-    let cell = c.settled.ensures.0 ∙ ap element (c.load.ensures ∙ ap (λ p. part s.from.now p 64) l.invariant.1) in (
+    let cell = c.settled.ensures.0 ∙ ap element c.load.ensures in (
       omega arith,
-      omega arith,
-      c.add_two_parts_norm-total.ensures.0 ∙ ap₂ ◌+◌ l.invariant.2 (ap (two_parts_norm s.base) cell) ∙ sym (Σ-suc l.m f),
+      c.add_two_parts_norm-total.ensures.0 ∙ ap₂ ◌+◌ l.invariant.1 (ap (two_parts_norm s.base) cell) ∙ sym (Σ-suc l.m f),
       omega arith,
     )
 
@@ -33,7 +30,7 @@ returns c =
     let l = c.loop-m in
     let n : l.m ≡ s.count = omega arith in
     let f = run s.from.now s.at 64 in (
-      l.invariant.2 ∙ ap (λ k. Σ k (λ m. two_parts_norm s.base (f m))) n ∙ sym (parts_of-table s.base s.count f),
+      l.invariant.1 ∙ ap (λ k. Σ k (λ m. two_parts_norm s.base (f m))) n ∙ sym (parts_of-table s.base s.count f),
       omega arith,
     )
 

@@ -1,12 +1,7 @@
-use native.Mathlib.Omega.{arith}
-use Rattle.math.proofs.lists.Padded.{padded-none, padded-next, padded_done}
+-- `complements` meets its contract.
+use Rattle.std.proofs.Common.{rules}
+use Rattle.ring_zq.proofs.Made.{made}
 use Rattle.ring_digit_products.proofs.forms.complements.Goals as goal
 
-pub loop-m-preserved : goal.loop-m-preserved
-loop-m-preserved c = (omega arith, padded-next 64 0 _ _ _ _ c.loop-m.invariant.1 (omega arith) c.lack.ensures)
-
 pub returns : goal.returns
-returns c = padded_done 64 0 _ _ _ c.loop-m.invariant.1 (omega arith)
-
-pub loop-m-init : goal.loop-m-init
-loop-m-init c = (omega arith, padded-none 64 0 _)
+returns c = made _ _ _ (λ i y q k. search rules) _ 64 c.from_fn.ensures.items

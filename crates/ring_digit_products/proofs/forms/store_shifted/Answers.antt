@@ -14,7 +14,7 @@ unfolding table
 loop-m-init c = (omega arith, sym (splice-nil _ _), refl)
 
 pub shift-requires : goal.shift-requires
-shift-requires c = (omega (arith, c.wide.ensures), c.requires.0)
+shift-requires c = (omega (arith, c.from.ensures), c.requires.0)
 
 pub loop-m-preserved : goal.loop-m-preserved
 loop-m-preserved c =
@@ -23,7 +23,7 @@ loop-m-preserved c =
     let f : ℕ → ℕ = λ j. (get_or s.a j 0 + s.half) % Q in (
       omega arith,
       ap (λ w. set w (s.to + l.m) c.shift.result) l.invariant.1
-          ∙ splice-table-next s.forms.now s.to l.m f c.shift.result (c.shift.ensures ∙ ap (λ x. (x + s.half) % Q) c.wide.ensures.0),
+          ∙ splice-table-next s.forms.now s.to l.m f c.shift.result (c.shift.ensures ∙ ap (λ x. (x + s.half) % Q) c.from.ensures),
       simp length-set l.invariant.2,
     )
 

@@ -8,6 +8,3 @@ use Rattle.ring_digit_products.proofs.small.complement.Given as goal
 
 abbrev pub invariant-loop-i : goal.invariant-loop-i
 invariant-loop-i l = (l.i ≤ 64) × (l.sum ≡ Σ l.i (λ j. lift_q - get_or l.x j 0)) × (l.sum ≤ lift_q * l.i)
-
-abbrev pub decreases-loop-i : goal.decreases-loop-i
-decreases-loop-i l = 64 - l.i

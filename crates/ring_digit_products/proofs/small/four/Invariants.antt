@@ -1,7 +1,7 @@
 -- `four` meets its contract. The invariant: each sum is that of the first i products from its place on.
 use mathlib.Core.Path.{◌≡◌}
 use mathlib.Core.List.{List}
-use Prim.Native.Nat.{ℕ, ◌+◌, ◌-◌, ◌*◌, ◌≤◌, ◌^◌}
+use Prim.Native.Nat.{ℕ, ◌+◌, ◌*◌, ◌≤◌, ◌^◌}
 use lib.ListN.{get_or}
 use Rattle.math.specs.lists.Sum.{Σ}
 use Rattle.ring_digit_products.proofs.small.four.Given as goal
@@ -17,6 +17,3 @@ begun x y at start i sum = (sum ≡ start + Σ i (term x y at)) × (sum ≤ star
 abbrev pub invariant-loop-i : goal.invariant-loop-i
 invariant-loop-i l =
     (l.i ≤ 64) × begun l.x l.y l.at l.start l.i l.a × begun l.x l.y (l.at + 1) l.start l.i l.b × begun l.x l.y (l.at + 2) l.start l.i l.c × begun l.x l.y (l.at + 3) l.start l.i l.d
-
-abbrev pub decreases-loop-i : goal.decreases-loop-i
-decreases-loop-i l = 64 - l.i

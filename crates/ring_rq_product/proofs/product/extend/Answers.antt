@@ -12,7 +12,7 @@ loop-m-preserved c =
     let place : 64 + l.m - 64 ≡ l.m = omega arith in
     let next : 64 + l.m + 1 ≡ 64 + (l.m + 1) = omega arith in (
       omega arith,
-      padded-next 128 0 (extended_coeff a) _ (64 + l.m) _ l.invariant.1 (omega arith) (c.wide.ensures.0 ∙ ap (λ i. get_or a i 0) (sym place) ∙ simp (le-ltb (64 + l.m) 64 h))
+      padded-next 128 0 (extended_coeff a) _ (64 + l.m) _ l.invariant.1 (omega arith) (c.from.ensures ∙ ap (λ i. get_or a i 0) (sym place) ∙ simp (le-ltb (64 + l.m) 64 h))
           ∙ ap (λ n. padded 128 n 0 (extended_coeff a)) next,
     )
 

@@ -1,5 +1,5 @@
 -- `multiply` meets its contract.
-use Rattle.std.proofs.Common.{ℕ, ◌-◌, ◌≤◌, List}
+use Rattle.std.proofs.Common.{ℕ, ◌≤◌, List}
 use Rattle.ring_rq_product.specs.Product.{Finished, Forms}
 use Rattle.ring_rq_product.proofs.product.multiply.Given as goal
 
@@ -7,6 +7,3 @@ use Rattle.ring_rq_product.proofs.product.multiply.Given as goal
 -- At its head the first k coefficients of `out` are those of a·b and the later ones zero, for the a and b of which x and y are the forms.
 abbrev pub invariant-loop-k : goal.invariant-loop-k
 invariant-loop-k l = (l.k ≤ 64) × ((a b : List ℕ) → Forms l.x l.y a b → Finished l.k l.out a b)
-
-abbrev pub decreases-loop-k : goal.decreases-loop-k
-decreases-loop-k l = 64 - l.k

@@ -8,7 +8,7 @@ pub loop-m-preserved : goal.loop-m-preserved
 loop-m-preserved c =
     let l = c.loop-m in
     let h : l.m < 64 = omega arith in
-    (omega arith, padded-next 128 0 _ _ _ _ l.invariant.1 (omega arith) (c.wide.ensures.0 ∙ c.lack.ensures ∙ simp (lt-ltb l.m 64 h)))
+    (omega arith, padded-next 128 0 _ _ _ _ l.invariant.1 (omega arith) (c.from.ensures ∙ c.lack.ensures ∙ simp (lt-ltb l.m 64 h)))
 
 pub returns : goal.returns
 returns c =

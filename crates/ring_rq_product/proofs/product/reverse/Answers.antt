@@ -4,7 +4,7 @@ use Rattle.ring_rq_product.specs.Product.{reversed}
 use Rattle.ring_rq_product.proofs.product.reverse.Goals as goal
 
 pub loop-i-preserved : goal.loop-i-preserved
-loop-i-preserved c = (omega arith, padded-next 64 0 _ _ _ _ c.loop-i.invariant.1 (omega arith) c.wide.ensures.0)
+loop-i-preserved c = (omega arith, padded-next 64 0 _ _ _ _ c.loop-i.invariant.1 (omega arith) c.from.ensures)
 
 pub returns : goal.returns
 unfolding reversed

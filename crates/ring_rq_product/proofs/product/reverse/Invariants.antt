@@ -6,6 +6,3 @@ use Rattle.ring_rq_product.proofs.product.reverse.Given as goal
 
 abbrev pub invariant-loop-i : goal.invariant-loop-i
 invariant-loop-i l = (l.i ≤ 64) × (l.out ≡ padded 64 l.i 0 (λ j. coeff l.b (63 - j)))
-
-abbrev pub decreases-loop-i : goal.decreases-loop-i
-decreases-loop-i l = 64 - l.i

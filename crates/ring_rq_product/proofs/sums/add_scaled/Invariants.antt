@@ -1,5 +1,5 @@
 -- `add_scaled` meets its contract. The invariant: the first k sums have their product's halves added.
-use Rattle.std.proofs.Common.{◌≡◌, ℕ, ◌+◌, ◌-◌, ◌*◌, ◌/◌, ◌%◌, ◌≤◌, List, length, get_or}
+use Rattle.std.proofs.Common.{◌≡◌, ℕ, ◌+◌, ◌*◌, ◌/◌, ◌%◌, ◌≤◌, List, length, get_or}
 use Rattle.math.specs.lists.Table.{table}
 use Rattle.math.specs.lists.Part.{splice}
 use Rattle.spec_leaves.specs.Zq.{lack_Q}
@@ -16,6 +16,3 @@ folded sums words at c k = halves (get_or sums k 0) (get_or words (at + k) 0 * c
 abbrev pub invariant-loop-k : goal.invariant-loop-k
 invariant-loop-k l =
     (l.k ≤ 64) × (l.sums ≡ splice l.initial.sums 0 (table l.k (folded l.initial.sums l.words l.at l.factor))) × (length l.sums ≡ length l.initial.sums)
-
-abbrev pub decreases-loop-k : goal.decreases-loop-k
-decreases-loop-k l = 64 - l.k

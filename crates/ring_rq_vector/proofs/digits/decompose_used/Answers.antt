@@ -2,7 +2,7 @@ use mathlib.Core.Path.{◌≡◌, refl, sym, ◌∙◌, ap}
 use native.Mathlib.Omega.{arith}
 use lib.ListN.{length}
 use Rattle.math.specs.lists.Table.{table}
-use Rattle.math.specs.lists.Part.{splice}
+use Rattle.math.specs.lists.Part.{part, splice}
 use Rattle.math.proofs.lists.Splice.{length-splice}
 use Rattle.spec_leaves.specs.Ring.{element}
 use Rattle.spec_protocol.specs.Formulas.{flat, digit_element}
@@ -49,12 +49,13 @@ returns c =
     let s = c.args in
     let l = c.loop-k in
     let settled = c.settled in
-    let a = settled.result.coeffs in
-    let cell = settled.ensures.0 ∙ ap element c.load.ensures in record {
+    let cell = settled.ensures.0 ∙ ap element c.load.ensures in
+    let n : l.k ≡ s.parts = omega arith in record {
       upper_bound = (
-        l.invariant.0,
+        omega arith,
         l.invariant.3
-            ∙ ap (λ e. splice s.to.now s.to_at (flat (table l.k (digit_element s.base e)))) cell,
+            ∙ ap (λ e. splice s.to.now s.to_at (flat (table l.k (digit_element s.base e)))) cell
+            ∙ ap (λ k. splice s.to.now s.to_at (flat (table k (digit_element s.base (element (part s.from.now s.at 64)))))) n,
       );
-      by_index = λ k h m. absurd (let done : l.k ≡ s.parts = omega arith in omega arith);
+      by_index = λ k h m. absurd (omega arith);
     }

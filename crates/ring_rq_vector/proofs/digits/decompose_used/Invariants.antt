@@ -1,6 +1,6 @@
 -- `decompose_used` meets its contract. The invariant: the sizes are those after k digits, and the first k rows are stored.
 use mathlib.Core.Path.{◌≡◌}
-use Prim.Native.Nat.{◌+◌, ◌-◌, ◌*◌, ◌≤◌}
+use Prim.Native.Nat.{◌+◌, ◌*◌, ◌≤◌}
 use lib.ListN.{length}
 use Rattle.math.specs.lists.Table.{table}
 use Rattle.math.specs.lists.Part.{splice}
@@ -16,6 +16,3 @@ invariant-loop-k l =
     × (l.sizes ≡ sizes_after l.base l.a l.k)
     × (l.to ≡ splice l.initial.to l.to_at (flat (table l.k (digit_element l.base (element l.a)))))
     × (length l.to ≡ length l.initial.to)
-
-abbrev pub decreases-loop-k : goal.decreases-loop-k
-decreases-loop-k l = l.parts - l.k

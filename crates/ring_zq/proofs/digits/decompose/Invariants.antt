@@ -1,5 +1,5 @@
 -- `decompose` meets its contract. The invariant: the size is that after k digits, and the first k places have them.
-use Rattle.std.proofs.Common.{◌≡◌, ℕ, ◌-◌, ◌≤◌, Bool}
+use Rattle.std.proofs.Common.{◌≡◌, ℕ, ◌≤◌, Bool}
 use mathlib.Core.Bool.{xor}
 use Rattle.math.specs.lists.Table.{padded}
 use Rattle.spec_leaves.specs.Zq.{size}
@@ -13,6 +13,3 @@ digit_of negative base size k = signed (xor negative (rem_below base (size_after
 abbrev pub invariant-loop-k : goal.invariant-loop-k
 invariant-loop-k l =
     (l.k ≤ l.parts) × (l.size ≡ size_after l.base l.k l.initial.size) × (l.places ≡ padded 32 l.k 0 (digit_of l.negative l.base l.initial.size))
-
-abbrev pub decreases-loop-k : goal.decreases-loop-k
-decreases-loop-k l = l.parts - l.k

@@ -2,7 +2,6 @@ use Rattle.std.proofs.Common.{◌≡◌, ℕ, ◌+◌, ◌*◌, get_or, sym, ap,
 use Rattle.math.specs.lists.Sum.{Σ}
 use Rattle.math.proofs.lists.Sum.{Σ-suc}
 use Rattle.spec_leaves.specs.Norm.{square}
-use Rattle.spec_leaves.specs.Answer.{value128}
 use Rattle.ring_zq.proofs.Part.{norm-part}
 use Rattle.ring_zq.proofs.norms.add_norm.Goals as goal
 
@@ -19,7 +18,7 @@ loop-k-preserved c =
       c.add_square-total.ensures.0
           ∙ ap₂ ◌+◌ l.invariant.1 (ap (λ n. n * n) c.size.ensures)
           ∙ add_assoc _ _ _
-          ∙ ap (λ x. value128 s.sum + x) (sym (Σ-suc l.k f)),
+          ∙ ap (λ x. s.sum + x) (sym (Σ-suc l.k f)),
       omega arith,
     )
 
@@ -29,7 +28,7 @@ returns c =
     let l = c.loop-k in
     let n : l.k ≡ s.count = omega arith in (
       l.invariant.1
-          ∙ ap (λ k. value128 s.sum + Σ k (λ i. square (get_or s.words.now (s.at + i) 0))) n
-          ∙ ap (λ x. value128 s.sum + x) (sym (norm-part s.words.now s.at s.count (omega arith))),
+          ∙ ap (λ k. s.sum + Σ k (λ i. square (get_or s.words.now (s.at + i) 0))) n
+          ∙ ap (λ x. s.sum + x) (sym (norm-part s.words.now s.at s.count (omega arith))),
       omega arith,
     )

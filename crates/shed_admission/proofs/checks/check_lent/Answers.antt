@@ -1,24 +1,24 @@
 -- `check_lent` meets its contract.
-use Rattle.admission_slices.proofs.Found.{told}
+use Rattle.std.proofs.lemmas.Result.{err_from_is_err_and}
 use Rattle.admission_slices.proofs.Stages.{stops_at}
 use Rattle.layout_sections.proofs.Then.{goes_on}
 use Rattle.shed_admission.specs.Found.{lent}
 use Rattle.shed_admission.proofs.checks.check_lent.Goals as goal
 
-pub returns-in-Refused : goal.returns-in-Refused
+pub returns-in_err-check_section : goal.returns-in_err-check_section
 unfolding lent
-returns-in-Refused c =
-    let r = c.in-Refused.refusal in
-    stops_at r _ (stops_at r _ (told c.check_vectors.ensures c.in-Refused.is))
+returns-in_err-check_section c =
+    let f = c.from_residual in
+    let p = err_from_is_err_and f.result f.ensures.1 in
+    rw (p.1, p.2) (stops_at _ _ (stops_at _ _ c.in_err-check_section.ensures))
 
-pub returns-in-Refused-check : goal.returns-in-Refused-check
+pub returns-in_err-check : goal.returns-in_err-check
 unfolding lent
-returns-in-Refused-check c =
-    let v = told c.check_vectors.ensures c.in-Fine.is in
-    stops_at c.in-Refused-check.refusal _ (goes_on v (told c.check.ensures c.in-Refused-check.is))
+returns-in_err-check c =
+    let f = c.from_residual-in_err-check in
+    let p = err_from_is_err_and f.result f.ensures.1 in
+    rw (p.1, p.2) (stops_at _ _ (goes_on c.in_ok-check_section.ensures c.in_err-check.ensures))
 
-pub returns-in-Fine-check : goal.returns-in-Fine-check
+pub returns : goal.returns
 unfolding lent
-returns-in-Fine-check c =
-    let v = told c.check_vectors.ensures c.in-Fine.is in
-    goes_on (goes_on v (told c.check.ensures c.in-Fine-check.is)) c.check_output.ensures
+returns c = goes_on (goes_on c.in_ok-check_section.ensures c.in_ok-check.ensures) c.check_length.ensures

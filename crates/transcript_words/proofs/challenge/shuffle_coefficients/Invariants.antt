@@ -1,11 +1,8 @@
 -- `shuffle_coefficients` meets its contract. The invariant: the first k swaps are done.
 use mathlib.Core.Path.{◌≡◌}
-use Prim.Native.Nat.{◌-◌, ◌≤◌}
+use Prim.Native.Nat.{◌≤◌}
 use Rattle.spec_leaves.specs.Challenge.{swaps}
 use Rattle.transcript_words.proofs.challenge.shuffle_coefficients.Given as goal
 
 abbrev pub invariant-loop-k : goal.invariant-loop-k
 invariant-loop-k l = (l.k ≤ 63) × (l.a ≡ swaps l.words l.k l.initial.a)
-
-abbrev pub decreases-loop-k : goal.decreases-loop-k
-decreases-loop-k l = 63 - l.k

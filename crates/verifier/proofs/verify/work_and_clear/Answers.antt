@@ -9,8 +9,10 @@ pub lay_out-regions-requires : goal.lay_out-regions-requires
 lay_out-regions-requires c = few_regions _ _ _ _ _ c.requires
 
 pub check_all-answer-requires : goal.check_all-answer-requires
-check_all-answer-requires c =
-    (sent_of _ _ _ _ _ c.requires, ready_of _ _ _ _ _ c.requires _ c.args.scratch.now refl c.lay_out-regions.ensures)
+check_all-answer-requires c = ready_of _ _ _ _ _ c.requires _ c.args.scratch.now refl c.lay_out-regions.ensures
+
+pub invariant_of-exchange : goal.invariant_of-exchange
+invariant_of-exchange c = record { sent = sent_of _ _ _ _ _ c.requires }
 
 pub scratch_length-need-requires : goal.scratch_length-need-requires
 scratch_length-need-requires c = call_sized _ _ _ _ _ c.requires

@@ -1,41 +1,52 @@
 -- `check_commitments` meets its contract.
-use mathlib.Core.Path.{◌∙◌}
-use Rattle.core_workspace.proofs.Unchanged.{unchanged_trans}
+use mathlib.Core.Path.{◌≡◌, ap, ◌∙◌}
+use borrow.Author.Rules.{rules}
+use Rattle.spec_leaves.specs.Answer.{of_result}
+use Rattle.spec_protocol.specs.Parameters.{Parameters, parameters}
+use Rattle.relation_env_params.specs.Parameters.{parameters_of}
+use Rattle.core_workspace.proofs.Unchanged.{unchanged_refl, unchanged_trans}
 use Rattle.core_workspace.proofs.Ready.{ready-changed}
-use Rattle.verifier_commitments.specs.Order.{second_commitment}
-use Rattle.verifier_common.proofs.Verdicts.{goes_on, stops}
-use borrow.Enum.Refused.{opened}
+use Rattle.verifier_common.specs.Answers.{t_and_g_bounds, h_bound}
+use Rattle.verifier_digits.proofs.Digits.{t_and-g_is, h_is}
+use Rattle.verifier_commitments.proofs.outer_commitments.check_commitments.Goals.{After-check_h, After-check_t_and_g}
 use Rattle.verifier_commitments.proofs.outer_commitments.check_commitments.Goals as goal
 
-pub returns-in_default : goal.returns-in_default
-returns-in_default c =
-    let s = c.args in
-    record {
-      result_value = stops c.check_first_commitment-first.result c.check_first_commitment-first.ensures.result_value (opened c.in_default.in_default-own.keys2)
-          (second_commitment s.job.now s.transcript.now);
-      unchanged = c.check_first_commitment-first.ensures.unchanged;
-    }
+-- 14 and 15, of the job's parameters
+t_and_g_bounded : (c : After-check_t_and_g) → let s = c.args in of_result c.check_t_and_g.result ≡ t_and_g_bounds (parameters s.exchange.now.job.now) s.exchange.now.transcript.now
+t_and_g_bounded c =
+    c.check_t_and_g.ensures ∙ t_and-g_is (parameters_of c.args.exchange.now.params) c.args.exchange.now.transcript.now c.args.digits c.requires.1
+    ∙ ap (λ (P : Parameters). t_and_g_bounds P c.args.exchange.now.transcript.now) c.args.exchange.now.sent.posed.same
 
-pub check_second_commitment-requires : goal.check_second_commitment-requires
-check_second_commitment-requires c =
-    (c.requires.0, ready-changed _ _ _ c.args.scratch.now c.requires.1 _ c.check_first_commitment-first.ensures.unchanged.size, c.requires.2)
+-- 16
+h_bounded : (c : After-check_h) → let s = c.args in of_result c.check_h.result ≡ h_bound (parameters s.exchange.now.job.now) s.exchange.now.transcript.now
+h_bounded c =
+    c.check_h.ensures ∙ h_is (parameters_of c.args.exchange.now.params) c.args.exchange.now.transcript.now c.args.digits c.requires.1
+    ∙ ap (λ (P : Parameters). h_bound P c.args.exchange.now.transcript.now) c.args.exchange.now.sent.posed.same
+
+pub check_u2-requires : goal.check_u2-requires
+check_u2-requires c = ready-changed _ _ _ c.args.scratch.now c.requires.0 _ c.check_u1.ensures.unchanged.size
+
+pub returns-in_err-check_t_and_g : goal.returns-in_err-check_t_and_g
+returns-in_err-check_t_and_g c =
+    let first = t_and_g_bounded (goal.at.returns-in_err-check_t_and_g c).After-check_t_and_g in
+    record { result_value = search rules; unchanged = unchanged_refl _ _ }
+
+pub returns-in_err-check_u1 : goal.returns-in_err-check_u1
+returns-in_err-check_u1 c =
+    let first = t_and_g_bounded (goal.at.returns-in_err-check_u1 c).After-check_t_and_g in
+    record { result_value = search rules; unchanged = c.check_u1.ensures.unchanged }
+
+pub returns-in_err-check_h : goal.returns-in_err-check_h
+returns-in_err-check_h c =
+    let first = t_and_g_bounded (goal.at.returns-in_err-check_h c).After-check_t_and_g in
+    let third = h_bounded (goal.at.returns-in_err-check_h c).After-check_h in
+    record { result_value = search rules; unchanged = c.check_u1.ensures.unchanged }
 
 pub returns : goal.returns
 returns c =
-    let s = c.args in
-    let e = c.check_second_commitment.ensures in
-    let g = c.check_first_commitment-first.ensures in record {
-      result_value = e.result_value
-          ∙ goes_on c.check_first_commitment-first.result g.result_value c.in-Passed.is (second_commitment s.job.now s.transcript.now);
-      unchanged = unchanged_trans _ s.scratch.now _ _
-          g.unchanged e.unchanged;
+    let first = t_and_g_bounded (goal.at.returns c).After-check_t_and_g in
+    let third = h_bounded (goal.at.returns c).After-check_h in
+    record {
+      result_value = search rules;
+      unchanged = unchanged_trans _ c.args.scratch.now _ _ c.check_u1.ensures.unchanged c.check_u2.ensures.unchanged;
     }
-
-pub check_first_commitment-first-requires : goal.check_first_commitment-first-requires
-check_first_commitment-first-requires c = c.requires
-
-pub shape_of-scratch-in_default : goal.shape_of-scratch-in_default
-shape_of-scratch-in_default c = c.check_first_commitment-first.ensures.unchanged.size
-
-pub shape_of-scratch : goal.shape_of-scratch
-shape_of-scratch c = c.check_second_commitment.ensures.unchanged.size ∙ c.check_first_commitment-first.ensures.unchanged.size

@@ -9,7 +9,6 @@ use Rattle.spec_protocol.specs.Checks.{first}
 use Rattle.spec_protocol.specs.Parameters.{parameters}
 use Rattle.spec_protocol.proofs.Fine.{require-holds, require_fails}
 use Rattle.spec_protocol.proofs.First.{first_next}
-use Rattle.verifier_common.proofs.Sent.{reckoned}
 use Rattle.verifier_constant_terms.proofs.Terms.{test, check_22_is, terms, test_is}
 use Rattle.verifier_common.proofs.Verdicts.{first-failed}
 use Rattle.verifier_constant_terms.proofs.constant_terms.check_constant_terms.Goals.{In-loop-k}
@@ -17,33 +16,33 @@ use Rattle.verifier_constant_terms.proofs.constant_terms.check_constant_terms.Go
 
 -- the room for row k
 at_room : (c : In-loop-k)
-    → c.of_transcript-at.result + 64 * c.loop-k.k < length
-    c.args.transcript.now
+    → c.transcript_at-at.result + 64 * c.loop-k.k < length
+    c.args.exchange.now.transcript.now
 at_room c = let l = c.loop-k in l.invariant.2.at_room l.k c.loop-k-test.true
 
 psi-room : (c : In-loop-k)
     → let s = c.args in
-    c.of_randomness-psi.result + c.loop-k.k * s.params.constraint_l + s.params.constraint_l ≤ length s.randomness.now
+    c.randomness_at-psi.result + c.loop-k.k * s.exchange.now.params.constraint_l + s.exchange.now.params.constraint_l ≤ length s.exchange.now.randomness.now
 psi-room c = let l = c.loop-k in l.invariant.2.psi-room l.k c.loop-k-test.true
 
 om_room : (c : In-loop-k)
-    → c.of_randomness-omega.result + c.loop-k.k * 256 + 256 ≤ length
-    c.args.randomness.now
+    → c.randomness_at-omega.result + c.loop-k.k * 256 + 256 ≤ length
+    c.args.exchange.now.randomness.now
 om_room c = let l = c.loop-k in l.invariant.2.om_room l.k c.loop-k-test.true
 
 pub loop-k-init : goal.loop-k-init
 unfolding first
 loop-k-init c =
-    let w = c.requires in (
+    let w = c.args.exchange.now.sent in (
       omega arith,
       refl,
-      terms w c.of_job-b0.result c.of_randomness-psi.result c.of_randomness-omega.result
-          c.of_transcript-projection.result c.of_transcript-at.result
-          c.of_job-b0.ensures
-          c.of_randomness-psi.ensures
-          c.of_randomness-omega.ensures
-          c.of_transcript-projection.ensures
-          c.of_transcript-at.ensures,
+      terms w c.job_at-b0.result c.randomness_at-psi.result c.randomness_at-omega.result
+          c.transcript_at-projection.result c.transcript_at-at.result
+          c.job_at-b0.ensures
+          c.randomness_at-psi.ensures
+          c.randomness_at-omega.ensures
+          c.transcript_at-projection.ensures
+          c.transcript_at-at.ensures,
     )
 
 pub constant_term-computed-requires : goal.constant_term-computed-requires
@@ -63,14 +62,14 @@ returns-then-sent-computed c =
     let s = c.args in
     let l = c.loop-k in
     let m = l.invariant.2 in
-    let at = c.of_transcript-at.result in
-    let sent = get_or s.transcript.now (at + 64 * l.k) 0 in
+    let at = c.transcript_at-at.result in
+    let sent = get_or s.exchange.now.transcript.now (at + 64 * l.k) 0 in
     let computed = c.constant_term-computed.result in
-    let h : l.k < s.params.const_agg_length = c.loop-k-test.true in
-    let h' : l.k < (parameters s.job.now).L = omega (arith, m.rows) in
+    let h : l.k < s.exchange.now.params.const_agg_length = c.loop-k-test.true in
+    let h' : l.k < (parameters s.exchange.now.job.now).L = omega (arith, m.rows) in
     sym
-    (sym (check_22_is s.job.now s.randomness.now s.transcript.now)
-    ∙ first-failed (parameters s.job.now).L l.k (test s.job.now s.randomness.now s.transcript.now) 22 (l.k ∷ sent ∷ computed ∷ []) h' l.invariant.1
+    (sym (check_22_is s.exchange.now.job.now s.exchange.now.randomness.now s.exchange.now.transcript.now)
+    ∙ first-failed (parameters s.exchange.now.job.now).L l.k (test s.exchange.now.job.now s.exchange.now.randomness.now s.exchange.now.transcript.now) 22 (l.k ∷ sent ∷ computed ∷ []) h' l.invariant.1
     (test_is m l.k computed h c.constant_term-computed.ensures ∙ require_fails (ℕ_discrete sent computed) (failed 22 (l.k ∷ sent ∷ computed ∷ [])) c.if-sent-computed.true))
 
 pub loop-k-preserved : goal.loop-k-preserved
@@ -78,12 +77,12 @@ loop-k-preserved c =
     let s = c.args in
     let l = c.loop-k in
     let m = l.invariant.2 in
-    let at = c.of_transcript-at.result in
-    let sent = get_or s.transcript.now (at + 64 * l.k) 0 in
+    let at = c.transcript_at-at.result in
+    let sent = get_or s.exchange.now.transcript.now (at + 64 * l.k) 0 in
     let computed = c.constant_term-computed.result in
-    let h : l.k < s.params.const_agg_length = c.loop-k-test.true in (
+    let h : l.k < s.exchange.now.params.const_agg_length = c.loop-k-test.true in (
       omega (arith, h),
-      first_next l.k (test s.job.now s.randomness.now s.transcript.now) l.invariant.1
+      first_next l.k (test s.exchange.now.job.now s.exchange.now.randomness.now s.exchange.now.transcript.now) l.invariant.1
           (test_is m l.k computed h c.constant_term-computed.ensures ∙ require-holds (ℕ_discrete sent computed) (failed 22 (l.k ∷ sent ∷ computed ∷ [])) c.if-sent-computed.false),
       m,
     )
@@ -92,26 +91,11 @@ pub returns : goal.returns
 returns c =
     let s = c.args in
     let l = c.loop-k in
-    let n : l.k ≡ (parameters s.job.now).L = omega (arith, l.invariant.2.rows, c.loop-k-test.false) in
+    let n : l.k ≡ (parameters s.exchange.now.job.now).L = omega (arith, l.invariant.2.rows, c.loop-k-test.false) in
     sym
-    (sym (check_22_is s.job.now s.randomness.now s.transcript.now)
-    ∙ ap (λ k. first k (test s.job.now s.randomness.now s.transcript.now)) (sym n)
+    (sym (check_22_is s.exchange.now.job.now s.exchange.now.randomness.now s.exchange.now.transcript.now)
+    ∙ ap (λ k. first k (test s.exchange.now.job.now s.exchange.now.randomness.now s.exchange.now.transcript.now)) (sym n)
     ∙ l.invariant.1)
-
-pub of_job-b0-requires : goal.of_job-b0-requires
-of_job-b0-requires c = (reckoned c.requires.posed, omega arith)
-
-pub of_randomness-psi-requires : goal.of_randomness-psi-requires
-of_randomness-psi-requires c = (reckoned c.requires.posed, omega arith)
-
-pub of_randomness-omega-requires : goal.of_randomness-omega-requires
-of_randomness-omega-requires c = (reckoned c.requires.posed, omega arith)
-
-pub of_transcript-projection-requires : goal.of_transcript-projection-requires
-of_transcript-projection-requires c = (reckoned c.requires.posed, omega arith)
-
-pub of_transcript-at-requires : goal.of_transcript-at-requires
-of_transcript-at-requires c = (reckoned c.requires.posed, omega arith)
 
 pub overflow_mul-sent : goal.overflow_mul-sent
 overflow_mul-sent c = omega (arith, at_room (goal.at.overflow_mul-sent c).In-loop-k)
@@ -119,11 +103,11 @@ overflow_mul-sent c = omega (arith, at_room (goal.at.overflow_mul-sent c).In-loo
 pub overflow_add-sent : goal.overflow_add-sent
 overflow_add-sent c = omega (arith, at_room (goal.at.overflow_add-sent c).In-loop-k)
 
-pub offset_bounds-transcript-at : goal.offset_bounds-transcript-at
-offset_bounds-transcript-at c = omega (arith, at_room (goal.at.offset_bounds-transcript-at c).In-loop-k)
+pub offset_bounds-exchange-at : goal.offset_bounds-exchange-at
+offset_bounds-exchange-at c = omega (arith, at_room (goal.at.offset_bounds-exchange-at c).In-loop-k)
 
-pub bounds-transcript-at : goal.bounds-transcript-at
-bounds-transcript-at c = omega (arith, at_room (goal.at.bounds-transcript-at c).In-loop-k)
+pub bounds-exchange-at : goal.bounds-exchange-at
+bounds-exchange-at c = omega (arith, at_room (goal.at.bounds-exchange-at c).In-loop-k)
 
 pub overflow_mul-k : goal.overflow_mul-k
 overflow_mul-k c = omega (arith, psi-room (goal.at.overflow_mul-k c).In-loop-k)
@@ -136,9 +120,6 @@ overflow_mul-k-in-loop-k c = omega (arith, om_room (goal.at.overflow_mul-k-in-lo
 
 pub overflow_add-omega : goal.overflow_add-omega
 overflow_add-omega c = omega (arith, om_room (goal.at.overflow_add-omega c).In-loop-k)
-
-pub overflow_add-k : goal.overflow_add-k
-overflow_add-k c = omega (arith, c.loop-k-test.true)
 
 pub loop-k-smaller : goal.loop-k-smaller
 loop-k-smaller c = omega (arith, c.loop-k-test.true)

@@ -8,8 +8,6 @@ use Rattle.verifier_constant_terms.proofs.constant_terms.check_constant_terms.Gi
 
 abbrev pub invariant-loop-k : goal.invariant-loop-k
 invariant-loop-k l =
-    (l.k ≤ l.params.const_agg_length) × (first l.k (test l.job l.randomness l.transcript) ≡ fine) × Terms l.job l.randomness l.transcript l.params.const_agg_length l.l l.b0 l.psi l.omega
+    (l.k ≤ l.exchange.params.const_agg_length) × (first l.k (test l.exchange.job.now l.exchange.randomness.now l.exchange.transcript.now) ≡ fine) × Terms l.exchange.job.now
+    l.exchange.randomness.now l.exchange.transcript.now l.exchange.params.const_agg_length l.l l.b0 l.psi l.omega
     l.projection l.at
-
-abbrev pub decreases-loop-k : goal.decreases-loop-k
-decreases-loop-k l = l.params.const_agg_length - l.k

@@ -9,6 +9,3 @@ use Rattle.verifier_constant_terms.proofs.numbers.add_products.Given as goal
 abbrev pub invariant-loop-k : goal.invariant-loop-k
 invariant-loop-k l =
     (l.k ≤ l.count) × (l.total % Q ≡ (l.sum + Σ l.k (λ m. get_or l.x (l.x_at + m) 0 * get_or l.y (l.y_at + m) 0)) % Q) × (l.total ≤ l.sum + l.k * 2 ^ 39)
-
-abbrev pub decreases-loop-k : goal.decreases-loop-k
-decreases-loop-k l = l.count - l.k

@@ -1,60 +1,46 @@
 -- `check_projection_norm` meets its contract.
-use mathlib.Core.Path.{◌≡◌, sym, ap, ◌∙◌}
-use mathlib.Core.Bool.{cond}
+use mathlib.Core.Path.{◌≡◌, refl, sym}
+use mathlib.Core.Bool.{Bool, true, false, cond}
 use mathlib.Core.List.{[], ◌∷◌}
+use Prim.Native.Nat.{◌*◌}
 use native.Mathlib.Omega.{arith}
-use borrow.Author.Tests.{leb-true, leb-false}
-use Rattle.spec_leaves.specs.Answer.{fine, failed, value128}
+use borrow.Author.Tests.{le-leb, lt-leb}
+use lib.Dec.{leb}
+use Rattle.spec_leaves.specs.Answer.{fine, failed}
 use Rattle.relation_env_params.specs.Parameters.{parameters_of}
 use Rattle.verifier_common.specs.Answers.{projection_norm}
-use Rattle.verifier_common.proofs.Sent.{received_room}
-use Rattle.verifier_norms.proofs.Norms.{upper, check_21-below, check_21_is}
-use Rattle.verifier_norms.proofs.norm_checks.check_projection_norm.Goals.{After-at_most-2}
+use Rattle.verifier_common.proofs.Sent.{received, received_room}
+use Rattle.verifier_norms.proofs.Norms.{check_21_is}
+use Rattle.verifier_norms.proofs.norm_checks.check_projection_norm.Goals.{After-norm_of-norm}
 use Rattle.verifier_norms.proofs.norm_checks.check_projection_norm.Goals as goal
 
--- 21, by what the second `at_most` answers
-found : (c : After-at_most-2)
+-- 21, by how the norm compares with 128 times beta_sq
+found : (c : After-norm_of-norm) (t : Bool)
     → let s = c.args in
-    projection_norm (parameters_of s.params) s.transcript.now
-    ≡ cond c.at_most-2.result fine (failed 21 (value128 c.norm_of-norm.result ∷ value128 c.times_128-limit.result ∷ []))
-found c =
-    let w = c.requires in
-    let o = c.of_transcript in
-    check_21_is c.args.transcript.now c.args.params
-    o.result (value128 c.norm_of-norm.result) (value128 c.times_128-limit.result) c.at_most-2.result o.ensures
-    (received_room w 1 o.result (omega arith) o.ensures)
+    t ≡ leb c.norm_of-norm.result (128 * s.exchange.now.params.beta_sq)
+    → cond t fine (failed 21 (c.norm_of-norm.result ∷ 128 * s.exchange.now.params.beta_sq ∷ [])) ≡ projection_norm (parameters_of s.exchange.now.params) s.exchange.now.transcript.now
+found c t e =
+    let o = c.transcript_at in
+    sym
+    (check_21_is c.args.exchange.now.transcript.now c.args.exchange.now.params
+    o.result c.norm_of-norm.result (128 * c.args.exchange.now.params.beta_sq) t o.ensures
+    (received_room (received c.args.exchange.now.sent.posed) 1 o.result (omega arith) o.ensures)
     c.norm_of-norm.ensures.0
-    c.times_128-limit.ensures
-    c.at_most-2.ensures
+    refl
+    e)
 
 pub norm_of-norm-requires : goal.norm_of-norm-requires
-norm_of-norm-requires c = received_room c.requires 1 c.of_transcript.result (omega arith) c.of_transcript.ensures
+norm_of-norm-requires c = received_room (received c.args.exchange.now.sent.posed) 1 c.transcript_at.result (omega arith) c.transcript_at.ensures
 
 -- 21 with a norm up to beta_sq
-pub returns-then-at_most : goal.returns-then-at_most
-returns-then-at_most c =
-    let o = c.of_transcript in
-    let t = c.requires in
-    sym (check_21-below c.args.transcript.now c.args.params o.result (value128 c.norm_of-norm.result) o.ensures
-    (received_room t 1 o.result (omega arith) o.ensures)
-    c.norm_of-norm.ensures.0
-    (leb-true _ _ (sym c.at_most.ensures ∙ c.if-at_most.true)))
+pub returns-then-norm-exchange : goal.returns-then-norm-exchange
+returns-then-norm-exchange c =
+    found (goal.at.returns-then-norm-exchange c).After-norm_of-norm true (sym (le-leb c.norm_of-norm.result (128 * c.args.exchange.now.params.beta_sq) (omega arith)))
 
-pub times_128-limit-requires : goal.times_128-limit-requires
-times_128-limit-requires c =
-    upper _ _ (leb-false _ _ (sym c.at_most.ensures ∙ c.if-at_most.false)) c.norm_of-norm.ensures.1 (omega arith)
+pub returns-then-norm-limit : goal.returns-then-norm-limit
+returns-then-norm-limit c =
+    found (goal.at.returns-then-norm-limit c).After-norm_of-norm true (sym (le-leb c.norm_of-norm.result (128 * c.args.exchange.now.params.beta_sq) (omega arith)))
 
-pub returns-then-at_most-2 : goal.returns-then-at_most-2
-returns-then-at_most-2 c =
-    let x = value128 c.norm_of-norm.result in
-    let y = value128 c.times_128-limit.result in
-    sym (found (goal.at.returns-then-at_most-2 c).After-at_most-2 ∙ ap (λ t. cond t fine (failed 21 (x ∷ y ∷ []))) c.if-at_most-2.true)
-
-pub returns-else-at_most-2 : goal.returns-else-at_most-2
-returns-else-at_most-2 c =
-    let x = value128 c.norm_of-norm.result in
-    let y = value128 c.times_128-limit.result in
-    sym (found (goal.at.returns-else-at_most-2 c).After-at_most-2 ∙ ap (λ t. cond t fine (failed 21 (x ∷ y ∷ []))) c.if-at_most-2.false)
-
-pub of_transcript-requires : goal.of_transcript-requires
-of_transcript-requires c = (c.requires.sized, omega arith)
+pub returns-else-norm-limit : goal.returns-else-norm-limit
+returns-else-norm-limit c =
+    found (goal.at.returns-else-norm-limit c).After-norm_of-norm false (sym (lt-leb c.norm_of-norm.result (128 * c.args.exchange.now.params.beta_sq) (omega arith)))

@@ -10,37 +10,26 @@ use Rattle.verifier_relations.proofs.lines.by_constraints.Goals as goal
 
 pub overflow_mul-step : goal.overflow_mul-step
 overflow_mul-step c =
-    let w = (reckoned c.requires.0.posed).within in
+    let w = (reckoned c.args.exchange.now.sent.posed).within in
     omega (arith, mul-le-mul w.r.1 w.n.1)
 
 pub overflow_mul-step-2 : goal.overflow_mul-step-2
 overflow_mul-step-2 c =
-    let w = (reckoned c.requires.0.posed).within in
+    let w = (reckoned c.args.exchange.now.sent.posed).within in
     omega (arith, mul-le-mul w.r.1 w.n.1)
-
-pub of_job-requires : goal.of_job-requires
-of_job-requires c = (reckoned c.requires.0.posed, omega arith)
-
-pub of_randomness-requires : goal.of_randomness-requires
-of_randomness-requires c = (reckoned c.requires.0.posed, omega arith)
-
-pub of_randomness-requires-2 : goal.of_randomness-requires-2
-of_randomness-requires-2 c = (reckoned c.requires.0.posed, omega arith)
-
-pub of_transcript-requires : goal.of_transcript-requires
-of_transcript-requires c = (reckoned c.requires.0.posed, omega arith)
 
 pub sum_of_lines-requires : goal.sum_of_lines-requires
 sum_of_lines-requires c =
     let a = c.args in
-    constraints_require a.job.now a.transcript.now a.params a.regions a.scratch.now c.requires.0.posed c.requires.1 a.randomness.now _ _ _ _
-    (drawn_fewer 7 5 a.job.now a.randomness.now (omega arith) c.requires.0.drawn) c.requires.2.0.0 (omega arith) c.of_job.ensures
-    c.of_randomness.ensures c.of_randomness-2.ensures c.of_transcript.ensures
+    constraints_require a.exchange.now.job.now a.exchange.now.transcript.now a.exchange.now.params a.regions a.scratch.now c.args.exchange.now.sent.posed c.requires.0
+    a.exchange.now.randomness.now _ _ _ _
+    (drawn_fewer 7 5 a.exchange.now.job.now a.exchange.now.randomness.now (omega arith) c.args.exchange.now.sent.drawn) c.requires.1.0.0 (omega arith) c.job_at.ensures
+    c.randomness_at.ensures c.randomness_at-2.ensures c.transcript_at.ensures
 
 pub returns : goal.returns
 returns c =
     let a = c.args in
     c.sum_of_lines.ensures
-    ∙ ap words (lines_summed a.job.now a.randomness.now a.transcript.now a.params a.regions a.scratch.now c.requires.1.same c.requires.2.0.0 _ _ _ _
-    c.of_job.ensures c.of_randomness.ensures c.of_randomness-2.ensures
-    c.of_transcript.ensures c.requires.2.1)
+    ∙ ap words (lines_summed a.exchange.now.job.now a.exchange.now.randomness.now a.exchange.now.transcript.now a.exchange.now.params a.regions a.scratch.now c.requires.0.same c.requires.1.0.0 _ _ _ _
+    c.job_at.ensures c.randomness_at.ensures c.randomness_at-2.ensures
+    c.transcript_at.ensures c.requires.1.1)

@@ -7,20 +7,19 @@ use Rattle.verifier_relations.proofs.relations.check_aggregated.Goals as goal
 
 pub double_prime-requires : goal.double_prime-requires
 double_prime-requires c =
-    (c.requires.1, drawn_fewer 7 3 c.args.job.now c.args.randomness.now (omega arith) c.requires.0.drawn)
+    (c.requires.0, drawn_fewer 7 3 c.args.exchange.now.job.now c.args.exchange.now.randomness.now (omega arith) c.args.exchange.now.sent.drawn)
 
 pub sum_of_lines-lines-requires : goal.sum_of_lines-lines-requires
 sum_of_lines-lines-requires c =
     let a = c.args in
     let e = c.double_prime.ensures in (
-      c.requires.0,
-      (double_made a.job.now a.randomness.now a.params a.regions a.scratch.now c.requires.1 _ e).ready,
+      (double_made a.exchange.now.job.now a.exchange.now.randomness.now a.exchange.now.params a.regions a.scratch.now c.requires.0 _ e).ready,
       (
         (
-          double_leaves_c a.job.now a.randomness.now a.params a.regions a.scratch.now c.requires.1 _ e c.requires.2,
-          a''-made a.job.now a.randomness.now a.params a.regions a.scratch.now c.requires.1 _ e,
+          double_leaves_c a.exchange.now.job.now a.exchange.now.randomness.now a.exchange.now.params a.regions a.scratch.now c.requires.0 _ e c.requires.1,
+          a''-made a.exchange.now.job.now a.exchange.now.randomness.now a.exchange.now.params a.regions a.scratch.now c.requires.0 _ e,
         ),
-        φ''-made a.job.now a.randomness.now a.params a.regions a.scratch.now c.requires.1 _ e,
+        φ''-made a.exchange.now.job.now a.exchange.now.randomness.now a.exchange.now.params a.regions a.scratch.now c.requires.0 _ e,
       ),
     )
 
@@ -28,14 +27,14 @@ pub check_phi_and_relation-requires : goal.check_phi_and_relation-requires
 check_phi_and_relation-requires c =
     let a = c.args in
     let double = c.double_prime.ensures in
-    let d = double_made a.job.now a.randomness.now a.params a.regions a.scratch.now c.requires.1 _ double in
+    let d = double_made a.exchange.now.job.now a.exchange.now.randomness.now a.exchange.now.params a.regions a.scratch.now c.requires.0 _ double in
     let e = c.sum_of_lines-lines.ensures in
-    record { sent = (c.requires.0, ready-changed _ _ _ _ d.ready _ e.unchanged.size, e.prepared); coeffs_value = e.coeffs_value }
+    record { sent = (ready-changed _ _ _ _ d.ready _ e.unchanged.size, e.prepared); coeffs_value = e.coeffs_value }
 
 pub returns : goal.returns
 returns c =
     let a = c.args in
     let double = c.double_prime.ensures in
-    let d = double_made a.job.now a.randomness.now a.params a.regions a.scratch.now c.requires.1 _ double in
+    let d = double_made a.exchange.now.job.now a.exchange.now.randomness.now a.exchange.now.params a.regions a.scratch.now c.requires.0 _ double in
     let e = c.check_phi_and_relation.ensures in
     record { result_value = e.result_value; unchanged = unchanged_trans _ _ _ _ (unchanged_trans _ _ _ _ d.unchanged c.sum_of_lines-lines.ensures.unchanged) e.unchanged }

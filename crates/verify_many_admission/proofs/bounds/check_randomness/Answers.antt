@@ -6,29 +6,29 @@ use lib.ListN.{length}
 use Rattle.spec_protocol.specs.Layout.{span, randomness_sections, randomness_refusal}
 use Rattle.relation_env_params.specs.Parameters.{parameters_of}
 use Rattle.verify_many_admission.proofs.Cut.{in_order, between}
-use Rattle.verify_many_admission.proofs.bounds.check_randomness.Goals.{After-randomness_bounds-b}
+use Rattle.verify_many_admission.proofs.bounds.check_randomness.Goals.{After-randomness_bounds-from}
 use Rattle.verify_many_admission.proofs.bounds.check_randomness.Goals as goal
 
 -- the part's bounds
-order : (c : After-randomness_bounds-b) → (c.randomness_bounds-b.result.from ≤ c.randomness_bounds-b.result.to) × (c.randomness_bounds-b.result.to ≤ length c.args.words.now)
+order : (c : After-randomness_bounds-from) → (c.randomness_bounds-from.result.from ≤ c.randomness_bounds-from.result.to) × (c.randomness_bounds-from.result.to ≤ length c.args.words.now)
 order c =
     let s = c.args in
-    in_order s.words.now (span (randomness_sections (parameters_of s.params))) s.count s.m c.randomness_bounds-b.result c.randomness_bounds-b.ensures
+    in_order s.words.now (span (randomness_sections (parameters_of s.params))) s.count s.m c.randomness_bounds-from.result c.randomness_bounds-from.ensures
 
 pub offset_bounds-words-from : goal.offset_bounds-words-from
-offset_bounds-words-from c = omega (arith, order (goal.at.offset_bounds-words-from c).After-randomness_bounds-b)
+offset_bounds-words-from c = omega (arith, order (goal.at.offset_bounds-words-from c).After-randomness_bounds-from)
 
 pub slice_bounds-check-count : goal.slice_bounds-check-count
-slice_bounds-check-count c = (order (goal.at.slice_bounds-check-count c).After-randomness_bounds-b).0
+slice_bounds-check-count c = (order (goal.at.slice_bounds-check-count c).After-randomness_bounds-from).0
 
 pub slice_bounds-check-start : goal.slice_bounds-check-start
-slice_bounds-check-start c = (order (goal.at.slice_bounds-check-start c).After-randomness_bounds-b).0
+slice_bounds-check-start c = (order (goal.at.slice_bounds-check-start c).After-randomness_bounds-from).0
 
 pub slice_bounds-check-end : goal.slice_bounds-check-end
-slice_bounds-check-end c = (order (goal.at.slice_bounds-check-end c).After-randomness_bounds-b).1
+slice_bounds-check-end c = (order (goal.at.slice_bounds-check-end c).After-randomness_bounds-from).1
 
 pub returns : goal.returns
 returns c =
     let s = c.args in
     let P = parameters_of s.params in
-    c.check.ensures ∙ ap (randomness_refusal P 7) (between s.words.now (span (randomness_sections P)) s.count s.m c.randomness_bounds-b.result c.randomness_bounds-b.ensures)
+    c.check.ensures ∙ ap (randomness_refusal P 7) (between s.words.now (span (randomness_sections P)) s.count s.m c.randomness_bounds-from.result c.randomness_bounds-from.ensures)

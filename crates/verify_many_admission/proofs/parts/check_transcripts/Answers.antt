@@ -11,8 +11,8 @@ use Rattle.verify_many_admission.proofs.parts.check_transcripts.Goals as goal
 pub loop-m-init : goal.loop-m-init
 loop-m-init c = (omega arith, refl, λ k h. absurd (omega arith))
 
-pub check_transcript-v-requires : goal.check_transcript-v-requires
-check_transcript-v-requires c = (omega arith, c.requires.1, c.requires.0)
+pub check_transcript-requires : goal.check_transcript-requires
+check_transcript-requires c = (omega arith, c.requires.1, c.requires.0)
 
 pub loop-m-preserved : goal.loop-m-preserved
 loop-m-preserved c =
@@ -20,9 +20,9 @@ loop-m-preserved c =
     let s = c.args in
     let room : l.m < length l.found = omega (arith, l.invariant.1) in (
       omega arith,
-      length-set l.found l.m c.check_transcript-v.result ∙ l.invariant.1,
-      stored l.found l.m c.check_transcript-v.result
-          (λ k. transcript_refusal (parameters_of s.params) (transcript_part (parameters_of s.params) s.count s.transcripts.now k)) room l.invariant.2 c.check_transcript-v.ensures,
+      length-set l.found l.m c.check_transcript.result ∙ l.invariant.1,
+      stored l.found l.m c.check_transcript.result
+          (λ k. transcript_refusal (parameters_of s.params) (transcript_part (parameters_of s.params) s.count s.transcripts.now k)) room l.invariant.2 c.check_transcript.ensures,
     )
 
 pub returns : goal.returns

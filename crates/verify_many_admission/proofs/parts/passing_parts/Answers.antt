@@ -10,7 +10,7 @@ loop-m-init c = (omega arith, padded-none 8 false (of_part c.args.found))
 pub loop-m-preserved : goal.loop-m-preserved
 loop-m-preserved c =
     let l = c.loop-m in
-    (omega arith, padded-next 8 false (of_part c.args.found) l.out l.m c.passes-v.result l.invariant.1 (omega arith) c.passes-v.ensures)
+    (omega arith, padded-next 8 false (of_part c.args.found) l.out l.m c.is_ok.result l.invariant.1 (omega arith) c.is_ok.ensures.value)
 
 pub returns : goal.returns
 returns c = let l = c.loop-m in padded_done 8 false (of_part c.args.found) l.out l.m l.invariant.1 (omega arith)

@@ -1,24 +1,24 @@
 -- `admit` meets its contract.
-use mathlib.Core.Path.{sym, ap, subst, ◌∙◌}
-use Rattle.admission_slices.specs.Admission.{of_admitted, At}
-use Rattle.verify_many_admission.specs.Admitted.{ManyGiven}
+use Rattle.std.proofs.lemmas.Result.{err_from_is_err_and}
 use Rattle.verify_many_admission.proofs.Refused.{none-handed, too_many, so_many}
+use Rattle.verify_many_admission.proofs.whole.admit.Goals.{then-count-lt1-via-then-count-lt1, then-count-lt1-via-else-count-lt1+then-count-gt8}
 use Rattle.verify_many_admission.proofs.whole.admit.Goals as goal
 
-pub returns-then-count-lt1 : goal.returns-then-count-lt1
-returns-then-count-lt1 c = let s = c.args in record { result_value = none-handed s.job.now s.count s.scratch c.if-count-lt1.true; at_many = tt }
-
-pub returns-then-count-gt8 : goal.returns-then-count-gt8
-returns-then-count-gt8 c = let s = c.args in record { result_value = too_many s.job.now s.count s.scratch c.if-count-lt1.false c.if-count-gt8.true; at_many = tt }
-
-pub returns-in-Refused : goal.returns-in-Refused
-returns-in-Refused c =
+pub returns-then-count-lt1-clause-result_value : goal.returns-then-count-lt1-clause-result_value
+returns-then-count-lt1-clause-result_value c =
     let s = c.args in
-    record { result_value = so_many s.job.now s.count s.scratch c.if-count-lt1.false c.if-count-gt8.false (sym (ap of_admitted c.in-Refused.is) ∙ c.admit_job.ensures.result_value); at_many = tt }
+    elim c.then-count-lt1.branch [
+      | then-count-lt1-via-then-count-lt1 w ↦ none-handed s.job.now s.count s.scratch w.if-count-lt1.true
+      | then-count-lt1-via-else-count-lt1+then-count-gt8 w ↦ too_many s.job.now s.count s.scratch w.if-count-lt1.false w.if-count-gt8.true
+    ]
 
-pub returns-in-Fit : goal.returns-in-Fit
-returns-in-Fit c =
-    let s = c.args in record {
-      result_value = so_many s.job.now s.count s.scratch c.if-count-lt1.false c.if-count-gt8.false (sym (ap of_admitted c.in-Fit.is) ∙ c.admit_job.ensures.result_value);
-      at_many = subst (λ x. At x (ManyGiven s.job.now s.count s.scratch)) c.in-Fit.is c.admit_job.ensures.at;
-    }
+pub returns-in_err-params-clause-result_value : goal.returns-in_err-params-clause-result_value
+returns-in_err-params-clause-result_value c =
+    let s = c.args in
+    let p = err_from_is_err_and c.from_residual.result c.from_residual.ensures.1 in
+    rw (p.1, p.2) (so_many s.job.now s.count s.scratch c.if-count-lt1.false c.if-count-gt8.false c.in_err-params.ensures.result_value)
+
+pub returns-clause-result_value : goal.returns-clause-result_value
+returns-clause-result_value c =
+    let s = c.args in
+    so_many s.job.now s.count s.scratch c.if-count-lt1.false c.if-count-gt8.false c.in_ok-params.ensures.result_value

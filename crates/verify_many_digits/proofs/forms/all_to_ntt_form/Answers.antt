@@ -23,7 +23,7 @@ bounds : (c : In-loop-m)
     × (c.loop-m.m * c.scratch_length-need.result + c.scratch_length-need.result ≤ length s.scratch.now) × (s.count ≤ 8)
 bounds c =
     let n = c.scratch_length-need in
-    (need_large _ _ _ _ _ _ c.requires.w_value.1 _ n.ensures, window-within _ _ _ _ _ _ c.requires.w_value.1 _ n.ensures _ c.loop-m-test.true, c.requires.w_value.1.few)
+    (need_large _ _ _ _ _ _ c.requires.rowable.0 _ n.ensures, window-within _ _ _ _ _ _ c.requires.rowable.0 _ n.ensures _ c.loop-m-test.true, c.requires.rowable.0.few)
 
 pub loop-m-init : goal.loop-m-init
 loop-m-init c =
@@ -33,13 +33,12 @@ pub one_to_ntt_form-requires : goal.one_to_ntt_form-requires
 one_to_ntt_form-requires c =
     let l = c.loop-m in
     let b = bounds (goal.at.one_to_ntt_form-requires c).In-loop-m in record {
-      w_value = (
-        c.requires.w_value.0,
+      in_range = (
         c.loop-m-test.true,
         b.2,
-        omega (arith, b, c.requires.w_value.2, l.invariant.1, l.invariant.3.size, c.scratch_length-need.ensures),
+        omega (arith, b, c.requires.rowable.1, l.invariant.1, l.invariant.3.size, c.scratch_length-need.ensures),
       );
-      received = λ t. part_received _ _ _ _ _ _ c.requires.w_value.1 _
+      received = λ t. part_received _ _ _ _ _ _ c.requires.rowable.0 _
           c.loop-m-test.true t;
     }
 
@@ -49,12 +48,12 @@ loop-m-preserved c =
     let J = c.args.job.now in
     let n = c.scratch_length-need in
     let h = c.loop-m-test.true in
-    let need-same = need_is _ _ _ _ _ _ c.requires.w_value.1 _ n.ensures in
+    let need-same = need_is _ _ _ _ _ _ c.requires.rowable.0 _ n.ensures in
     let at = l.invariant.1 ∙ ap (λ k. l.m * k) need-same in
-    let room = subst (λ k. many_need (parameters J) c.args.count ≤ k) (sym l.invariant.3.size) c.requires.w_value.1.room in
-    let fits = subst NttFitting c.requires.w_value.1.same c.requires.w_value.2 in
+    let room = subst (λ k. many_need (parameters J) c.args.count ≤ k) (sym l.invariant.3.size) c.requires.rowable.0.room in
+    let fits = subst NttFitting c.requires.rowable.0.same c.requires.rowable.1 in
     let e = c.one_to_ntt_form.ensures
-    ∙ ap (λ P. ntt_digits_for P c.args.transcripts.now c.args.count l.m l.start (get_or c.args.passes l.m false) l.scratch) c.requires.w_value.1.same in
+    ∙ ap (λ P. ntt_digits_for P c.args.transcripts.now c.args.count l.m l.start (get_or c.args.passes l.m false) l.scratch) c.requires.rowable.0.same in
     let next =
     begun_next J c.args.transcripts.now c.args.count _ (parameters J).κ (digits_of-part J c.args.transcripts.now c.args.count) 0 (digit_count (parameters J)) fits
     c.args.scratch.now l.scratch _ l.m l.start room h at _ refl e
@@ -71,16 +70,13 @@ returns c =
     record { all_rows_done_2 = b.done; all_ntt_digits = λ i h t. b.forms i (omega arith) h t; unchanged = l.invariant.3 }
 
 pub scratch_length-need-requires : goal.scratch_length-need-requires
-scratch_length-need-requires c = rowable_sized _ _ _ _ _ _ c.requires.w_value.1
+scratch_length-need-requires c = rowable_sized _ _ _ _ _ _ c.requires.rowable.0
 
 pub bounds-passes-m : goal.bounds-passes-m
 bounds-passes-m c = omega (arith, bounds (goal.at.bounds-passes-m c).In-loop-m)
 
 pub overflow_add-start : goal.overflow_add-start
 overflow_add-start c = omega (arith, bounds (goal.at.overflow_add-start c).In-loop-m, c.loop-m.invariant.1)
-
-pub overflow_add-m : goal.overflow_add-m
-overflow_add-m c = omega (arith, bounds (goal.at.overflow_add-m c).In-loop-m)
 
 pub shape_of-scratch : goal.shape_of-scratch
 shape_of-scratch c = c.loop-m.invariant.3.size

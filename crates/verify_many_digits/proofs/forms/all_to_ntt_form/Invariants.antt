@@ -2,7 +2,7 @@
 use mathlib.Core.Path.{◌≡◌}
 use mathlib.Core.Bool.{false}
 use mathlib.Core.List.{List}
-use Prim.Native.Nat.{ℕ, ◌-◌, ◌*◌, ◌≤◌}
+use Prim.Native.Nat.{ℕ, ◌*◌, ◌≤◌}
 use lib.ListN.{get_or}
 use Rattle.spec_protocol.specs.Parameters.{parameters}
 use Rattle.spec_protocol.specs.Unchanged.{Unchanged}
@@ -21,6 +21,3 @@ invariant-loop-m l =
     × (l.start ≡ m * l.need)
     × Begun l.job l.transcripts l.count (λ m. get_or l.passes m false) (parameters l.job).κ (digits_of-part l.job l.transcripts l.count) 0 (digit_count (parameters l.job)) l.scratch m
     × Unchanged (many_need (parameters l.job) l.count) l.initial.scratch l.scratch
-
-abbrev pub decreases-loop-m : goal.decreases-loop-m
-decreases-loop-m l = l.count - l.m

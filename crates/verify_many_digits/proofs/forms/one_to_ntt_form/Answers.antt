@@ -40,12 +40,12 @@ lent c =
 
 pub transcript_bounds-b-requires : goal.transcript_bounds-b-requires
 transcript_bounds-b-requires c =
-    (c.requires.w_value.1, c.requires.w_value.2, (received (goal.at.transcript_bounds-b-requires c).Then-pass).sized)
+    (c.requires.in_range.0, c.requires.in_range.1, (received (goal.at.transcript_bounds-b-requires c).Then-pass).sized)
 
 pub store_window-requires : goal.store_window-requires
 store_window-requires c =
     let b = (goal.at.store_window-requires c).After-transcript_bounds-b in
-    (c.requires.w_value.0, subst (λ X. Received X c.args.params) (sym (lent b)) (received (goal.at.store_window-requires c).Then-pass), c.requires.w_value.3)
+    (subst (λ X. Received X c.args.params) (sym (lent b)) (received (goal.at.store_window-requires c).Then-pass), c.requires.in_range.2)
 
 pub returns-then-pass : goal.returns-then-pass
 returns-then-pass c =

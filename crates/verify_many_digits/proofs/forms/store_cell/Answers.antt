@@ -19,4 +19,4 @@ returns c =
     ∙ ap (splice s.to.now s.place)
     (ntt_words_copied (replicate 2048 0) _ (flat (table s.parts f)) s.parts c.decompose_to.ensures (omega
     (arith, length-flat-table s.parts f))
-    (omega (arith, length-flat-table s.parts f, length-replicate {A = ℕ} 2048 0, c.requires.3)))
+    (omega (arith, length-flat-table s.parts f, length-replicate {A = ℕ} 2048 0, c.requires.2)))

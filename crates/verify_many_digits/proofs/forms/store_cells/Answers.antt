@@ -25,17 +25,16 @@ loop-c-init c =
 pub store_cell-requires : goal.store_cell-requires
 store_cell-requires c =
     let l = c.loop-c in (
-      c.requires.0,
-      omega (arith, c.requires.1.within),
-      c.requires.2,
-      c.requires.1.few_parts,
-      omega (arith, rows-within l.c c.args.d.cells c.args.d.parts (omega arith), c.requires.3),
+      omega (arith, c.requires.0.within),
+      c.requires.1,
+      c.requires.0.few_parts,
+      omega (arith, rows-within l.c c.args.d.cells c.args.d.parts (omega arith), c.requires.2),
     )
 
 pub overflow_add-place : goal.overflow_add-place
 overflow_add-place c =
     let l = c.loop-c in
-    omega (arith, rows-within l.c c.args.d.cells c.args.d.parts (omega arith), c.requires.3)
+    omega (arith, rows-within l.c c.args.d.cells c.args.d.parts (omega arith), c.requires.2)
 
 pub loop-c-preserved : goal.loop-c-preserved
 loop-c-preserved c =
@@ -62,13 +61,10 @@ returns c =
     ∙ ap (λ ds. splice s.to.now s.to_at (ntt_words (flat ds) 0 (s.d.cells * s.d.parts))) (sym (digits-cat s.base s.d.parts s.d.cells (run s.from.now s.d.at 64)))
 
 pub overflow_mul-block : goal.overflow_mul-block
-overflow_mul-block c = omega (arith, c.requires.1.few_parts)
+overflow_mul-block c = omega (arith, c.requires.0.few_parts)
 
 pub overflow_add-at : goal.overflow_add-at
-overflow_add-at c = omega (arith, c.requires.1.within)
-
-pub overflow_add-c : goal.overflow_add-c
-overflow_add-c c = omega (arith, c.requires.1.few_cells)
+overflow_add-at c = omega (arith, c.requires.0.within)
 
 pub shape_of-to : goal.shape_of-to
 shape_of-to c = c.loop-c.invariant.4

@@ -1,7 +1,7 @@
 -- `store_cells` meets its contract. The invariant: the digits of the first c cells are stored in NTT form.
 use mathlib.Core.Path.{◌≡◌}
 use mathlib.Core.List.{List}
-use Prim.Native.Nat.{ℕ, ◌+◌, ◌-◌, ◌*◌, ◌≤◌}
+use Prim.Native.Nat.{ℕ, ◌+◌, ◌*◌, ◌≤◌}
 use lib.ListN.{length}
 use Rattle.math.specs.lists.Table.{table, cat}
 use Rattle.math.specs.lists.Part.{splice}
@@ -22,6 +22,3 @@ invariant-loop-c l =
     × (l.place ≡ l.to_at + 192 * (l.c * l.parts))
     × (l.to ≡ splice l.initial.to l.to_at (ntt_words (flat (cat l.c (cell-digits l.base l.parts l.from l.initial.at))) 0 (l.c * l.parts)))
     × (length l.to ≡ length l.initial.to)
-
-abbrev pub decreases-loop-c : goal.decreases-loop-c
-decreases-loop-c l = l.cells - l.c

@@ -13,30 +13,29 @@ use Rattle.verify_many_digits.proofs.forms.store_window.Goals as goal
 
 pub overflow_add-g_at : goal.overflow_add-g_at
 overflow_add-g_at c =
-    let small : Fits w64 (c.args.start + 192 * (c.args.params.multiplicity * c.args.params.kappa * c.args.params.t_1)) = omega (arith, c.requires.2) in
+    let small : Fits w64 (c.args.start + 192 * (c.args.params.multiplicity * c.args.params.kappa * c.args.params.t_1)) = omega (arith, c.requires.1) in
     small
 
 pub overflow_add-h_at : goal.overflow_add-h_at
 overflow_add-h_at c =
     let p = c.args.params in
     let t = c.triangle-cells in
-    let small : Fits w64 (c.args.start + 192 * (p.multiplicity * p.kappa * p.t_1) + 192 * (t.result * p.t_2)) = omega (arith, c.requires.2, ap (λ n. n * p.t_2) t.ensures.0) in
+    let small : Fits w64 (c.args.start + 192 * (p.multiplicity * p.kappa * p.t_1) + 192 * (t.result * p.t_2)) = omega (arith, c.requires.1, ap (λ n. n * p.t_2) t.ensures.0) in
     small
 
 pub store_cells-requires : goal.store_cells-requires
 store_cells-requires c =
     let s = c.requires in
-    (s.0, t_cells _ _ s.1 _ _ c.of_transcript.ensures refl, base_large _ _ s.1, omega (arith, s.2))
+    (t_cells _ _ s.0 _ _ c.of_transcript.ensures refl, base_large _ _ s.0, omega (arith, s.1))
 
 pub store_cells-requires-2 : goal.store_cells-requires-2
 store_cells-requires-2 c =
     let t = c.triangle-cells.ensures in
     let size = length_filled _ c.args.scratch.now _ _ c.store_cells.ensures in (
-      c.requires.0,
-      g_cells _ _ c.requires.1 _ _ c.of_transcript-2.ensures t,
-      base_large _ _ c.requires.1,
+      g_cells _ _ c.requires.0 _ _ c.of_transcript-2.ensures t,
+      base_large _ _ c.requires.0,
       omega
-          (arith, c.requires.2, size, ap (λ n. n * c.args.params.t_2) t.0),
+          (arith, c.requires.1, size, ap (λ n. n * c.args.params.t_2) t.0),
     )
 
 pub store_cells-requires-3 : goal.store_cells-requires-3
@@ -44,10 +43,9 @@ store_cells-requires-3 c =
     let t = c.triangle-cells.ensures in
     let size = length_filled _ _ _ _ c.store_cells-2.ensures ∙ length_filled _ c.args.scratch.now _ _
     c.store_cells.ensures in (
-      c.requires.0,
-      h_cells _ _ c.requires.1 _ _ c.of_transcript-3.ensures t,
-      base_large _ _ c.requires.1,
-      omega (arith, c.requires.2, size, ap (λ n. n * c.args.params.t_2) t.0, ap (λ n. n * c.args.params.t_1) t.0),
+      h_cells _ _ c.requires.0 _ _ c.of_transcript-3.ensures t,
+      base_large _ _ c.requires.0,
+      omega (arith, c.requires.1, size, ap (λ n. n * c.args.params.t_2) t.0, ap (λ n. n * c.args.params.t_1) t.0),
     )
 
 pub returns : goal.returns
@@ -61,40 +59,40 @@ returns c =
     c.store_cells-2.ensures c.store_cells-3.ensures
 
 pub triangle-cells-requires : goal.triangle-cells-requires
-triangle-cells-requires c = c.requires.1.sized.within.r.1
+triangle-cells-requires c = c.requires.0.sized.within.r.1
 
 pub of_transcript-requires : goal.of_transcript-requires
-of_transcript-requires c = (c.requires.1.sized, omega arith)
+of_transcript-requires c = (c.requires.0.sized, omega arith)
 
 pub overflow_mul-t : goal.overflow_mul-t
-overflow_mul-t c = omega (arith, (few _ 0 c.requires.1.sized (omega arith)).rκ)
+overflow_mul-t c = omega (arith, (few _ 0 c.requires.0.sized (omega arith)).rκ)
 
 pub of_transcript-requires-2 : goal.of_transcript-requires-2
-of_transcript-requires-2 c = (c.requires.1.sized, omega arith)
+of_transcript-requires-2 c = (c.requires.0.sized, omega arith)
 
 pub of_transcript-requires-3 : goal.of_transcript-requires-3
-of_transcript-requires-3 c = (c.requires.1.sized, omega arith)
+of_transcript-requires-3 c = (c.requires.0.sized, omega arith)
 
 pub overflow_mul-g_at : goal.overflow_mul-g_at
-overflow_mul-g_at c = omega (arith, (few _ 0 c.requires.1.sized (omega arith)).rκ)
+overflow_mul-g_at c = omega (arith, (few _ 0 c.requires.0.sized (omega arith)).rκ)
 
 pub overflow_mul-g_at-2 : goal.overflow_mul-g_at-2
-overflow_mul-g_at-2 c = omega (arith, (few _ 0 c.requires.1.sized (omega arith)).rκt₁)
+overflow_mul-g_at-2 c = omega (arith, (few _ 0 c.requires.0.sized (omega arith)).rκt₁)
 
 pub overflow_mul-g_at-3 : goal.overflow_mul-g_at-3
-overflow_mul-g_at-3 c = omega (arith, (few _ 0 c.requires.1.sized (omega arith)).rκt₁)
+overflow_mul-g_at-3 c = omega (arith, (few _ 0 c.requires.0.sized (omega arith)).rκt₁)
 
 pub overflow_mul-h_at : goal.overflow_mul-h_at
 overflow_mul-h_at c = omega (
   arith,
-  (few _ _ c.requires.1.sized
+  (few _ _ c.requires.0.sized
       c.triangle-cells.ensures.1).tt₂,
 )
 
 pub overflow_mul-h_at-2 : goal.overflow_mul-h_at-2
 overflow_mul-h_at-2 c = omega (
   arith,
-  (few _ _ c.requires.1.sized
+  (few _ _ c.requires.0.sized
       c.triangle-cells.ensures.1).tt₂,
 )
 

@@ -24,7 +24,7 @@ use Rattle.verify_many_digits.proofs.rows.row_of_all.Goals as goal
 
 -- the parameters can be reckoned with
 reckoned : (s : Start) → Sized (parameters_of s.args.params)
-reckoned s = sized s.args.job.now (parameters_of s.args.params) s.requires.w_value.1.sound s.requires.w_value.1.same
+reckoned s = sized s.args.job.now (parameters_of s.args.params) s.requires.valued.sound s.requires.valued.same
 
 -- there are few rows
 few-rows : (s : Start) → s.args.row < 64
@@ -34,16 +34,16 @@ few-rows s = let w = (reckoned s).within in omega (arith, w.κ.1, w.κ₁.1, w.�
 known : (c : After-place_of-p) → let s = c.args in RowIs s.job.now s.params s.row c.place_of-p.result
 known c =
     subst (λ R. RowIs c.args.job.now c.args.params c.args.row R) (sym c.place_of-p.ensures)
-    (row_is c.args.job.now c.args.params c.requires.w_value.1.same c.requires.w_value.1.job c.args.row c.requires.kappa_le_row.0 c.requires.kappa_le_row.1)
+    (row_is c.args.job.now c.args.params c.requires.valued.same c.requires.valued.job c.args.row c.requires.kappa_le_row.0 c.requires.kappa_le_row.1)
 
 -- the length of a window, by the job's parameters
 need_is : (c : After-scratch_length-need) → c.scratch_length-need.result ≡ scratch_need (parameters c.args.job.now)
-need_is c = c.scratch_length-need.ensures ∙ ap scratch_need c.requires.w_value.1.same
+need_is c = c.scratch_length-need.ensures ∙ ap scratch_need c.requires.valued.same
 
 pub row_sums-sums-requires : goal.row_sums-sums-requires
 row_sums-sums-requires c =
     let s = (goal.at.row_sums-sums-requires c).Start in
-    let v = c.requires.w_value.1 in
+    let v = c.requires.valued in
     let k = known (goal.at.row_sums-sums-requires c).After-place_of-p in
     let R = c.place_of-p.result in
     let P = parameters c.args.job.now in
@@ -54,7 +54,6 @@ row_sums-sums-requires c =
     mul-le-mul v.few (subst (λ x. x ≤ 4000000) (sym c.scratch_length-need.ensures) (need_small (parameters_of c.args.params) (reckoned s).within)) in
     let short : R.digits + c.args.count * c.scratch_length-need.result + 192 * R.width < 2 ^ 64 = omega
     (arith, k.place, k.within, f.rκt₁, f.tt₂, f.tt₁, windows) in (
-      c.requires.w_value.0,
       omega (arith, k.inside, c.of_job.ensures),
       record {
         few = v.few;
@@ -70,10 +69,10 @@ pub store_sums-requires : goal.store_sums-requires
 store_sums-requires c =
     let s = (goal.at.store_sums-requires c).Start in
     let n = need_is (goal.at.store_sums-requires c).After-scratch_length-need in (
-      c.requires.w_value.1.few,
+      c.requires.valued.few,
       omega (arith, few-rows s, c.scratch_length-need.ensures),
       subst (λ x. c.args.count * x ≤ length
-          c.args.scratch.now) (sym n) c.requires.w_value.1.room,
+          c.args.scratch.now) (sym n) c.requires.valued.room,
     )
 
 pub returns : goal.returns
@@ -82,7 +81,7 @@ returns c =
     let a = c.args in
     let J = a.job.now in
     let S = a.scratch.now in
-    let v = c.requires.w_value.1 in
+    let v = c.requires.valued in
     let few = few-rows s in
     let R = c.place_of-p.result in
     let sums = c.row_sums-sums.result in

@@ -37,20 +37,17 @@ row_of_all-requires c =
     let l = c.loop-row in
     let P = parameters c.args.job.now in
     let r = c.requires.rowable.0 in record {
-      w_value = (
-        c.twiddles-w.ensures,
-        record {
-          same = r.same;
-          sound = r.sound;
-          job = r.job;
-          few = r.few;
-          room = subst (λ n. many_need P c.args.count ≤ n) (sym (l.invariant.4.size
-              ∙ c.all_to_ntt_form.ensures.unchanged.size)) r.room;
-          fitting = subst NttFitting r.same c.requires.rowable.1;
-          values = λ m h u.
-              ntt_form-values l.scratch (m * scratch_need P) (window_digits P (transcript_part P c.args.count c.args.transcripts.now m)) 0 (digit_count P) (l.invariant.2 m h u);
-        },
-      );
+      valued = record {
+        same = r.same;
+        sound = r.sound;
+        job = r.job;
+        few = r.few;
+        room = subst (λ n. many_need P c.args.count ≤ n) (sym (l.invariant.4.size
+            ∙ c.all_to_ntt_form.ensures.unchanged.size)) r.room;
+        fitting = subst NttFitting r.same c.requires.rowable.1;
+        values = λ m h u.
+            ntt_form-values l.scratch (m * scratch_need P) (window_digits P (transcript_part P c.args.count c.args.transcripts.now m)) 0 (digit_count P) (l.invariant.2 m h u);
+      };
       kappa_le_row = (l.invariant.0, omega arith);
     }
 
@@ -74,7 +71,7 @@ returns c =
     }
 
 pub all_to_ntt_form-requires : goal.all_to_ntt_form-requires
-all_to_ntt_form-requires c = record { w_value = (c.twiddles-w.ensures, c.requires.rowable.0, c.requires.rowable.1); all_rows_done = c.requires.all_rows_done }
+all_to_ntt_form-requires c = record { rowable = c.requires.rowable; all_rows_done = c.requires.all_rows_done }
 
 pub overflow_add-last : goal.overflow_add-last
 overflow_add-last c = omega (arith, few (goal.at.overflow_add-last c).Start)
@@ -84,9 +81,6 @@ overflow_add-last-2 c = omega (arith, few (goal.at.overflow_add-last-2 c).Start)
 
 pub overflow_add-last-3 : goal.overflow_add-last-3
 overflow_add-last-3 c = omega (arith, few (goal.at.overflow_add-last-3 c).Start)
-
-pub overflow_add-row : goal.overflow_add-row
-overflow_add-row c = omega (arith, few (goal.at.overflow_add-row c).Start)
 
 pub shape_of-scratch : goal.shape_of-scratch
 shape_of-scratch c = c.loop-row.invariant.4.size ∙ c.all_to_ntt_form.ensures.unchanged.size

@@ -1,6 +1,6 @@
 -- `rows_of_digits` meets its contract. The invariant: the rows so far are done for every transcript that passes, and the digits are in NTT form.
 use mathlib.Core.Bool.{false}
-use Prim.Native.Nat.{◌-◌, ◌≤◌}
+use Prim.Native.Nat.{◌≤◌}
 use lib.ListN.{get_or}
 use Rattle.spec_protocol.specs.Parameters.{parameters}
 use Rattle.spec_protocol.specs.Unchanged.{Unchanged}
@@ -15,6 +15,3 @@ invariant-loop-row l =
     × AllNttDigits l.job l.count (λ m. get_or l.passes m false) l.transcripts l.scratch
     × AllRowsDone l.job l.count (λ m. get_or l.passes m false) l.transcripts l.scratch l.row
     × Unchanged (many_need (parameters l.job) l.count) l.initial.scratch l.scratch
-
-abbrev pub decreases-loop-row : goal.decreases-loop-row
-decreases-loop-row l = l.last - l.row

@@ -56,8 +56,5 @@ bounds-sums-m c = omega (arith, c.requires.0)
 pub bounds-passes-m : goal.bounds-passes-m
 bounds-passes-m c = omega (arith, c.requires.0)
 
-pub overflow_add-m : goal.overflow_add-m
-overflow_add-m c = omega (arith, c.requires.0)
-
 pub shape_of-scratch : goal.shape_of-scratch
 shape_of-scratch c = c.loop-m.invariant.3

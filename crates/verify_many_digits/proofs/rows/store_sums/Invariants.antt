@@ -1,7 +1,7 @@
 -- `store_sums` meets its contract. The invariant: the sums of the first m windows are stored.
 use mathlib.Core.Path.{◌≡◌}
 use mathlib.Core.Bool.{false}
-use Prim.Native.Nat.{◌+◌, ◌-◌, ◌*◌, ◌≤◌}
+use Prim.Native.Nat.{◌+◌, ◌*◌, ◌≤◌}
 use lib.ListN.{length, get_or}
 use Rattle.verify_many_digits.specs.Rows.{stored_sums, SumsLong}
 use Rattle.verify_many_digits.proofs.rows.store_sums.Given as goal
@@ -13,6 +13,3 @@ invariant-loop-m l =
     × (l.scratch ≡ stored_sums l.sums (λ i. get_or l.passes i false) l.at l.need l.m l.initial.scratch)
     × (length l.scratch ≡ length l.initial.scratch)
     × SumsLong l.sums l.m
-
-abbrev pub decreases-loop-m : goal.decreases-loop-m
-decreases-loop-m l = l.count - l.m

@@ -6,7 +6,7 @@ use Rattle.verify_many_digits.proofs.sums.add_product.Goals as goal
 
 pub inner_product-product-requires : goal.inner_product-product-requires
 inner_product-product-requires c =
-    (c.requires.0, c.requires.1, c.requires.3 c.if-pass.true, c.requires.2)
+    (c.requires.0, c.requires.2 c.if-pass.true, c.requires.1)
 
 pub returns-then-pass : goal.returns-then-pass
 returns-then-pass c = λ t. c.add.ensures ∙ ap (radd c.args.sum.coeffs) c.inner_product-product.ensures

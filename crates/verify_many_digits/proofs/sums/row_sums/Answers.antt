@@ -15,7 +15,7 @@ pub loop-done-init : goal.loop-done-init
 loop-done-init c = (
   omega arith,
   refl,
-  summed_none c.args.job.now c.args.row c.args.width c.args.scratch.now c.args.count _ c.args.at c.args.need c.zero-sums.result c.requires.2.few
+  summed_none c.args.job.now c.args.row c.args.width c.args.scratch.now c.args.count _ c.args.at c.args.need c.zero-sums.result c.requires.1.few
       c.zero-sums.ensures,
 )
 
@@ -23,14 +23,13 @@ pub to_ntt_form-requires : goal.to_ntt_form-requires
 to_ntt_form-requires c =
     let l = c.loop-done in
     let n = c.block-n.ensures in
-    (c.requires.0, omega (arith, c.requires.1, n, l.invariant.0), omega (arith, n, l.invariant.1))
+    (omega (arith, c.requires.0, n, l.invariant.0), omega (arith, n, l.invariant.1))
 
 pub add_block-next-requires : goal.add_block-next-requires
 add_block-next-requires c =
     let l = c.loop-done in
     let n = c.block-n in
-    let g = c.requires.2 in (
-      c.requires.0,
+    let g = c.requires.1 in (
       ntt_form-values _ 0 _ _ n.result c.to_ntt_form.ensures.ntt_form,
       n.ensures.2,
       record {
@@ -65,23 +64,23 @@ pub overflow_sub-width : goal.overflow_sub-width
 overflow_sub-width c = c.loop-done.invariant.0
 
 pub overflow_mul-done : goal.overflow_mul-done
-overflow_mul-done c = omega (arith, c.requires.1, c.loop-done.invariant.0)
+overflow_mul-done c = omega (arith, c.requires.0, c.loop-done.invariant.0)
 
 pub overflow_add-row : goal.overflow_add-row
-overflow_add-row c = omega (arith, c.requires.1, c.loop-done.invariant.0)
+overflow_add-row c = omega (arith, c.requires.0, c.loop-done.invariant.0)
 
 pub overflow_mul-done-in-loop-done : goal.overflow_mul-done-in-loop-done
-overflow_mul-done-in-loop-done c = omega (arith, c.requires.2.short, c.loop-done.invariant.0)
+overflow_mul-done-in-loop-done c = omega (arith, c.requires.1.short, c.loop-done.invariant.0)
 
 pub overflow_add-at : goal.overflow_add-at
-overflow_add-at c = omega (arith, c.requires.2.short, c.loop-done.invariant.0)
+overflow_add-at c = omega (arith, c.requires.1.short, c.loop-done.invariant.0)
 
 pub overflow_add-done : goal.overflow_add-done
 overflow_add-done c = omega (
   arith,
   c.block-n.ensures,
   c.loop-done.invariant.0,
-  c.requires.2.short,
+  c.requires.1.short,
 )
 
 pub loop-done-smaller : goal.loop-done-smaller

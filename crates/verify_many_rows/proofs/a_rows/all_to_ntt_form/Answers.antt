@@ -21,7 +21,7 @@ bounds : (c : In-loop-m)
     × (c.loop-m.m * c.scratch_length-need.result + c.scratch_length-need.result ≤ length s.scratch.now) × (s.count ≤ 8)
 bounds c =
     let n = c.scratch_length-need in
-    (need_large _ _ _ _ _ _ c.requires.w_value.1 _ n.ensures, window-within _ _ _ _ _ _ c.requires.w_value.1 _ n.ensures _ c.loop-m-test.true, c.requires.w_value.1.few)
+    (need_large _ _ _ _ _ _ c.requires.rowable _ n.ensures, window-within _ _ _ _ _ _ c.requires.rowable _ n.ensures _ c.loop-m-test.true, c.requires.rowable.few)
 
 pub loop-m-init : goal.loop-m-init
 loop-m-init c =
@@ -31,9 +31,9 @@ pub one_to_ntt_form-requires : goal.one_to_ntt_form-requires
 one_to_ntt_form-requires c =
     let l = c.loop-m in
     let b = bounds (goal.at.one_to_ntt_form-requires c).In-loop-m in
-    let fits = z_fits (parameters_of c.args.params) (rowable_sized _ _ _ _ _ _ c.requires.w_value.1).within in record {
-      w_value = (c.requires.w_value.0, c.loop-m-test.true, b.2, omega (arith, b, fits, l.invariant.1, l.invariant.3.size, c.scratch_length-need.ensures));
-      received = λ t. part_received _ _ _ _ _ _ c.requires.w_value.1 _ c.loop-m-test.true t;
+    let fits = z_fits (parameters_of c.args.params) (rowable_sized _ _ _ _ _ _ c.requires.rowable).within in record {
+      in_range = (c.loop-m-test.true, b.2, omega (arith, b, fits, l.invariant.1, l.invariant.3.size, c.scratch_length-need.ensures));
+      received = λ t. part_received _ _ _ _ _ _ c.requires.rowable _ c.loop-m-test.true t;
     }
 
 pub loop-m-preserved : goal.loop-m-preserved
@@ -41,16 +41,16 @@ loop-m-preserved c =
     let l = c.loop-m in
     let n = c.scratch_length-need in
     let h = c.loop-m-test.true in
-    let at = l.invariant.1 ∙ ap (λ k. l.m * k) (need_is _ _ _ _ _ _ c.requires.w_value.1 _ n.ensures) in
-    let room = subst (λ k. many_need (parameters c.args.job.now) c.args.count ≤ k) (sym l.invariant.3.size) c.requires.w_value.1.room in
+    let at = l.invariant.1 ∙ ap (λ k. l.m * k) (need_is _ _ _ _ _ _ c.requires.rowable _ n.ensures) in
+    let room = subst (λ k. many_need (parameters c.args.job.now) c.args.count ≤ k) (sym l.invariant.3.size) c.requires.rowable.room in
     let e = c.one_to_ntt_form.ensures in
     let J = c.args.job.now in
     let T = c.args.transcripts.now in
     let next =
-    begun_next J T c.args.count _ 0 (transcript_part (parameters J) c.args.count T) (z_at (parameters J)) (parameters J).n (z_fits (parameters J) c.requires.w_value.1.sound.within)
+    begun_next J T c.args.count _ 0 (transcript_part (parameters J) c.args.count T) (z_at (parameters J)) (parameters J).n (z_fits (parameters J) c.requires.rowable.sound.within)
     c.args.scratch.now l.scratch _ l.m l.start room h at _ refl
-    (e.scratch_after ∙ ap (λ P. z_for P T c.args.count l.m l.start (get_or c.args.passes l.m false) l.scratch) c.requires.w_value.1.same)
-    (λ t. subst (λ P. NttFormZ P T c.args.count l.m l.start c.one_to_ntt_form.new.scratch) c.requires.w_value.1.same (e.ntt_form_z t)) (l.invariant.2, l.invariant.3) in
+    (e.scratch_after ∙ ap (λ P. z_for P T c.args.count l.m l.start (get_or c.args.passes l.m false) l.scratch) c.requires.rowable.same)
+    (λ t. subst (λ P. NttFormZ P T c.args.count l.m l.start c.one_to_ntt_form.new.scratch) c.requires.rowable.same (e.ntt_form_z t)) (l.invariant.2, l.invariant.3) in
     (omega arith, omega (arith, l.invariant.1), next.0, next.1)
 
 pub returns : goal.returns
@@ -60,16 +60,13 @@ returns c =
     record { all_rows_done_2 = b.done; all_z = λ i h t. b.forms i (omega arith) h t; unchanged = l.invariant.3 }
 
 pub scratch_length-need-requires : goal.scratch_length-need-requires
-scratch_length-need-requires c = rowable_sized _ _ _ _ _ _ c.requires.w_value.1
+scratch_length-need-requires c = rowable_sized _ _ _ _ _ _ c.requires.rowable
 
 pub bounds-passes-m : goal.bounds-passes-m
 bounds-passes-m c = omega (arith, bounds (goal.at.bounds-passes-m c).In-loop-m)
 
 pub overflow_add-start : goal.overflow_add-start
 overflow_add-start c = omega (arith, bounds (goal.at.overflow_add-start c).In-loop-m, c.loop-m.invariant.1)
-
-pub overflow_add-m : goal.overflow_add-m
-overflow_add-m c = omega (arith, bounds (goal.at.overflow_add-m c).In-loop-m)
 
 pub shape_of-scratch : goal.shape_of-scratch
 shape_of-scratch c = c.loop-m.invariant.3.size

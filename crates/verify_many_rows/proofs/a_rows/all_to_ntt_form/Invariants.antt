@@ -1,7 +1,7 @@
 -- `all_to_ntt_form` meets its contract. The invariant: z of the transcripts before m that pass is in NTT form.
 use mathlib.Core.Path.{◌≡◌}
 use mathlib.Core.Bool.{false}
-use Prim.Native.Nat.{◌-◌, ◌*◌, ◌≤◌}
+use Prim.Native.Nat.{◌*◌, ◌≤◌}
 use lib.ListN.{get_or}
 use Rattle.spec_protocol.specs.Parameters.{parameters}
 use Rattle.spec_protocol.specs.Unchanged.{Unchanged}
@@ -16,6 +16,3 @@ invariant-loop-m l =
     × (l.start ≡ m * l.need)
     × Begun l.job l.transcripts l.count (λ m. get_or l.passes m false) 0 (transcript_part (parameters l.job) l.count l.transcripts) (z_at (parameters l.job)) (parameters l.job).n l.scratch m
     × Unchanged (many_need (parameters l.job) l.count) l.initial.scratch l.scratch
-
-abbrev pub decreases-loop-m : goal.decreases-loop-m
-decreases-loop-m l = l.count - l.m

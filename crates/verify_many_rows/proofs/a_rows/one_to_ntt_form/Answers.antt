@@ -41,15 +41,14 @@ lent c =
 
 pub transcript_bounds-b-requires : goal.transcript_bounds-b-requires
 transcript_bounds-b-requires c =
-    (c.requires.w_value.1, c.requires.w_value.2, (received (goal.at.transcript_bounds-b-requires c).Then-pass).sized)
+    (c.requires.in_range.0, c.requires.in_range.1, (received (goal.at.transcript_bounds-b-requires c).Then-pass).sized)
 
 pub to_ntt_form-requires : goal.to_ntt_form-requires
 to_ntt_form-requires c =
     let b = (goal.at.to_ntt_form-requires c).After-transcript_bounds-b in (
-      c.requires.w_value.0,
       z-within _ _ (subst (λ X. Received X c.args.params) (sym (lent b)) (received (goal.at.to_ntt_form-requires c).Then-pass)) _
           c.of_transcript-z_at.ensures,
-      c.requires.w_value.3,
+      c.requires.in_range.2,
     )
 
 pub returns-then-pass : goal.returns-then-pass

@@ -20,16 +20,16 @@ use Rattle.verify_many_rows.proofs.a_rows.row_of_all.Goals as goal
 
 -- what the row stands on
 rowable : (s : Start) → Rowable s.args.job.now [] s.args.count (λ m. false) (length s.args.scratch.now) s.args.params
-rowable s = bare _ _ _ _ _ _ s.requires.1
+rowable s = bare _ _ _ _ _ _ s.requires.0
 
 -- the row lies within the job, and its place is small
 row_bounds : (c : After-of_job)
     → let s = c.args in
     (s.row * s.params.rank ≤ 1024) × (c.of_job.result + 64 * (s.row * s.params.rank) + 64 * s.params.rank ≤ length s.job.now) × (s.params.rank ≤ 64)
 row_bounds c =
-    let w = (rowable_sized _ _ _ _ _ _ (rowable c.before.before.before.before.before.before)).within in
-    let few : c.args.row ≤ 16 = omega (arith, w.κ.1, c.requires.2) in
-    (mul-le-mul few w.n.1, row-end c.args.job.now c.args.params _ _ c.requires.1.same c.requires.1.job c.of_job.ensures c.requires.2, w.n.1)
+    let w = (rowable_sized _ _ _ _ _ _ (rowable c.before.before.before.before.before)).within in
+    let few : c.args.row ≤ 16 = omega (arith, w.κ.1, c.requires.1) in
+    (mul-le-mul few w.n.1, row-end c.args.job.now c.args.params _ _ c.requires.0.same c.requires.0.job c.of_job.ensures c.requires.1, w.n.1)
 
 -- window m lies within the scratch, and the row is one of few
 bounds : (c : In-loop-m)
@@ -38,10 +38,10 @@ bounds : (c : In-loop-m)
     (4096 ≤ n.result) × (c.loop-m.m * n.result + n.result ≤ length s.scratch.now) × (s.row < 64) × (s.count ≤ 8)
 bounds c =
     let n = c.scratch_length-need in
-    let r = rowable c.before.before.before.before.before.before.before.before.before.before.before in (
+    let r = rowable c.before.before.before.before.before.before.before.before.before.before in (
       need_large _ _ _ _ _ _ r _ n.ensures,
       window-within _ _ _ _ _ _ r _ n.ensures _ c.loop-m-test.true,
-      omega (arith, few-rows _ _ _ _ _ _ r, c.requires.2),
+      omega (arith, few-rows _ _ _ _ _ _ r, c.requires.1),
       r.few,
     )
 
@@ -52,11 +52,11 @@ small c = omega (arith, bounds c, c.loop-m.invariant.1)
 pub to_ntt_form-requires : goal.to_ntt_form-requires
 to_ntt_form-requires c =
     let b = row_bounds (goal.at.to_ntt_form-requires c).After-of_job in
-    (c.requires.0, omega (arith, b.1), omega (arith, b.2))
+    (omega (arith, b.1), omega (arith, b.2))
 
 pub loop-m-init : goal.loop-m-init
 loop-m-init c =
-    (omega arith, omega arith, making_none _ _ _ _ _ c.requires.1.values)
+    (omega arith, omega arith, making_none _ _ _ _ _ c.requires.0.values)
 
 pub store_product-requires : goal.store_product-requires
 store_product-requires c =
@@ -67,9 +67,8 @@ store_product-requires c =
     let n = c.scratch_length-need in
     let J = c.args.job.now in
     let at = l.invariant.1 ∙ ap (λ k. l.m * k) (need_is _ _ _ _ _ _ (rowable s) _ n.ensures) in
-    let width : c.args.params.rank ≡ (parameters J).n = ap (λ (Q : Parameters). Q.n) c.requires.1.same in record {
-      w_value = (
-        c.requires.0,
+    let width : c.args.params.rank ≡ (parameters J).n = ap (λ (Q : Parameters). Q.n) c.requires.0.same in record {
+      values = (
         ntt_form-values _ 0 _ _ c.args.params.rank c.to_ntt_form.ensures.ntt_form,
         (row_bounds (goal.at.store_product-requires c).After-of_job).2,
         omega (arith, b, l.invariant.1, l.invariant.2.unchanged.size),
@@ -86,16 +85,16 @@ loop-m-preserved c =
     let n = c.scratch_length-need in
     let o = c.of_job in
     let J = c.args.job.now in
-    let same = c.requires.1.same in
+    let same = c.requires.0.same in
     let width : c.args.params.rank ≡ (parameters J).n = ap (λ (Q : Parameters). Q.n) same in
     let at = l.invariant.1 ∙ ap (λ k. l.m * k) (need_is _ _ _ _ _ _ (rowable s) _ n.ensures) in
-    let room = subst (λ k. many_need (parameters J) c.args.count ≤ k) (sym l.invariant.2.unchanged.size) c.requires.1.room in
+    let room = subst (λ k. many_need (parameters J) c.args.count ≤ k) (sym l.invariant.2.unchanged.size) c.requires.0.room in
     let place = place_is _ _ _ _ _ _ (rowable s) _ n.ensures l.m (l.start + n.result) c.args.row (ap (λ k. k + n.result) l.invariant.1) in
     let row_is = ap (λ a. a + 64 * (c.args.row * c.args.params.rank)) o.ensures ∙ ap (λ (Q : Parameters). job_at Q 6 + 64 * (c.args.row * Q.n)) same in (
       omega arith,
       omega (arith, l.invariant.1),
-      making_next J c.args.count _ c.args.row c.args.scratch.now l.scratch _ _ l.m l.start _ _ c.requires.1.sound.within b.2 room c.loop-m-test.true
-          at place row_is (subst (λ (Q : Parameters). c.args.row < Q.κ) same c.requires.2) _ width c.to_ntt_form.ensures.ntt_form _ refl
+      making_next J c.args.count _ c.args.row c.args.scratch.now l.scratch _ _ l.m l.start _ _ c.requires.0.sound.within b.2 room c.loop-m-test.true
+          at place row_is (subst (λ (Q : Parameters). c.args.row < Q.κ) same c.requires.1) _ width c.to_ntt_form.ensures.ntt_form _ refl
           c.store_product.ensures l.invariant.2,
     )
 
@@ -137,9 +136,6 @@ overflow_add-place-in-loop-m c = omega (arith, bounds (goal.at.overflow_add-plac
 
 pub overflow_add-start : goal.overflow_add-start
 overflow_add-start c = small (goal.at.overflow_add-start c).In-loop-m
-
-pub overflow_add-m : goal.overflow_add-m
-overflow_add-m c = omega (arith, bounds (goal.at.overflow_add-m c).In-loop-m)
 
 pub shape_of-scratch : goal.shape_of-scratch
 shape_of-scratch c = c.loop-m.invariant.2.unchanged.size

@@ -8,7 +8,6 @@ use Rattle.spec_protocol.specs.Layout.{scratch_need}
 use Rattle.spec_protocol.specs.Many.{many_need, transcript_part, AllRowsDone}
 use Rattle.core_workspace.proofs.Unchanged.{unchanged_refl, unchanged_trans}
 use Rattle.ntt_vectors.proofs.Laws.{ntt_form-values}
-use Rattle.verify_many_windows.proofs.WindowLaws.{rowable_sized}
 use Rattle.verify_many_rows.specs.NttForm.{z_at}
 use Rattle.verify_many_rows.proofs.a_rows.rows_of_a.Goals as goal
 
@@ -22,7 +21,6 @@ row_of_all-requires c =
     let l = c.loop-row in
     let J = c.args.job.now in
     let P = parameters J in (
-      c.twiddles-w.ensures,
       record {
         same = c.requires.rowable.same;
         sound = c.requires.rowable.sound;
@@ -53,14 +51,7 @@ returns c =
     }
 
 pub all_to_ntt_form-requires : goal.all_to_ntt_form-requires
-all_to_ntt_form-requires c = record { w_value = (c.twiddles-w.ensures, c.requires.rowable); all_rows_done = c.requires.all_rows_done }
-
-pub overflow_add-row : goal.overflow_add-row
-overflow_add-row c = omega (
-  arith,
-  (rowable_sized _ _ _ _ _ _
-      c.requires.rowable).within.κ.1,
-)
+all_to_ntt_form-requires c = record { rowable = c.requires.rowable; all_rows_done = c.requires.all_rows_done }
 
 pub shape_of-scratch : goal.shape_of-scratch
 shape_of-scratch c = c.loop-row.invariant.3.size ∙ c.all_to_ntt_form.ensures.unchanged.size

@@ -1,6 +1,6 @@
 -- `rows_of_a` meets its contract. The invariant: the first rows are done for every transcript that passes, and z is in NTT form.
 use mathlib.Core.Bool.{false}
-use Prim.Native.Nat.{◌-◌, ◌≤◌}
+use Prim.Native.Nat.{◌≤◌}
 use lib.ListN.{get_or}
 use Rattle.spec_protocol.specs.Parameters.{parameters}
 use Rattle.spec_protocol.specs.Unchanged.{Unchanged}
@@ -14,6 +14,3 @@ invariant-loop-row l =
     × AllZ l.job l.count (λ m. get_or l.passes m false) l.transcripts l.scratch
     × AllRowsDone l.job l.count (λ m. get_or l.passes m false) l.transcripts l.scratch l.row
     × Unchanged (many_need (parameters l.job) l.count) l.initial.scratch l.scratch
-
-abbrev pub decreases-loop-row : goal.decreases-loop-row
-decreases-loop-row l = l.params.kappa - l.row

@@ -6,7 +6,7 @@ use Rattle.verify_many_rows.proofs.a_rows.store_product.Goals as goal
 
 pub inner_product-product-requires : goal.inner_product-product-requires
 inner_product-product-requires c =
-    (c.requires.w_value.0, c.requires.w_value.1, c.requires.all_values c.if-pass.true, c.requires.w_value.2)
+    (c.requires.values.0, c.requires.all_values c.if-pass.true, c.requires.values.1)
 
 pub returns-then-pass : goal.returns-then-pass
 returns-then-pass c =
@@ -21,4 +21,4 @@ returns-else-pass c =
     ap (λ b. product_for s.values.now s.n s.start s.place b s.scratch.now) (sym c.if-pass.false)
 
 pub store-requires : goal.store-requires
-store-requires c = c.requires.w_value.3
+store-requires c = c.requires.values.2

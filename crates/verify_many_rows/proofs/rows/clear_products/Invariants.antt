@@ -12,6 +12,3 @@ invariant-loop-m l =
     × (l.start ≡ l.m * l.need)
     × ((k : ℕ) → k < l.m → part l.scratch (k * l.need + (l.need - 4096)) 4096 ≡ replicate 4096 0)
     × Unchanged (l.count * l.need) l.initial.scratch l.scratch
-
-abbrev pub decreases-loop-m : goal.decreases-loop-m
-decreases-loop-m l = l.count - l.m

@@ -47,12 +47,14 @@ row_of_one-requires c =
     let J = c.args.job.now in
     let X = transcript_part (parameters J) c.args.count c.args.transcripts.now l.m in
     let at = l.invariant.1 ∙ ap (λ k. l.m * k) (need_is _ _ _ _ _ _ c.requires.rowable.0 _ n.ensures) in
-    let w = subst (λ P. Places P l.start c.args.stored c.places-held.result) c.requires.rowable.0.same c.places-held.ensures in record {
+    record {
       m_lt_count = (h, b.3, c.requires.rowable.1, omega (arith, b, l.invariant.1, l.invariant.3.size));
       posed = λ t. posed _ _ _ _ _ _ c.requires.rowable.0 _ h t;
-      all_held = λ t e.
-          let u = sym w.stored ∙ e in
-          held_all J X l.scratch l.start _ _ w (omega (arith, b, l.invariant.1, l.invariant.3.size, l.invariant.4.fitting u, need_is _ _ _ _ _ _ c.requires.rowable.0 _ n.ensures))
+      all_held = λ t a e.
+          let k = c.held_from-held.ensures a e in
+          let u = k.0 in
+          let w = subst (λ P. Places P l.start a) c.requires.rowable.0.same k.1 in
+          held_all J X l.scratch l.start _ w (omega (arith, b, l.invariant.1, l.invariant.3.size, l.invariant.4.fitting u, need_is _ _ _ _ _ _ c.requires.rowable.0 _ n.ensures))
           (subst (λ a. Holds l.scratch a (window_digits (parameters J) X)) (sym at) (l.invariant.4.all u l.m h t));
     }
 
@@ -99,14 +101,11 @@ overflow_mul-place c = omega (arith, bounds (goal.at.overflow_mul-place c).In-lo
 pub overflow_add-place-in-loop-m : goal.overflow_add-place-in-loop-m
 overflow_add-place-in-loop-m c = omega (arith, bounds (goal.at.overflow_add-place-in-loop-m c).In-loop-m, c.loop-m.invariant.1)
 
-pub places-held-requires : goal.places-held-requires
-places-held-requires c = (rowable_sized _ _ _ _ _ _ c.requires.rowable.0, omega (arith, bounds (goal.at.places-held-requires c).In-loop-m, c.loop-m.invariant.1))
+pub held_from-held-requires : goal.held_from-held-requires
+held_from-held-requires c = (rowable_sized _ _ _ _ _ _ c.requires.rowable.0, omega (arith, bounds (goal.at.held_from-held-requires c).In-loop-m, c.loop-m.invariant.1))
 
 pub overflow_add-start : goal.overflow_add-start
 overflow_add-start c = small (goal.at.overflow_add-start c).In-loop-m
-
-pub overflow_add-m : goal.overflow_add-m
-overflow_add-m c = omega (arith, bounds (goal.at.overflow_add-m c).In-loop-m)
 
 pub shape_of-scratch : goal.shape_of-scratch
 shape_of-scratch c = c.loop-m.invariant.3.size

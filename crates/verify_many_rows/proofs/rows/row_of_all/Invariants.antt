@@ -1,7 +1,7 @@
 -- `row_of_all` meets its contract. The invariant: the row's product is stored for the transcripts before m that pass, and for no other.
 use mathlib.Core.Path.{◌≡◌}
 use mathlib.Core.Bool.{false}
-use Prim.Native.Nat.{◌-◌, ◌*◌, ◌≤◌}
+use Prim.Native.Nat.{◌*◌, ◌≤◌}
 use lib.ListN.{get_or}
 use Rattle.spec_protocol.specs.Parameters.{parameters}
 use Rattle.spec_protocol.specs.Unchanged.{Unchanged}
@@ -17,6 +17,3 @@ invariant-loop-m l =
     × Progress l.job l.transcripts l.count (λ m. get_or l.passes m false) l.row l.scratch m
     × Unchanged (many_need (parameters l.job) l.count) l.initial.scratch l.scratch
     × StoredDigits l.job l.count (λ m. get_or l.passes m false) l.transcripts l.scratch l.stored
-
-abbrev pub decreases-loop-m : goal.decreases-loop-m
-decreases-loop-m l = l.count - l.m

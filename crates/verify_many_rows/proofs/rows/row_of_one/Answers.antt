@@ -48,7 +48,7 @@ pub store_row-requires : goal.store_row-requires
 store_row-requires c =
     let b = (goal.at.store_row-requires c).After-transcript_bounds-b in record {
       posed = (subst (λ X. Posed c.args.job.now X c.args.params) (sym (lent b)) (posed (goal.at.store_row-requires c).Then-pass), c.requires.m_lt_count.2, c.requires.m_lt_count.3);
-      all_held = λ e. subst (λ X. AllHeld c.args.job.now X c.args.scratch.now c.args.held) (sym (lent b)) (c.requires.all_held c.if-pass.true e);
+      all_held = λ at e. subst (λ X. AllHeld c.args.job.now X c.args.scratch.now at) (sym (lent b)) (c.requires.all_held c.if-pass.true at e);
     }
 
 pub returns-then-pass : goal.returns-then-pass

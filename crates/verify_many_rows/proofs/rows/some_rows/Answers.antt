@@ -1,18 +1,11 @@
 use mathlib.Core.Path.{sym, subst}
 use mathlib.Core.Bool.{false}
-use Prim.Native.Nat.{◌≤◌}
 use native.Mathlib.Omega.{arith}
 use lib.ListN.{get_or}
 use Rattle.core_workspace.proofs.Unchanged.{unchanged_refl, unchanged_trans}
-use Rattle.verify_many_windows.proofs.WindowLaws.{few-rows}
 use Rattle.verify_many_rows.specs.Rows.{Rowable}
 use Rattle.verify_many_rows.proofs.Windows.{rows_to}
-use Rattle.verify_many_rows.proofs.rows.some_rows.Goals.{Start}
 use Rattle.verify_many_rows.proofs.rows.some_rows.Goals as goal
-
--- there are few rows
-few : (s : Start) → s.args.last ≤ 64
-few s = omega (arith, s.requires.rowable.2, few-rows _ _ _ _ _ _ s.requires.rowable.0)
 
 pub loop-row-init : goal.loop-row-init
 loop-row-init c =
@@ -41,9 +34,6 @@ pub returns : goal.returns
 returns c =
     let l = c.loop-row in
     record { all_rows_done_2 = rows_to _ _ _ _ l.scratch l.row _ (omega arith) l.invariant.1; unchanged = l.invariant.2 }
-
-pub overflow_add-row : goal.overflow_add-row
-overflow_add-row c = omega (arith, few (goal.at.overflow_add-row c).Start)
 
 pub shape_of-scratch : goal.shape_of-scratch
 shape_of-scratch c = c.loop-row.invariant.2.size

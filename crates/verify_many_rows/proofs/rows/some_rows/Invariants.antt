@@ -1,6 +1,6 @@
 -- `some_rows` meets its contract. The invariant: the products of the rows so far are done for every transcript that passes, and those of later rows are zero.
 use mathlib.Core.Bool.{false}
-use Prim.Native.Nat.{◌-◌, ◌≤◌}
+use Prim.Native.Nat.{◌≤◌}
 use lib.ListN.{get_or}
 use Rattle.spec_protocol.specs.Parameters.{parameters}
 use Rattle.spec_protocol.specs.Unchanged.{Unchanged}
@@ -14,6 +14,3 @@ invariant-loop-row l =
     × AllRowsDone l.job l.count (λ m. get_or l.passes m false) l.transcripts l.scratch l.row
     × Unchanged (many_need (parameters l.job) l.count) l.initial.scratch l.scratch
     × StoredDigits l.job l.count (λ m. get_or l.passes m false) l.transcripts l.scratch l.stored
-
-abbrev pub decreases-loop-row : goal.decreases-loop-row
-decreases-loop-row l = l.last - l.row

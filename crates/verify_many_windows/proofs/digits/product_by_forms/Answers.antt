@@ -109,8 +109,5 @@ slice_bounds-digits-end c = omega (arith, within (goal.at.slice_bounds-digits-en
 pub overflow_add-column : goal.overflow_add-column
 overflow_add-column c = omega (arith, within (goal.at.overflow_add-column c).In-loop-c)
 
-pub overflow_add-c : goal.overflow_add-c
-overflow_add-c c = omega (arith, c.requires.2.few_cells)
-
 pub shape_of-forms : goal.shape_of-forms
 shape_of-forms c = c.loop-c.invariant.3

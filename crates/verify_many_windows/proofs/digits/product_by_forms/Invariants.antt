@@ -14,6 +14,3 @@ invariant-loop-c l =
     × (l.from ≡ l.at + 64 * (l.c * l.parts))
     × (length l.forms ≡ length l.initial.forms)
     × (l.total.coeffs ≡ words (dot (l.c * l.parts) (run l.matrix l.row 64) (run l.v l.at 64)))
-
-abbrev pub decreases-loop-c : goal.decreases-loop-c
-decreases-loop-c l = l.cells - l.c

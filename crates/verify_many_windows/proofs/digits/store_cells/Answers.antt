@@ -59,8 +59,5 @@ overflow_mul-block c = omega (arith, c.requires.0.few_parts)
 pub overflow_add-at : goal.overflow_add-at
 overflow_add-at c = omega (arith, c.requires.0.within)
 
-pub overflow_add-c : goal.overflow_add-c
-overflow_add-c c = omega (arith, c.requires.0.few_cells)
-
 pub shape_of-to : goal.shape_of-to
 shape_of-to c = c.loop-c.invariant.4

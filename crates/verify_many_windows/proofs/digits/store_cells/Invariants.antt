@@ -21,6 +21,3 @@ invariant-loop-c l =
     × (l.place ≡ l.to_at + 64 * (l.c * l.parts))
     × (l.to ≡ splice l.initial.to l.to_at (flat (cat l.c (cell-digits l.base l.parts l.from l.initial.at))))
     × (length l.to ≡ length l.initial.to)
-
-abbrev pub decreases-loop-c : goal.decreases-loop-c
-decreases-loop-c l = l.cells - l.c

@@ -1,11 +1,12 @@
 -- `store_of_d` meets its contract.
 use mathlib.Core.Path.{ap, ◌∙◌}
 use native.Mathlib.Omega.{arith}
+use borrow.Author.Rules.{rules}
 use Rattle.math.specs.lists.Part.{splice}
 use Rattle.spec_leaves.specs.Ring.{words}
 use Rattle.verifier_common.proofs.Sent.{reckoned, received}
 use Rattle.verifier_commitments.proofs.OuterLaws.{base_large, h_cells}
-use Rattle.verify_many_windows.proofs.Products.{d_room, h-held, d_is}
+use Rattle.verify_many_windows.proofs.Products.{held_place, d_room, h-held, d_is}
 use Rattle.verify_many_windows.proofs.row.store_of_d.Goals as goal
 
 pub of_transcript-requires : goal.of_transcript-requires
@@ -27,7 +28,8 @@ store_digits-requires c =
         base_large _ _ (received s.0),
         s.2,
       );
-      digits_held = λ e. h-held _ _ _ s.0 c.args.scratch.now c.args.held (c.requires.all_held e) _ _ c.of_transcript.ensures t.0;
+      digits_held = held_place _ _ _ c.args.held c.map.result (λ h. h.h) c.map.ensures.cases c.requires.all_held (λ h a p. search rules) (λ h all. h-held _ _ _ s.0 c.args.scratch.now h all _ _
+          c.of_transcript.ensures t.0);
     }
 
 pub returns : goal.returns

@@ -62,8 +62,5 @@ bounds-passes-m c = omega (arith, bounds (goal.at.bounds-passes-m c).In-loop-m)
 pub overflow_add-start : goal.overflow_add-start
 overflow_add-start c = omega (arith, bounds (goal.at.overflow_add-start c).In-loop-m, c.loop-m.invariant.1)
 
-pub overflow_add-m : goal.overflow_add-m
-overflow_add-m c = omega (arith, bounds (goal.at.overflow_add-m c).In-loop-m)
-
 pub shape_of-scratch : goal.shape_of-scratch
 shape_of-scratch c = c.loop-m.invariant.3.size

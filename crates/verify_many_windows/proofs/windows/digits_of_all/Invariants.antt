@@ -15,6 +15,3 @@ invariant-loop-m l =
     × (l.start ≡ m * l.need)
     × Begun l.job l.transcripts l.count (λ m. get_or l.passes m false) (parameters l.job).κ l.scratch m
     × Unchanged (many_need (parameters l.job) l.count) l.initial.scratch l.scratch
-
-abbrev pub decreases-loop-m : goal.decreases-loop-m
-decreases-loop-m l = l.count - l.m

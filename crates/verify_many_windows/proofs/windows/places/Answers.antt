@@ -9,7 +9,6 @@ pub returns : goal.returns
 returns c =
     let s = c.args in
     record {
-      stored = refl;
       t = refl;
       g = refl;
       h = ap (λ n. s.start + 64 * (s.params.multiplicity * s.params.kappa * s.params.t_1) + 64 * (n * s.params.t_2)) c.triangle.ensures.0;

@@ -39,7 +39,7 @@ store_cells-requires-3 c =
 pub returns : goal.returns
 returns c =
     let s = c.args in
-    window-stored _ s.transcript.now s.scratch.now _ _ _ s.start _ _ _ _ _ _
+    window-stored _ s.transcript.now s.scratch.now _ _ _ s.start _ _ _ _ _
     c.places-at.ensures
     c.of_transcript.ensures
     c.of_transcript-2.ensures

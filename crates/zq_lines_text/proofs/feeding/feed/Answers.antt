@@ -23,34 +23,32 @@ fed_more s t t' chunk out₀ out out' i p p' h f e w =
       rw (answers-take s chunk i h) (written-append f.1 v),
     )
 
-pub loop-i-init : goal.loop-i-init
+pub loop-b-init : goal.loop-b-init
 unfolding after answers
-loop-i-init c = (omega arith, (refl, written_none _ _))
+loop-b-init c = (refl, written_none _ _)
 
 pub feed_byte-f-requires : goal.feed_byte-f-requires
 feed_byte-f-requires c =
-    let l = c.loop-i in record {
-      bounded = subst Bounded (sym l.invariant.1.0) (bounded-after c.args.s (take l.i c.args.chunk.now) c.requires.bounded);
+    let l = c.loop-b in record {
+      bounded = subst Bounded (sym l.invariant.0) (bounded-after c.args.s (take l.b-index c.args.chunk.now) c.requires.bounded);
       at_in_bounds = omega
-          (arith, written-length l.invariant.1.1, l.invariant.1.1.count, length-answers c.args.s (take l.i c.args.chunk.now), length-take-le l.i c.args.chunk.now l.invariant.0);
+          (arith, written-length l.invariant.1, l.invariant.1.count, length-answers c.args.s (take l.b-index c.args.chunk.now), length-take-le l.b-index c.args.chunk.now (omega arith));
     }
 
-pub loop-i-preserved : goal.loop-i-preserved
-loop-i-preserved c =
+pub loop-b-preserved : goal.loop-b-preserved
+loop-b-preserved c =
     let a = c.args in
-    let l = c.loop-i in
-    let e = c.feed_byte-f.ensures in (
-      omega arith,
-      fed_more a.s l.f.state c.feed_byte-f.result.state a.chunk.now a.out.now l.out c.feed_byte-f.new.out
-          l.i l.f.at c.feed_byte-f.result.at (omega arith) l.invariant.1 e.state_value e.written,
-    )
+    let l = c.loop-b in
+    let e = c.feed_byte-f.ensures in
+    fed_more a.s l.f.state c.feed_byte-f.result.state a.chunk.now a.out.now l.out c.feed_byte-f.new.out
+    l.b-index l.f.at c.feed_byte-f.result.at (omega arith) l.invariant e.state_value e.written
 
 pub shape_of-out : goal.shape_of-out
-shape_of-out c = written-length c.loop-i.invariant.1.1
+shape_of-out c = written-length c.loop-b.invariant.1
 
 pub returns : goal.returns
 returns c =
     let a = c.args in
-    let l = c.loop-i in
-    let e : take l.i a.chunk.now ≡ a.chunk.now = take_all l.i a.chunk.now (omega arith) in
-    record { state_value = l.invariant.1.0 ∙ ap (after a.s) e; written = rw (← ap (answers a.s) e) l.invariant.1.1 }
+    let l = c.loop-b in
+    let e : take l.b-index a.chunk.now ≡ a.chunk.now = take_all l.b-index a.chunk.now (omega arith) in
+    record { state_value = l.invariant.0 ∙ ap (after a.s) e; written = rw (← ap (answers a.s) e) l.invariant.1 }

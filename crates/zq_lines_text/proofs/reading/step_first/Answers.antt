@@ -13,10 +13,10 @@ pub returns-then-b-eq32 : goal.returns-then-b-eq32
 unfolding stepped
 returns-then-b-eq32 c = simp (eq-eqb _ _ c.if-b-eq32.true, ne_eqb _ _ c.if-w-eq0.false)
 
-pub returns-in-To : goal.returns-in-To
+pub returns-in-Some : goal.returns-in-Some
 unfolding stepped
-returns-in-To c = simp (ne_eqb _ _ c.if-b-eq32.false) (ap (with First) (sym c.in-To.is ∙ c.extend.ensures))
+returns-in-Some c = simp (ne_eqb _ _ c.if-b-eq32.false) (ap (with First) (sym c.in-Some.is ∙ c.extend.ensures))
 
-pub returns-in-No : goal.returns-in-No
+pub returns-in-None : goal.returns-in-None
 unfolding stepped
-returns-in-No c = simp (ne_eqb _ _ c.if-b-eq32.false) (ap (with First) (sym c.in-No.is ∙ c.extend.ensures))
+returns-in-None c = simp (ne_eqb _ _ c.if-b-eq32.false) (ap (with First) (sym c.in-None.is ∙ c.extend.ensures))

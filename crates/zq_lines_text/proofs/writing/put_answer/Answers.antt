@@ -8,12 +8,12 @@ use Rattle.zq_lines_text.proofs.Small.{first-canonical}
 use Rattle.zq_lines_text.proofs.writing.put_answer.Goals as goal
 
 pub put_parsed-end-requires : goal.put_parsed-end-requires
-put_parsed-end-requires c = record { first_canonical = subst FirstCanonical (sym c.parse-p.ensures) (first-canonical c.args.s); at_in_bounds = omega arith }
+put_parsed-end-requires c = record { first_canonical = subst FirstCanonical (sym c.parse.ensures) (first-canonical c.args.s); at_in_bounds = omega arith }
 
 pub put-requires : goal.put-requires
 put-requires c =
-    omega (arith, room 55 1 c.put_parsed-end.ensures (length-text c.parse-p.result) c.requires)
+    omega (arith, room 55 1 c.put_parsed-end.ensures (length-text c.parse.result) c.requires)
 
 pub returns : goal.returns
 returns c =
-    rw (← c.parse-p.ensures) (written-append c.put_parsed-end.ensures c.put.ensures)
+    rw (← c.parse.ensures) (written-append c.put_parsed-end.ensures c.put.ensures)

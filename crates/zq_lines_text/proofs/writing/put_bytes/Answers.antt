@@ -1,32 +1,20 @@
-use mathlib.Core.Path.{refl, ◌∙◌, sym, ap}
-use Prim.Native.Nat.{◌+◌, ◌≤◌}
-use native.Mathlib.Omega.{arith}
-use lib.ListN.{length, take, get_or, set}
-use lib.Seq.{take_all}
+-- `put_bytes` meets its contract.
+use Rattle.std.proofs.Common.{◌≡◌, refl, sym, ◌+◌, ◌-◌, length, List, ℕ, ◌≤◌, append_assoc, arith}
+use Rattle.std.proofs.lemmas.List.{drop-drop}
+use borrow.Rule.Slice.PartMut.{put_mid}
 use Rattle.math.specs.lists.Part.{splice}
-use Rattle.math.proofs.lists.Splice.{length-splice, splice-nil, splice-take-next}
+use Rattle.math.proofs.lists.Splice.{splice_eq}
 use Rattle.zq_lines_text.proofs.writing.put_bytes.Goals as goal
 
-pub loop-i-init : goal.loop-i-init
-loop-i-init c = (omega arith, sym (splice-nil _ _), refl)
-
-pub loop-i-preserved : goal.loop-i-preserved
-loop-i-preserved c =
-    let a = c.args in
-    let i = c.loop-i.i in
-    let e = c.loop-i.invariant.1 in
-    let w = ap (λ l. set l (a.at + i) (get_or a.bytes.now i 0)) e ∙ splice-take-next 0 a.out.now a.at a.bytes.now i (omega arith) in
-    (omega arith, w, ap length w ∙ length-splice a.out.now a.at (take (i + 1) a.bytes.now))
+-- the bytes stand in the place of as many
+written : (out : List ℕ) (at : ℕ) (bytes part : List ℕ) (n : ℕ) → part ≡ bytes → n ≡ length bytes → at + length bytes ≤ length out → put_mid at n out part ≡ splice out at bytes
+written out at bytes part n e m h = rw (e, m, drop-drop, ← append_assoc) (sym (splice_eq out at bytes h))
 
 pub returns : goal.returns
 returns c =
     let a = c.args in
-    let i = c.loop-i.i in
-    let n : length a.bytes.now ≤ i = omega arith in
+    let n : a.at + length a.bytes.now - a.at ≡ length a.bytes.now = omega arith in
     record {
-      contents = c.loop-i.invariant.1 ∙ ap (splice a.out.now a.at) (take_all i a.bytes.now n);
-      count = omega arith;
+      contents = written a.out.now a.at a.bytes.now _ _ c.copy_from_slice.ensures.after n c.requires;
+      count = refl;
     }
-
-pub shape_of-out : goal.shape_of-out
-shape_of-out c = c.loop-i.invariant.2

@@ -8,7 +8,7 @@ use Rattle.spec_leaves.specs.Zq.{zadd, zmul, centre}
 use Rattle.zq_lines_text.specs.Text.{decimal, signed}
 use Rattle.zq_lines_text.specs.Line.{text}
 use Rattle.zq_lines_text.specs.Written.{Written}
-use Rattle.zq_lines_text.specs.declared.reading.Parsed.TheVariants.{Pair}
+use Rattle.std.specs.Prelude.{Some}
 use Rattle.zq_lines_text.proofs.Decimal.{length_spaced}
 use Rattle.zq_lines_text.proofs.Runs.{written-append, room}
 use Rattle.zq_lines_text.proofs.writing.put_pair.Goals.{After-put_word-second}
@@ -18,7 +18,7 @@ use Rattle.zq_lines_text.proofs.writing.put_pair.Goals as goal
 five : {l l₁ l₂ l₃ l₄ l₅ : List ℕ} {at p₁ p₂ p₃ p₄ p₅ : ℕ} (a b s p : ℕ) → s ≡ zadd a b → p ≡ zmul a b
     → Written l at (decimal a ++ (32 ∷ [])) l₁ p₁ → Written l₁ p₁ (decimal b ++ (32 ∷ [])) l₂ p₂
     → Written l₂ p₂ (decimal s ++ (32 ∷ [])) l₃ p₃ → Written l₃ p₃ (decimal p ++ (32 ∷ [])) l₄ p₄
-    → Written l₄ p₄ (signed (centre a)) l₅ p₅ → Written l at (text (Pair a b)) l₅ p₅
+    → Written l₄ p₄ (signed (centre a)) l₅ p₅ → Written l at (text (Some (a, b))) l₅ p₅
 unfolding text
 five a b s p es ep w₁ w₂ w₃ w₄ w₅ =
     let w = written-append (written-append (written-append (written-append w₁ w₂) w₃) w₄) w₅ in

@@ -1,14 +1,9 @@
-use native.Mathlib.Omega.{arith}
-use Rattle.math.proofs.lists.Padded.{padded-none, padded-next, padded_done}
+-- `Rq::add` meets its contract.
+use Rattle.std.proofs.Common.{rules}
+use Rattle.ring_zq.proofs.Made.{made}
 use Rattle.spec_leaves.specs.Rq.{radd}
 use Rattle.ring_rq.proofs.rq.Rq.add.Goals as goal
 
-pub loop-k-init : goal.loop-k-init
-loop-k-init c = (omega arith, padded-none 64 0 _)
-
-pub loop-k-preserved : goal.loop-k-preserved
-loop-k-preserved c = (omega arith, padded-next 64 0 _ _ _ _ c.loop-k.invariant.1 (omega arith) c.add.ensures)
-
 pub returns : goal.returns
 unfolding radd
-returns c = padded_done 64 0 _ _ _ c.loop-k.invariant.1 (omega arith)
+returns c = made _ _ _ (λ i y q k. search rules) _ 64 c.from_fn.ensures.items

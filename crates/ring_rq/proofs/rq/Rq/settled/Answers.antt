@@ -8,7 +8,7 @@ use mir.Val.{Fits}
 use mir.Syntax.{w32}
 use Rattle.math.specs.lists.Table.{table}
 use Rattle.math.proofs.lists.Table.{get_or-table}
-use Rattle.math.proofs.lists.Padded.{padded-none, padded-next, padded_done}
+use Rattle.ring_zq.proofs.Made.{made}
 use Rattle.spec_leaves.specs.Zq.{Q}
 use Rattle.spec_leaves.specs.Rq.{coeff}
 use Rattle.spec_leaves.specs.Ring.{element}
@@ -31,13 +31,7 @@ all-lowered a l e words = (
 pub returns-then-this-eq-LACK : goal.returns-then-this-eq-LACK
 returns-then-this-eq-LACK c = let s = c.args in (refl, λ k h. let f : Fits w32 (get_or s.self.coeffs k 0) = search rules in omega arith)
 
-pub loop-k-preserved : goal.loop-k-preserved
-loop-k-preserved c = (omega arith, padded-next 64 0 _ _ _ _ c.loop-k.invariant.1 (omega arith) c.lowered.ensures)
-
 pub returns : goal.returns
 returns c =
     let a = c.args.self.coeffs in
-    all-lowered a _ (padded_done 64 0 _ _ _ c.loop-k.invariant.1 (omega arith)) (λ k h. let f : Fits w32 (get_or a k 0) = search rules in omega arith)
-
-pub loop-k-init : goal.loop-k-init
-loop-k-init c = (omega arith, padded-none 64 0 _)
+    all-lowered a c.from_fn.result (made _ _ _ (λ i y q k. search rules) _ 64 c.from_fn.ensures.items) (λ k h. let f : Fits w32 (get_or a k 0) = search rules in omega arith)

@@ -18,6 +18,3 @@ of_part J count R T m = labrador_verdict (part_verdict J count R T m)
 abbrev pub invariant-loop-m : goal.invariant-loop-m
 invariant-loop-m l =
     (l.m ≤ l.count) × (l.out ≡ padded 8 l.m unused_verdict (of_part l.job l.count l.randomness l.transcripts)) × Unchanged (many_need (parameters l.job) l.m) l.initial.scratch l.scratch
-
-abbrev pub decreases-loop-m : goal.decreases-loop-m
-decreases-loop-m l = l.count - l.m

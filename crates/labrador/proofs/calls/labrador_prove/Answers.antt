@@ -1,6 +1,0 @@
--- `labrador_prove` meets its contract.
-use Rattle.labrador.proofs.Answered.{proved}
-use Rattle.labrador.proofs.calls.labrador_prove.Goals as goal
-
-pub returns : goal.returns
-returns c = proved c.prove.ensures c.answer_of.ensures
