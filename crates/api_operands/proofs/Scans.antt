@@ -53,7 +53,7 @@ pub none_found : (limit : ℕ) (words : List ℕ) → All (λ w. w < limit) word
 none_found limit words h = sym (position_from-zero (λ w. leb limit w) words ∙ none_from limit 0 words h)
 
 -- the answer to two runs, one after the other
-below-append : (limit number place : ℕ) (a b : List ℕ) → below limit number place (a ++ b) ≡ below limit number place a then below limit number (place + length a) b
+pub below-append : (limit number place : ℕ) (a b : List ℕ) → below limit number place (a ++ b) ≡ below limit number place a then below limit number (place + length a) b
 unfolding below
 below-append limit number place [] b = rw (add-zero place)
 below-append limit number place (w ∷ a) b = by (ltb w limit) (below-append limit number (place + 1) a b)

@@ -21,7 +21,7 @@ fn all_below(words: &[u32], limit: u32) -> bool
 }
 
 // The index of the first word at or above the limit.
-fn first_not_below(words: &[u32], limit: u32) -> Option<usize>
+pub fn first_not_below(words: &[u32], limit: u32) -> Option<usize>
     ensures { result ≡ position (λ word. nat_le limit word) words.now }
 {
     if all_below(words, limit) {

@@ -78,7 +78,7 @@ pub span-taken : (ss : List Section) (m : ℕ) → span (listed (take m ss)) ≤
 span-taken ss m = span-within ss 0 m
 
 -- the words of section m start after the sections before it and its count
-start_is : (ss : List L.Section) (m : ℕ) → m < length ss → start ss m ≡ span (take m ss) + 1
+pub start_is : (ss : List L.Section) (m : ℕ) → m < length ss → start ss m ≡ span (take m ss) + 1
 unfolding start span
 start_is [] m h = absurd (omega arith)
 start_is (s ∷ ss) zero h = refl

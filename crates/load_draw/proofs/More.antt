@@ -113,6 +113,20 @@ module _ (x : ℕ) (ρ : ℕ → Rule) where
       ∙ ap (λ n. splice l at (sections (drawn_to σ m) ++ (n ∷ last))) (sym (length-words_by (ρ m) (reached σ m) (σ m).count))
       ∙ ap (splice l at) (sym (sections-one_more (drawn_to σ m) last) ∙ ap sections (sym (drawn-suc σ m)))
 
+  -- only the counts matter
+  pub drawn_counts : (σ τ : ℕ → Section) → ((i : ℕ) → (σ i).count ≡ (τ i).count) → (m : ℕ) → (drawn_to σ m ≡ drawn_to τ m) × (reached σ m ≡ reached τ m)
+  unfolding table
+  drawn_counts σ τ same zero = (refl, refl)
+  drawn_counts σ τ same (suc m) =
+      let ih = drawn_counts σ τ same m in (
+        drawn-one_more (table m ρ) (table m σ) (ρ m) (σ m) x (same_lengths σ m)
+            ∙ ap₂ (λ l w. l ++ (w ∷ [])) ih.0 (ap₂ (words_by (ρ m)) ih.1 (same m))
+            ∙ sym (drawn-one_more (table m ρ) (table m τ) (ρ m) (τ m) x (same_lengths τ m)),
+        after-one_more (table m ρ) (table m σ) (ρ m) (σ m) x (same_lengths σ m)
+            ∙ ap₂ (state_by (ρ m)) ih.1 (same m)
+            ∙ sym (after-one_more (table m ρ) (table m τ) (ρ m) (τ m) x (same_lengths τ m)),
+      )
+
 -- rule m and section m of a slice
 abbrev pub rule_at : List C.Rule → ℕ → Rule
 rule_at rules m = rule_of (get_or rules m R.Word)

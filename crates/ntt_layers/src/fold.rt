@@ -7,13 +7,12 @@ pub const RADIX: u64 = 134217728;
 
 pub const WORD: u64 = 4294967296;
 
-// A prime 2^27 − delta, and minus its inverse modulo 2^32.
+// A prime 2^27 − delta, and minus its inverse modulo 2^32. That it is the inverse is asked where 2^32 is divided out, and nowhere else.
 #[derive(Clone, Copy)]
 pub struct Prime {
     pub delta: u64,
     pub opposite: u64,
     pub ghost small: { delta ≤ 2175 },
-    pub ghost inverts: { Opposite delta opposite },
 }
 
 impl Prime {
@@ -75,7 +74,7 @@ impl Prime {
 
     // 2^32 divided out (Montgomery's reduction), below three times the prime.
     pub fn montgomery(self, z: u64) -> u64
-        requires { z < 2 ^ 59 }
+        requires { (z < 2 ^ 59) × Opposite self.delta self.opposite }
         ensures { (result ≡ montgomery self.delta self.opposite z) × (result ≤ 285600000) }
     {
         let multiple = (z % WORD) * (self.opposite % WORD) % WORD;

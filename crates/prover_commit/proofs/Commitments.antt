@@ -3,7 +3,7 @@ use Rattle.std.specs.Prelude.{Result, Ok, Err, OnOk}
 use mathlib.Core.Path.{◌≡◌, refl, sym, ap, subst, ◌∙◌}
 use mathlib.Core.Bool.{Bool, cond}
 use mathlib.Core.List.{List, []}
-use Prim.Native.Nat.{ℕ, ◌+◌, ◌*◌, ◌≤◌, ◌<◌}
+use Prim.Native.Nat.{ℕ, ◌+◌, ◌*◌, ◌≤◌, ◌<◌, ◌^◌}
 use native.Mathlib.Nat.{le-div_iff_mul-le, mul-le-mul_right}
 use native.Mathlib.Decide.{dec_le}
 use native.Mathlib.Omega.{arith}
@@ -102,9 +102,9 @@ module _ (J W : List ℕ) (params : EnvironmentParameters) (regions : Regions) (
   pub a-room : regions.a_or_h + 64 * T P ≤ scratch_need P
   a-room = omega (arith, a-end J params regions S h.ready, g_room)
 
-  -- 13: what `check_witness` needs, and what it answers
-  pub witness-checks : 1 + 64 * (params.multiplicity * params.rank) ≤ length W
-  witness-checks = subst (λ Q. 1 + 64 * (Q.r * Q.n) ≤ length W) (sym h.ready.same) witness_fits
+  -- 13: what `check_witness` needs with the rank's limit, and what it answers
+  pub witness-checks : (1 + 64 * (params.multiplicity * params.rank) ≤ length W) × (params.rank ≤ 2 ^ 18)
+  witness-checks = subst (λ Q. (1 + 64 * (Q.r * Q.n) ≤ length W) × (Q.n ≤ 2 ^ 18)) (sym h.ready.same) (witness_fits, omega (arith, h.ready.sound.within.n.1))
 
   abbrev tested : Answer
   tested = first params.multiplicity (vector_norm W 1 params.rank params.bound_a)

@@ -48,7 +48,7 @@ module _ (P : Parameters) (lows highs : List ℤ) (a : Answer) (x : RangesAnswer
       }
 
   -- 36 and 37
-  numbered_ranges : (n p : ℕ) → refused n p ≡ a → x ≡ refused_ranges n p → Ranges P lows highs a x
+  pub numbered_ranges : (n p : ℕ) → refused n p ≡ a → x ≡ refused_ranges n p → Ranges P lows highs a x
   numbered_ranges n p q h = record {
     vectors = λ i. unused;
     hold = λ e. absurd (refused_not-fine n p (q ∙ e));

@@ -34,7 +34,7 @@ impl From<Refusal> for RangesError {
 }
 
 // A number and a place alone.
-fn refused(number: u32, place: usize) -> RangesAnswer
+pub fn refused(number: u32, place: usize) -> RangesAnswer
     ensures { result ≡ refused_ranges number place }
 {
     RangesAnswer {

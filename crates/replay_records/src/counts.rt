@@ -34,7 +34,7 @@ pub struct Tally {
 pub const ACCEPTED: u32 = 63;
 
 // The row of an answer's number; the calls that no row is for are in row 17, whose number no answer has.
-fn row_of(number: u32, verifies: bool) -> usize
+pub fn row_of(number: u32, verifies: bool) -> usize
     ensures { result < 64 }
 {
     match number {

@@ -2,4 +2,5 @@ pub mod Made
 mod Signed
 pub mod Words
 pub mod Part
+mod Order
 mod Near

@@ -1,4 +1,4 @@
-// Numbers modulo Q (ring/zq.rs), the squared norm of a run of words (`Norms` of ring/mod.rs), and norms held against bounds.
+// Numbers modulo Q (ring/zq.rs), and the squared norm of a run of words in a u128 (`Norms` of ring/mod.rs).
 #![tactic(auto)]
 
 pub mod digits;

@@ -34,8 +34,11 @@ fn check_rest(
     ensures result_value { of_checked result ≡ rest exchange.now.job.now exchange.now.randomness.now exchange.now.transcript.now }
     ensures unchanged { Unchanged (scratch_need (parameters exchange.now.job.now)) scratch.old scratch.new }
 {
+    let job = exchange.job;
+    let transcript = exchange.transcript;
+    let params = exchange.params;
     relations::check_relations(exchange, regions, scratch)?;
-    outer_commitments::check_commitments(exchange, regions, scratch, digits)
+    outer_commitments::check_commitments(job, transcript, params, regions, scratch, digits)
 }
 
 // All checks, in order; an acceptance has the number of cells with something left.

@@ -6,55 +6,48 @@ ghost use Rattle.spec_protocol.specs.Parameters.{parameters};
 ghost use Rattle.spec_protocol.specs.Layout.{scratch_need};
 ghost use Rattle.core_workspace.specs.Ready.{Ready};
 ghost use Rattle.core_workspace.specs.Holds.{Unchanged};
+ghost use Rattle.verifier_common.specs.Work.{Posed};
 ghost use Rattle.verifier_common.specs.Answers.{u1_differs, u2_differs};
 
 use commitments_outer::outer_commitments;
 use commitments_outer::outer_commitments::Digits;
 use layout_regions::Regions;
-use layout_sizes::{names, slices};
+use layout_sizes::{names, offsets, slices};
+use relation_env_params::env_params::EnvironmentParameters;
 use spec_leaves::answers::{FailedCheck, Rejection};
 use verifier_common::equal;
-use verifier_common::exchange::Exchange;
 
 // "28 u1 differs"
 pub fn check_u1(
-    exchange: &Exchange<'_>,
+    job: &[u32],
+    transcript: &[u32],
+    params: EnvironmentParameters,
     regions: Regions,
     scratch: &mut [u32],
 ) -> Result<(), Rejection>
-    requires { Ready exchange.now.job.now exchange.now.params regions scratch.old }
-    ensures result_value { of_checked result ≡ u1_differs exchange.now.job.now exchange.now.transcript.now }
-    ensures unchanged { Unchanged (scratch_need (parameters exchange.now.job.now)) scratch.old scratch.new }
+    requires { Posed job.now transcript.now params × Ready job.now params regions scratch.old }
+    ensures result_value { of_checked result ≡ u1_differs job.now transcript.now }
+    ensures unchanged { Unchanged (scratch_need (parameters job.now)) scratch.old scratch.new }
 {
-    let params = exchange.params;
     let t = Digits {
-        at: exchange.transcript_at(names::T),
+        at: offsets::of_transcript(params, names::T),
         cells: params.multiplicity * params.kappa,
         parts: params.t_1,
     };
     let g = Digits {
-        at: exchange.transcript_at(names::G),
+        at: offsets::of_transcript(params, names::G),
         cells: slices::triangle(params.multiplicity),
         parts: params.t_2,
     };
-    let b_at = exchange.job_at(names::MATRIX_B);
-    let c_at = exchange.job_at(names::MATRIX_C);
+    let b_at = offsets::of_job(params, names::MATRIX_B);
+    let c_at = offsets::of_job(params, names::MATRIX_C);
     let rows = params.kappa_1;
     outer_commitments::compute_u1(
-        exchange.job,
-        b_at,
-        c_at,
-        rows,
-        exchange.transcript,
-        t,
-        g,
-        params.b,
-        scratch,
-        regions.u,
+        job, b_at, c_at, rows, transcript, t, g, params.b, scratch, regions.u,
     );
     if equal::same_words(
-        exchange.transcript,
-        exchange.transcript_at(names::U1),
+        transcript,
+        offsets::of_transcript(params, names::U1),
         scratch,
         regions.u,
         64 * rows,
@@ -67,35 +60,27 @@ pub fn check_u1(
 
 // "29 u2 differs"
 pub fn check_u2(
-    exchange: &Exchange<'_>,
+    job: &[u32],
+    transcript: &[u32],
+    params: EnvironmentParameters,
     regions: Regions,
     scratch: &mut [u32],
 ) -> Result<(), Rejection>
-    requires { Ready exchange.now.job.now exchange.now.params regions scratch.old }
-    ensures result_value { of_checked result ≡ u2_differs exchange.now.job.now exchange.now.transcript.now }
-    ensures unchanged { Unchanged (scratch_need (parameters exchange.now.job.now)) scratch.old scratch.new }
+    requires { Posed job.now transcript.now params × Ready job.now params regions scratch.old }
+    ensures result_value { of_checked result ≡ u2_differs job.now transcript.now }
+    ensures unchanged { Unchanged (scratch_need (parameters job.now)) scratch.old scratch.new }
 {
-    let params = exchange.params;
     let h = Digits {
-        at: exchange.transcript_at(names::H),
+        at: offsets::of_transcript(params, names::H),
         cells: slices::triangle(params.multiplicity),
         parts: params.t_1,
     };
-    let d_at = exchange.job_at(names::MATRIX_D);
+    let d_at = offsets::of_job(params, names::MATRIX_D);
     let rows = params.kappa_2;
-    outer_commitments::compute_u2(
-        exchange.job,
-        d_at,
-        rows,
-        exchange.transcript,
-        h,
-        params.b,
-        scratch,
-        regions.u,
-    );
+    outer_commitments::compute_u2(job, d_at, rows, transcript, h, params.b, scratch, regions.u);
     if equal::same_words(
-        exchange.transcript,
-        exchange.transcript_at(names::U2),
+        transcript,
+        offsets::of_transcript(params, names::U2),
         scratch,
         regions.u,
         64 * rows,

@@ -6,13 +6,14 @@ ghost use Rattle.spec_protocol.specs.Layout.{scratch_need};
 ghost use Rattle.core_workspace.specs.Ready.{Ready};
 ghost use Rattle.core_workspace.specs.Holds.{Unchanged};
 ghost use Rattle.relation_env_params.specs.Parameters.{parameters_of};
+ghost use Rattle.verifier_common.specs.Work.{Posed};
 ghost use Rattle.verifier_digits.specs.Taken.{Taken, t_and_g_found, h_found};
-ghost use Rattle.verifier_commitments.specs.Order.{commitments};
+ghost use Rattle.verifier_commitments.specs.Order.{first_commitment, second_commitment, commitments};
 
 use crate::outer::{check_u1, check_u2};
 use layout_regions::Regions;
+use relation_env_params::env_params::EnvironmentParameters;
 use spec_leaves::answers::{Refusal, Rejection};
-use verifier_common::exchange::Exchange;
 use verifier_digits::SentDigits;
 
 // "14 digits of t above B's bound, 15 of g above C's", by what is found of them.
@@ -39,19 +40,53 @@ pub fn check_h(digits: SentDigits) -> Result<(), Refusal>
     }
 }
 
-// 14, 15, 28, 16 and 29, in order.
-pub fn check_commitments(
-    exchange: &Exchange<'_>,
+// 14, 15 and 28, in order.
+pub fn check_first_commitment(
+    job: &[u32],
+    transcript: &[u32],
+    params: EnvironmentParameters,
     regions: Regions,
     scratch: &mut [u32],
     digits: SentDigits,
 ) -> Result<(), Rejection>
-    requires { Ready exchange.now.job.now exchange.now.params regions scratch.old × Taken (parameters_of exchange.now.params) exchange.now.transcript.now digits }
-    ensures result_value { of_checked result ≡ commitments exchange.now.job.now exchange.now.transcript.now }
-    ensures unchanged { Unchanged (scratch_need (parameters exchange.now.job.now)) scratch.old scratch.new }
+    requires { Posed job.now transcript.now params × Ready job.now params regions scratch.old × Taken (parameters_of params) transcript.now digits }
+    ensures result_value { of_checked result ≡ first_commitment job.now transcript.now }
+    ensures unchanged { Unchanged (scratch_need (parameters job.now)) scratch.old scratch.new }
 {
     check_t_and_g(digits)?;
-    check_u1(exchange, regions, scratch)?;
+    check_u1(job, transcript, params, regions, scratch)
+}
+
+// 16 and 29, in order.
+pub fn check_second_commitment(
+    job: &[u32],
+    transcript: &[u32],
+    params: EnvironmentParameters,
+    regions: Regions,
+    scratch: &mut [u32],
+    digits: SentDigits,
+) -> Result<(), Rejection>
+    requires { Posed job.now transcript.now params × Ready job.now params regions scratch.old × Taken (parameters_of params) transcript.now digits }
+    ensures result_value { of_checked result ≡ second_commitment job.now transcript.now }
+    ensures unchanged { Unchanged (scratch_need (parameters job.now)) scratch.old scratch.new }
+{
     check_h(digits)?;
-    check_u2(exchange, regions, scratch)
+    check_u2(job, transcript, params, regions, scratch)
+}
+
+// 14, 15, 28, 16 and 29, in order.
+pub fn check_commitments(
+    job: &[u32],
+    transcript: &[u32],
+    params: EnvironmentParameters,
+    regions: Regions,
+    scratch: &mut [u32],
+    digits: SentDigits,
+) -> Result<(), Rejection>
+    requires { Posed job.now transcript.now params × Ready job.now params regions scratch.old × Taken (parameters_of params) transcript.now digits }
+    ensures result_value { of_checked result ≡ commitments job.now transcript.now }
+    ensures unchanged { Unchanged (scratch_need (parameters job.now)) scratch.old scratch.new }
+{
+    check_first_commitment(job, transcript, params, regions, scratch, digits)?;
+    check_second_commitment(job, transcript, params, regions, scratch, digits)
 }

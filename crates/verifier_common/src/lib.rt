@@ -1,5 +1,5 @@
 // What the verifier's checks (verifier.rs) have in common: what they judge, and equality of elements and of runs of words.
-// specs/ says what a check stands on and what it answers, proofs/ how one goes on after another.
+// specs/ says what a check stands on and what it answers, proofs/ what follows from these.
 #![tactic(auto)]
 
 pub mod equal;

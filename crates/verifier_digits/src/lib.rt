@@ -2,11 +2,12 @@
 #![tactic(auto)]
 
 ghost use Rattle.relation_env_params.specs.Parameters.{parameters_of};
+ghost use Rattle.verifier_common.specs.Work.{Received};
 ghost use Rattle.verifier_digits.specs.Taken.{Taken};
 
-use layout_sizes::{names, slices};
+use layout_sizes::{names, offsets, slices};
+use relation_env_params::env_params::EnvironmentParameters;
 use ring_digit_norms::{norm, parts};
-use verifier_common::exchange::Exchange;
 
 // The sum of check 23, whether the digits of t, g and h are within the bounds of B, C and D, and how many cells have something left.
 #[derive(Clone, Copy)]
@@ -19,34 +20,34 @@ pub struct SentDigits {
 }
 
 // What is found of the digits of a transcript.
-pub fn take(exchange: &Exchange<'_>) -> SentDigits
-    ensures { Taken (parameters_of exchange.now.params) exchange.now.transcript.now result }
+pub fn take(transcript: &[u32], params: EnvironmentParameters) -> SentDigits
+    requires { Received transcript.now params }
+    ensures { Taken (parameters_of params) transcript.now result }
 {
-    let params = exchange.params;
     let cells = slices::triangle(params.multiplicity);
     let z = parts::two_parts_norm(
-        exchange.transcript,
-        exchange.transcript_at(names::Z),
+        transcript,
+        offsets::of_transcript(params, names::Z),
         params.rank,
         params.b,
     );
     let t = norm::digits_norm(
-        exchange.transcript,
-        exchange.transcript_at(names::T),
+        transcript,
+        offsets::of_transcript(params, names::T),
         params.multiplicity * params.kappa,
         params.b,
         params.t_1,
     );
     let g = norm::digits_norm(
-        exchange.transcript,
-        exchange.transcript_at(names::G),
+        transcript,
+        offsets::of_transcript(params, names::G),
         cells,
         params.b,
         params.t_2,
     );
     let h = norm::digits_norm(
-        exchange.transcript,
-        exchange.transcript_at(names::H),
+        transcript,
+        offsets::of_transcript(params, names::H),
         cells,
         params.b,
         params.t_1,

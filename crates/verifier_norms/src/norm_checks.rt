@@ -2,11 +2,13 @@
 ghost use Rattle.std.specs.Prelude.{◌≡◌, IfOk};
 ghost use Rattle.spec_leaves.specs.Answer.{of_checked};
 ghost use Rattle.relation_env_params.specs.Parameters.{parameters_of};
+ghost use Rattle.verifier_common.specs.Work.{Received};
 ghost use Rattle.verifier_common.specs.Answers.{projection_norm};
 ghost use Rattle.verifier_norms.specs.Order.{sum_within, norms};
 ghost use Rattle.verifier_digits.specs.Taken.{Taken};
 
-use layout_sizes::names;
+use layout_sizes::{names, offsets};
+use relation_env_params::env_params::EnvironmentParameters;
 use ring_zq::norms;
 use spec_leaves::answers::{FailedCheck, Rejection};
 use verifier_common::exchange::Exchange;
@@ -14,14 +16,18 @@ use verifier_constant_terms::constant_terms::check_constant_terms;
 use verifier_digits::SentDigits;
 
 // "21 norm of p above 128·beta_sq (norm and limit given)." A beta_sq below the norm is so small that the limit fits.
-pub fn check_projection_norm(exchange: &Exchange<'_>) -> Result<(), Rejection>
-    ensures { of_checked result ≡ projection_norm (parameters_of exchange.now.params) exchange.now.transcript.now }
+pub fn check_projection_norm(
+    transcript: &[u32],
+    params: EnvironmentParameters,
+) -> Result<(), Rejection>
+    requires { Received transcript.now params }
+    ensures { of_checked result ≡ projection_norm (parameters_of params) transcript.now }
 {
-    let norm = norms::norm_of(exchange.transcript, exchange.transcript_at(names::P), 256);
-    if norm <= exchange.params.beta_sq {
+    let norm = norms::norm_of(transcript, offsets::of_transcript(params, names::P), 256);
+    if norm <= params.beta_sq {
         return Ok(());
     }
-    let limit = 128 * exchange.params.beta_sq;
+    let limit = 128 * params.beta_sq;
     if norm <= limit {
         Ok(())
     } else {
@@ -45,9 +51,9 @@ pub fn check_norms(exchange: &Exchange<'_>) -> Result<SentDigits, Rejection>
     ensures result_value { of_checked result ≡ norms exchange.now.job.now exchange.now.randomness.now exchange.now.transcript.now }
     ensures taken { IfOk result (λ digits. Taken (parameters_of exchange.now.params) exchange.now.transcript.now digits) }
 {
-    check_projection_norm(exchange)?;
+    check_projection_norm(exchange.transcript, exchange.params)?;
     check_constant_terms(exchange)?;
-    let digits = verifier_digits::take(exchange);
+    let digits = verifier_digits::take(exchange.transcript, exchange.params);
     check_norm_sum(digits.sum, exchange.params.beta_prime_sq)?;
     Ok(digits)
 }

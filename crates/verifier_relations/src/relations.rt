@@ -8,6 +8,7 @@ ghost use Rattle.spec_protocol.specs.Layout.{scratch_need};
 ghost use Rattle.core_workspace.specs.Ready.{Ready};
 ghost use Rattle.core_workspace.specs.Holds.{Unchanged};
 ghost use Rattle.relation_env_params.specs.Parameters.{parameters_of};
+ghost use Rattle.verifier_common.specs.Work.{Received, Posed};
 ghost use Rattle.verifier_relations.specs.Order.{openings, aggregated, relations};
 ghost use Rattle.verifier_relations.specs.Held.{Challenged, Prepared};
 ghost use Rattle.verifier_relations.specs.Weighed.{challenges_in, ChallengesWithin, az_of, z_inner_of, phi_of, φ_lines};
@@ -15,7 +16,8 @@ ghost use Rattle.verifier_relations.specs.Weighed.{challenges_in, ChallengesWith
 use crate::lines;
 use core_workspace;
 use layout_regions::Regions;
-use layout_sizes::names;
+use layout_sizes::{names, offsets};
+use relation_env_params::env_params::EnvironmentParameters;
 use ring_inner_product;
 use ring_rq::rq::Rq;
 use ring_rq_matrix;
@@ -25,29 +27,26 @@ use verifier_common::equal;
 use verifier_common::exchange::Exchange;
 
 // "24 A·z is not Σ t_i·c_i."
-pub fn check_az(exchange: &Exchange<'_>, regions: Regions, scratch: &[u32]) -> Result<(), Rejection>
-    requires { Ready exchange.now.job.now exchange.now.params regions scratch.now }
-    ensures { of_checked result ≡ az_of exchange.now.job.now exchange.now.transcript.now (challenges_in scratch.now regions) }
+pub fn check_az(
+    job: &[u32],
+    transcript: &[u32],
+    params: EnvironmentParameters,
+    regions: Regions,
+    scratch: &[u32],
+) -> Result<(), Rejection>
+    requires { Posed job.now transcript.now params × Ready job.now params regions scratch.now }
+    ensures { of_checked result ≡ az_of job.now transcript.now (challenges_in scratch.now regions) }
 {
-    let params = exchange.params;
-    let a_at = exchange.job_at(names::MATRIX_A);
-    let z_at = exchange.transcript_at(names::Z);
-    let t_at = exchange.transcript_at(names::T);
+    let a_at = offsets::of_job(params, names::MATRIX_A);
+    let z_at = offsets::of_transcript(params, names::Z);
+    let t_at = offsets::of_transcript(params, names::T);
     let n = params.rank;
     let kappa = params.kappa;
     for k in 0..kappa {
         let row = a_at + 64 * (k * n);
-        let left = ring_inner_product::inner_product(
-            exchange.job,
-            row,
-            64,
-            exchange.transcript,
-            z_at,
-            64,
-            n,
-        );
+        let left = ring_inner_product::inner_product(job, row, 64, transcript, z_at, 64, n);
         let right = ring_rq_matrix::column_sum(
-            exchange.transcript,
+            transcript,
             t_at,
             kappa,
             k,
@@ -64,30 +63,31 @@ pub fn check_az(exchange: &Exchange<'_>, regions: Regions, scratch: &[u32]) -> R
 
 // "25 ⟨z,z⟩ is not Σ g_ij·c_i·c_j."
 pub fn check_z_inner(
-    exchange: &Exchange<'_>,
+    transcript: &[u32],
+    params: EnvironmentParameters,
     regions: Regions,
     scratch: &[u32],
 ) -> Result<(), Rejection>
-    requires { ChallengesWithin exchange.now.params regions scratch.now }
-    ensures { of_checked result ≡ z_inner_of (parameters_of exchange.now.params) exchange.now.transcript.now (challenges_in scratch.now regions) }
+    requires { Received transcript.now params × ChallengesWithin params regions scratch.now }
+    ensures { of_checked result ≡ z_inner_of (parameters_of params) transcript.now (challenges_in scratch.now regions) }
 {
-    let z_at = exchange.transcript_at(names::Z);
-    let g_at = exchange.transcript_at(names::G);
+    let z_at = offsets::of_transcript(params, names::Z);
+    let g_at = offsets::of_transcript(params, names::G);
     let left = ring_inner_product::inner_product(
-        exchange.transcript,
+        transcript,
         z_at,
         64,
-        exchange.transcript,
+        transcript,
         z_at,
         64,
-        exchange.params.rank,
+        params.rank,
     );
     let right = ring_rq_matrix::sum_of_weighted(
-        exchange.transcript,
+        transcript,
         g_at,
         scratch,
         regions.challenges,
-        exchange.params.multiplicity,
+        params.multiplicity,
     );
     if equal::same(left, right) {
         Ok(())
@@ -99,20 +99,21 @@ pub fn check_z_inner(
 // "26 twice Σ⟨φ_i,z⟩·c_i is not Σ h_ij·c_i·c_j.", of the former sum.
 pub fn check_phi(
     lines: Rq,
-    exchange: &Exchange<'_>,
+    transcript: &[u32],
+    params: EnvironmentParameters,
     regions: Regions,
     scratch: &[u32],
 ) -> Result<(), Rejection>
-    requires { ChallengesWithin exchange.now.params regions scratch.now }
-    ensures { of_checked result ≡ phi_of (parameters_of exchange.now.params) exchange.now.transcript.now (challenges_in scratch.now regions) (element lines.coeffs) }
+    requires { Received transcript.now params × ChallengesWithin params regions scratch.now }
+    ensures { of_checked result ≡ phi_of (parameters_of params) transcript.now (challenges_in scratch.now regions) (element lines.coeffs) }
 {
-    let h_at = exchange.transcript_at(names::H);
+    let h_at = offsets::of_transcript(params, names::H);
     let right = ring_rq_matrix::sum_of_weighted(
-        exchange.transcript,
+        transcript,
         h_at,
         scratch,
         regions.challenges,
-        exchange.params.multiplicity,
+        params.multiplicity,
     );
     let twice = lines.add(lines);
     if equal::same(twice, right) {
@@ -134,8 +135,14 @@ pub fn check_openings(
     ensures challenged { Challenged exchange.now.job.now exchange.now.randomness.now regions scratch.new }
 {
     core_workspace::generate_challenges(exchange.randomness, exchange.params, regions, scratch);
-    check_az(exchange, regions, scratch)?;
-    check_z_inner(exchange, regions, scratch)
+    check_az(
+        exchange.job,
+        exchange.transcript,
+        exchange.params,
+        regions,
+        scratch,
+    )?;
+    check_z_inner(exchange.transcript, exchange.params, regions, scratch)
 }
 
 // 26 and 27, in order, of Σ⟨φ_i,z⟩·c_i and of the a'' in its region.
@@ -150,7 +157,13 @@ pub fn check_phi_and_relation(
     ensures result_value { of_checked result ≡ aggregated exchange.now.job.now exchange.now.randomness.now exchange.now.transcript.now }
     ensures unchanged { Unchanged (scratch_need (parameters exchange.now.job.now)) scratch.old scratch.new }
 {
-    check_phi(lines, exchange, regions, scratch)?;
+    check_phi(
+        lines,
+        exchange.transcript,
+        exchange.params,
+        regions,
+        scratch,
+    )?;
     core_workspace::a(
         exchange.job,
         exchange.randomness,

@@ -39,7 +39,7 @@ fn check_relations(
     ensures unchanged { Unchanged (scratch_need (parameters exchange.now.job.now)) window.old window.new }
 {
     opened?;
-    relations::check_z_inner(exchange, regions, window)?;
+    relations::check_z_inner(exchange.transcript, exchange.params, regions, window)?;
     relations::check_aggregated(exchange, regions, window)
 }
 

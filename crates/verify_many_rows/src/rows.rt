@@ -1,6 +1,6 @@
 // The rows of A, B, C and D one after another, each for every transcript that passes 7 to 10 before the next (document 02, Item 11).
 ghost use Rattle.std.specs.Prelude.{◌≡◌, true, false, ◌+◌, ◌^◌, ◌≤◌, ◌<◌, length, get_or};
-ghost use Rattle.std.specs.Option.{ForSome};
+ghost use Rattle.std.specs.Option.{ForSome, is_some};
 ghost use Rattle.spec_protocol.specs.Parameters.{parameters};
 ghost use Rattle.spec_protocol.specs.Unchanged.{Unchanged};
 ghost use Rattle.spec_protocol.specs.Many.{many_need, transcript_part, row_count, AllRowsDone};
@@ -55,10 +55,11 @@ fn row_of_one(
     }
 }
 
-// The places of the digits in the window that starts at `start`, where they are stored.
+// The places of the digits in the window that starts at `start`, exactly where they are stored.
 fn held_from(params: EnvironmentParameters, start: usize, stored: bool) -> Option<Held>
     requires { Sized (parameters_of params) × (start < 2 ^ 61) }
-    ensures { ForSome result (λ at. (stored ≡ true) × Places (parameters_of params) start at) }
+    ensures told { is_some result ≡ stored }
+    ensures places { ForSome result (λ at. Places (parameters_of params) start at) }
 {
     if stored {
         Some(windows::places(params, start))

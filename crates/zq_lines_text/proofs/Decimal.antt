@@ -1,9 +1,10 @@
 -- Laws of decimal text.
-use mathlib.Core.Path.{◌≡◌, sym, ap}
+use mathlib.Core.Path.{◌≡◌, sym, ◌∙◌, ap}
 use mathlib.Core.Bool.{Bool, true, false, cond}
 use Rattle.std.specs.Prelude.{Option, Some, None}
 use mathlib.Core.List.{[], ◌∷◌, ◌++◌}
-use Prim.Native.Nat.{ℕ, zero, suc, ◌+◌, ◌-◌, ◌/◌, ◌%◌, ◌^◌, ◌≤◌, ◌<◌}
+use Prim.Native.Nat.{ℕ, zero, suc, ◌+◌, ◌-◌, ◌*◌, ◌/◌, ◌%◌, ◌^◌, ◌≤◌, ◌<◌}
+use native.Mathlib.Nat.{pow-suc}
 use native.Mathlib.Omega.{arith}
 use lib.Dec.{ltb}
 use lib.ListN.{length, length-append}
@@ -11,7 +12,7 @@ use lib.IntN.{ℤ, pos, negsuc, ◌-ℤ◌}
 use borrow.Author.Tests.{lt-ltb, le-ltb}
 use Rattle.std.specs.Fmt.{decimal as Fmt·decimal, signed_decimal}
 use Rattle.std.proofs.lemmas.Fmt.{AppendsLastDigit, decimal_from_appends, length-decimal-le}
-use Rattle.spec_leaves.specs.Zq.{Q, half_Q, Canonical, zadd, zmul, centre}
+use Rattle.spec_leaves.specs.Zq.{Q, half_Q, Canonical, zadd, zmul, centre, size}
 use Rattle.zq_lines_text.specs.Text.{decimal_in, decimal, signed}
 use Rattle.zq_lines_text.specs.Line.{text}
 
@@ -32,6 +33,35 @@ signed-centre a c = by (ltb half_Q a)
     by : (t : Bool) → signed_decimal (cond t (pos a -ℤ pos Q) (pos a)) ≡ signed (cond t (pos a -ℤ pos Q) (pos a))
     by true = rw (lt-ltb a Q c) (ap (λ l. 45 ∷ l) (decimal-word (suc (Q - suc a)) (omega arith)))
     by false = decimal-word a (omega arith)
+
+-- a number below ten has one digit
+pub decimal_digit : (n : ℕ) → n < 10 → decimal n ≡ (48 + n) ∷ []
+unfolding decimal decimal_in
+decimal_digit n h = rw (lt-ltb n 10 h)
+
+-- a number of two digits and more: the digits of n / 10, and the last one
+decimal_in_split : (k n : ℕ) → 10 ≤ n → decimal_in (suc k) n ≡ decimal_in k (n / 10) ++ ((48 + n % 10) ∷ [])
+unfolding decimal_in
+decimal_in_split k n h = rw (le-ltb n 10 h)
+
+-- where k digits suffice, one more changes nothing
+decimal_in_more : (k n : ℕ) → n < 10 ^ suc k → decimal_in (suc k) n ≡ decimal_in (suc (suc k)) n
+unfolding decimal_in
+decimal_in_more zero n h =
+    let p : n < 10 = h in
+    rw (lt-ltb n 10 p)
+decimal_in_more (suc k) n h =
+    let p : n < 10 ^ suc k * 10 = rw (pow-suc 10 (suc k)) at h in
+    ap (λ l. cond (ltb n 10) ((48 + n) ∷ []) (l ++ ((48 + n % 10) ∷ []))) (decimal_in_more k (n / 10) (omega arith))
+
+-- a word of two digits and more: the digits of n / 10, and the last one
+pub decimal_more : (n : ℕ) → 10 ≤ n → n < 2 ^ 32 → decimal n ≡ decimal (n / 10) ++ ((48 + n % 10) ∷ [])
+unfolding decimal
+decimal_more n h p = decimal_in_split 9 n h ∙ ap (λ l. l ++ ((48 + n % 10) ∷ [])) (decimal_in_more 8 (n / 10) (omega arith))
+
+-- it has one digit more than n / 10
+pub length-decimal_more : (n : ℕ) → 10 ≤ n → n < 2 ^ 32 → length (decimal n) ≡ length (decimal (n / 10)) + 1
+length-decimal_more n h p = ap length (decimal_more n h p) ∙ length-append (decimal (n / 10)) ((48 + n % 10) ∷ [])
 
 -- at most k digits
 length-decimal_in : (k n : ℕ) → length (decimal_in k n) ≤ k
@@ -64,3 +94,14 @@ length-text (Some (a, b)) =
     simp length-append
     (omega (arith, length-decimal a, length-decimal b, length-decimal (zadd a b), length-decimal (zmul a b), length-signed (centre a)))
 length-text None = omega arith
+
+-- the text of a centre that is not below zero
+pub signed-small : (a : ℕ) → a ≤ half_Q → signed (centre a) ≡ decimal a
+signed-small a h = rw (le-ltb half_Q a h)
+
+-- the text of a centre below zero
+pub signed_large : (a : ℕ) → half_Q < a → Canonical a → signed (centre a) ≡ 45 ∷ decimal (size a)
+signed_large a h c = rw (lt-ltb half_Q a h, lt-ltb a Q c) (ap (λ n. 45 ∷ decimal n) less)
+  where
+    less : suc (Q - suc a) ≡ Q - a
+    less = omega arith

@@ -9,6 +9,7 @@ ghost use Rattle.zq_lines_text.specs.Written.{Written};
 
 use crate::reading::{State, parse};
 use ring_zq::zq::Zq;
+use spec_leaves::modulus;
 
 // One byte.
 fn put(out: &mut [u8], at: usize, b: u8) -> usize
@@ -19,23 +20,29 @@ fn put(out: &mut [u8], at: usize, b: u8) -> usize
     at + 1
 }
 
-// Some bytes.
+// Some bytes. They are few, and one by one they take less time than a call that copies.
+#[inline(always)]
 fn put_bytes(out: &mut [u8], at: usize, bytes: &[u8]) -> usize
     requires { at + length bytes.now ≤ length out.old }
     ensures { Written out.old at bytes.now out.new result }
 {
-    let end = at + bytes.len();
-    out[at..end].copy_from_slice(bytes);
-    end
+    for i in 0..bytes.len() {
+        out[at + i] = bytes[i];
+    }
+    at + bytes.len()
 }
 
-// The digits of a number, most significant first.
+// The digits of a number, most significant first. One digit is written without the buffer, which takes longer.
 fn put_decimal(out: &mut [u8], at: usize, n: u32) -> usize
     requires { at + length (decimal n) ≤ length out.old }
     ensures { Written out.old at (decimal n) out.new result }
 {
-    let mut buffer = itoa::Buffer::new();
-    put_bytes(out, at, buffer.format(n).as_bytes())
+    if n < 10 {
+        put(out, at, b'0' + n as u8)
+    } else {
+        let mut buffer = itoa::Buffer::new();
+        put_bytes(out, at, buffer.format(n).as_bytes())
+    }
 }
 
 // A number and a space.
@@ -53,8 +60,12 @@ fn put_centre(out: &mut [u8], at: usize, a: Zq) -> usize
     requires at_in_bounds { at + 11 ≤ length out.old }
     ensures { Written out.old at (signed (centre a.0)) out.new result }
 {
-    let mut buffer = itoa::Buffer::new();
-    put_bytes(out, at, buffer.format(a.centered_mod()).as_bytes())
+    if modulus::HALF < a.0 {
+        let mut buffer = itoa::Buffer::new();
+        put_bytes(out, at, buffer.format(a.centered_mod()).as_bytes())
+    } else {
+        put_decimal(out, at, a.0)
+    }
 }
 
 // Both words, their sum, their product and the first one's centre, one space apart.

@@ -8,7 +8,7 @@ use Rattle.prover_commit.proofs.Commitments.{witness-checks, first_is}
 use Rattle.prover_commit.proofs.commit.Goals as goal
 
 pub check_witness-requires : goal.check_witness-requires
-check_witness-requires c = witness-checks _ _ _ _ _ c.requires
+check_witness-requires c = (witness-checks _ _ _ _ _ c.requires).0
 
 pub returns-in_err-check_witness-clause-result_value : goal.returns-in_err-check_witness-clause-result_value
 returns-in_err-check_witness-clause-result_value c =

@@ -5,7 +5,7 @@ use Rattle.verifier.proofs.verify.check_rest.Goals as goal
 
 pub check_commitments-requires : goal.check_commitments-requires
 check_commitments-requires c =
-    (ready-changed _ _ _ c.args.scratch.now c.requires.0 _ c.check_relations.ensures.unchanged.size, c.requires.1)
+    (c.args.exchange.now.sent.posed, ready-changed _ _ _ c.args.scratch.now c.requires.0 _ c.check_relations.ensures.unchanged.size, c.requires.1)
 
 pub returns-clause-unchanged : goal.returns-clause-unchanged
 returns-clause-unchanged c = unchanged_trans _ c.args.scratch.now _ _ c.check_relations.ensures.unchanged c.check_commitments.ensures.unchanged

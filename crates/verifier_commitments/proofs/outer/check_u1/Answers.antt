@@ -3,6 +3,7 @@ use mathlib.Core.Path.{◌≡◌, refl, sym, ap, subst, ◌∙◌}
 use mathlib.Core.Bool.{cond}
 use mathlib.Core.List.{[]}
 use Prim.Native.Nat.{◌+◌, ◌*◌, ◌≤◌}
+use native.Mathlib.Omega.{arith}
 use lib.ListN.{length}
 use Rattle.spec_leaves.specs.Answer.{fine, failed}
 use Rattle.spec_protocol.specs.Parameters.{parameters}
@@ -23,50 +24,65 @@ size c = length_filled _ c.args.scratch.now _ _ c.compute_u1.ensures
 -- the check by the boolean's value
 answer : (c : After-same_words)
     → let s = c.args in
-    cond c.same_words.result fine (failed 28 []) ≡ u1_differs s.exchange.now.job.now s.exchange.now.transcript.now
+    cond c.same_words.result fine (failed 28 []) ≡ u1_differs s.job.now s.transcript.now
 answer c =
-    u₁-answer c.args.exchange.now.job.now c.args.exchange.now.transcript.now c.args.exchange.now.params c.args.exchange.now.sent.posed c.args.regions c.args.scratch.now c.requires _ _ _ _ _ _ _
+    u₁-answer c.args.job.now c.args.transcript.now c.args.params c.requires.0 c.args.regions c.args.scratch.now c.requires.1 _ _ _ _ _ _ _
     c.same_words.result
-    c.transcript_at.ensures
-    c.transcript_at-2.ensures
+    c.of_transcript.ensures
+    c.of_transcript-2.ensures
     c.triangle.ensures.0
-    c.job_at-b_at.ensures c.job_at-c_at.ensures
-    c.transcript_at-3.ensures
+    c.of_job-b_at.ensures c.of_job-c_at.ensures
+    c.of_transcript-3.ensures
     c.compute_u1.ensures c.same_words.ensures
 
 -- what is beyond the length needed is as it was
 unchanged : (c : After-compute_u1)
     → let s = c.args in
-    Unchanged (scratch_need (parameters s.exchange.now.job.now)) s.scratch.now c.compute_u1.new.out
+    Unchanged (scratch_need (parameters s.job.now)) s.scratch.now c.compute_u1.new.out
 unchanged c =
-    u_unchanged _ _ _ c.args.exchange.now.sent.posed _ _ c.requires _ _ _ (reckoned c.args.exchange.now.sent.posed).within.κ₁.1 c.compute_u1.ensures
+    u_unchanged _ _ _ c.requires.0 _ _ c.requires.1 _ _ _ (reckoned c.requires.0).within.κ₁.1 c.compute_u1.ensures
+
+pub of_transcript-requires : goal.of_transcript-requires
+of_transcript-requires c = (reckoned c.requires.0, omega arith)
+
+pub of_transcript-requires-2 : goal.of_transcript-requires-2
+of_transcript-requires-2 c = (reckoned c.requires.0, omega arith)
+
+pub of_job-b_at-requires : goal.of_job-b_at-requires
+of_job-b_at-requires c = (reckoned c.requires.0, omega arith)
+
+pub of_job-c_at-requires : goal.of_job-c_at-requires
+of_job-c_at-requires c = (reckoned c.requires.0, omega arith)
+
+pub of_transcript-requires-3 : goal.of_transcript-requires-3
+of_transcript-requires-3 c = (reckoned c.requires.0, omega arith)
 
 pub overflow_mul-t : goal.overflow_mul-t
-overflow_mul-t c = few_cells _ (few-t _ _ (received c.args.exchange.now.sent.posed))
+overflow_mul-t c = few_cells _ (few-t _ _ (received c.requires.0))
 
 pub triangle-requires : goal.triangle-requires
-triangle-requires c = (reckoned c.args.exchange.now.sent.posed).within.r.1
+triangle-requires c = (reckoned c.requires.0).within.r.1
 
 pub compute_u1-requires : goal.compute_u1-requires
 compute_u1-requires c =
-    let w = c.args.exchange.now.sent.posed in
+    let w = c.requires.0 in
     let t = c.triangle.ensures in (
-      B-within _ _ _ w _ c.job_at-b_at.ensures,
-      t_cells _ _ (received w) _ _ c.transcript_at.ensures refl,
-      C-within _ _ _ w _ _ c.job_at-c_at.ensures t.0,
-      g_cells _ _ (received w) _ _ c.transcript_at-2.ensures t,
+      B-within _ _ _ w _ c.of_job-b_at.ensures,
+      t_cells _ _ (received w) _ _ c.of_transcript.ensures refl,
+      C-within _ _ _ w _ _ c.of_job-c_at.ensures t.0,
+      g_cells _ _ (received w) _ _ c.of_transcript-2.ensures t,
       base_large _ _ (received w),
-      u-within _ _ _ w _ _ c.requires _ (reckoned w).within.κ₁.1,
+      u-within _ _ _ w _ _ c.requires.1 _ (reckoned w).within.κ₁.1,
     )
 
 pub overflow_mul-rows : goal.overflow_mul-rows
-overflow_mul-rows c = few_words _ (reckoned c.args.exchange.now.sent.posed).within.κ₁.1
+overflow_mul-rows c = few_words _ (reckoned c.requires.0).within.κ₁.1
 
 pub same_words-requires : goal.same_words-requires
 same_words-requires c =
-    let h = u-within _ _ _ c.args.exchange.now.sent.posed _ _ c.requires _ (reckoned c.args.exchange.now.sent.posed).within.κ₁.1 in (
-      u₁-within _ _ _ c.args.exchange.now.sent.posed _ c.transcript_at-3.ensures,
-      subst (λ n. c.args.regions.u + 64 * c.args.exchange.now.params.kappa_1 ≤ n) (sym (size (goal.at.same_words-requires c).After-compute_u1)) h,
+    let h = u-within _ _ _ c.requires.0 _ _ c.requires.1 _ (reckoned c.requires.0).within.κ₁.1 in (
+      u₁-within _ _ _ c.requires.0 _ c.of_transcript-3.ensures,
+      subst (λ n. c.args.regions.u + 64 * c.args.params.kappa_1 ≤ n) (sym (size (goal.at.same_words-requires c).After-compute_u1)) h,
     )
 
 pub returns-then-same_words : goal.returns-then-same_words

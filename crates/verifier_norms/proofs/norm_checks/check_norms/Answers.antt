@@ -5,6 +5,7 @@ use Rattle.spec_leaves.specs.Answer.{of_checked}
 use Rattle.spec_protocol.specs.Parameters.{Parameters, parameters}
 use Rattle.relation_env_params.specs.Parameters.{parameters_of}
 use Rattle.verifier_common.specs.Answers.{projection_norm, norm_sum}
+use Rattle.verifier_common.proofs.Sent.{received}
 use Rattle.verifier_norms.proofs.Norms.{check_23_is}
 use Rattle.verifier_norms.proofs.norm_checks.check_norms.Goals.{After-check_norm_sum, After-check_projection_norm}
 use Rattle.verifier_norms.proofs.norm_checks.check_norms.Goals as goal
@@ -47,3 +48,9 @@ returns c =
     let first = answer_21 (goal.at.returns c).After-check_projection_norm in
     let third = answer_23 (goal.at.returns c).After-check_norm_sum in
     record { result_value = search rules; taken = c.take-digits.ensures }
+
+pub check_projection_norm-requires : goal.check_projection_norm-requires
+check_projection_norm-requires c = received c.args.exchange.now.sent.posed
+
+pub take-digits-requires : goal.take-digits-requires
+take-digits-requires c = received c.args.exchange.now.sent.posed

@@ -8,4 +8,4 @@ use Rattle.verifier_relations.proofs.Sides.{az_test}
 use Rattle.verifier_relations.proofs.relations.check_az.Given as goal
 
 abbrev pub invariant-loop-k : goal.invariant-loop-k
-invariant-loop-k l = (l.k ≤ l.kappa) × (first l.k (az_test l.exchange.job.now l.exchange.transcript.now (challenges_in l.scratch l.regions)) ≡ fine)
+invariant-loop-k l = (l.k ≤ l.kappa) × (first l.k (az_test l.job l.transcript (challenges_in l.scratch l.regions)) ≡ fine)

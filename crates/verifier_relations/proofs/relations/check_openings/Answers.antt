@@ -6,6 +6,7 @@ use Rattle.spec_leaves.specs.Answer.{of_checked}
 use Rattle.core_workspace.specs.Aggregated.{c_words}
 use Rattle.core_workspace.proofs.Ready.{c_requires, c-made}
 use Rattle.verifier_common.specs.Answers.{az, z_inner}
+use Rattle.verifier_common.proofs.Sent.{received}
 use Rattle.verifier_relations.proofs.Sides.{c-within, az-held, z_inner-held}
 use Rattle.verifier_relations.proofs.Scratch.{Made, challenges-made}
 use Rattle.verifier_relations.proofs.relations.check_openings.Goals.{After-check_az, After-generate_challenges}
@@ -36,13 +37,13 @@ generate_challenges-requires c = c_requires c.args.exchange.now.job.now c.args.e
     c.args.exchange.now.params c.args.regions c.requires c.args.exchange.now.sent.drawn
 
 pub check_az-requires : goal.check_az-requires
-check_az-requires c = (drawn (goal.at.check_az-requires c).After-generate_challenges).ready
+check_az-requires c = (c.args.exchange.now.sent.posed, (drawn (goal.at.check_az-requires c).After-generate_challenges).ready)
 
 pub check_z_inner-requires : goal.check_z_inner-requires
 check_z_inner-requires c =
     let a = c.args in
     let m = drawn (goal.at.check_z_inner-requires c).After-generate_challenges in
-    c-within a.exchange.now.job.now a.exchange.now.transcript.now a.exchange.now.params a.regions _ a.exchange.now.sent.posed m.ready
+    (received a.exchange.now.sent.posed, c-within a.exchange.now.job.now a.exchange.now.transcript.now a.exchange.now.params a.regions _ a.exchange.now.sent.posed m.ready)
 
 pub returns-in_err-check_az : goal.returns-in_err-check_az
 returns-in_err-check_az c =

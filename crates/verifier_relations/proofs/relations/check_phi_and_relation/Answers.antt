@@ -7,6 +7,7 @@ use Rattle.core_workspace.proofs.Unchanged.{unchanged_refl}
 use Rattle.core_workspace.proofs.Ready.{drawn_fewer}
 use Rattle.spec_leaves.specs.Answer.{of_checked}
 use Rattle.verifier_common.specs.Answers.{phi}
+use Rattle.verifier_common.proofs.Sent.{received}
 use Rattle.verifier_relations.proofs.Sides.{c-within, phi-held}
 use Rattle.verifier_relations.proofs.Scratch.{Made, a-made}
 use Rattle.verifier_relations.proofs.relations.check_phi_and_relation.Goals.{After-a, After-check_phi}
@@ -29,7 +30,8 @@ whole c =
 pub check_phi-requires : goal.check_phi-requires
 check_phi-requires c =
     let a = c.args in
-    c-within a.exchange.now.job.now a.exchange.now.transcript.now a.exchange.now.params a.regions _ c.args.exchange.now.sent.posed c.requires.sent.0
+    let w = a.exchange.now.sent.posed in
+    (received w, c-within a.exchange.now.job.now a.exchange.now.transcript.now a.exchange.now.params a.regions _ w c.requires.sent.0)
 
 pub a-requires : goal.a-requires
 a-requires c =

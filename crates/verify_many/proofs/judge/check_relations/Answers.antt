@@ -4,6 +4,7 @@ use borrow.Author.Rules.{rules}
 use Rattle.spec_leaves.specs.Answer.{of_checked}
 use Rattle.core_workspace.proofs.Unchanged.{unchanged_refl}
 use Rattle.verifier_common.specs.Answers.{z_inner}
+use Rattle.verifier_common.proofs.Sent.{received}
 use Rattle.verifier_relations.proofs.Sides.{c-within, z_inner-held}
 use Rattle.verify_many.proofs.judge.check_relations.Goals.{After-check_z_inner}
 use Rattle.verify_many.proofs.judge.check_relations.Goals as goal
@@ -18,7 +19,8 @@ z_inner_is c =
 pub check_z_inner-requires : goal.check_z_inner-requires
 check_z_inner-requires c =
     let s = c.args in
-    c-within s.exchange.now.job.now s.exchange.now.transcript.now s.exchange.now.params s.regions s.window.now s.exchange.now.sent.posed c.requires.sent.0
+    let w = s.exchange.now.sent.posed in
+    (received w, c-within s.exchange.now.job.now s.exchange.now.transcript.now s.exchange.now.params s.regions s.window.now w c.requires.sent.0)
 
 pub returns-in_err-opened : goal.returns-in_err-opened
 returns-in_err-opened c = record { result_value = search rules; unchanged = unchanged_refl _ _ }

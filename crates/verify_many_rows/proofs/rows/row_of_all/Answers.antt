@@ -4,6 +4,7 @@ use native.Mathlib.Omega.{arith}
 use lib.ListN.{length}
 use mir.Syntax.{w64}
 use mir.Val.{Fits}
+use Rattle.std.specs.Option.{is_some}
 use Rattle.spec_protocol.specs.Parameters.{parameters}
 use Rattle.spec_protocol.specs.Many.{many_need, transcript_part}
 use Rattle.core_workspace.specs.Holds.{Holds}
@@ -51,9 +52,9 @@ row_of_one-requires c =
       m_lt_count = (h, b.3, c.requires.rowable.1, omega (arith, b, l.invariant.1, l.invariant.3.size));
       posed = λ t. posed _ _ _ _ _ _ c.requires.rowable.0 _ h t;
       all_held = λ t a e.
-          let k = c.held_from-held.ensures a e in
-          let u = k.0 in
-          let w = subst (λ P. Places P l.start a) c.requires.rowable.0.same k.1 in
+          let k = c.held_from-held.ensures in
+          let u = sym k.told ∙ ap is_some e in
+          let w = subst (λ P. Places P l.start a) c.requires.rowable.0.same (k.places a e) in
           held_all J X l.scratch l.start _ w (omega (arith, b, l.invariant.1, l.invariant.3.size, l.invariant.4.fitting u, need_is _ _ _ _ _ _ c.requires.rowable.0 _ n.ensures))
           (subst (λ a. Holds l.scratch a (window_digits (parameters J) X)) (sym at) (l.invariant.4.all u l.m h t));
     }

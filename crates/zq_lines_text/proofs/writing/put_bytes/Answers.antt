@@ -1,20 +1,29 @@
--- `put_bytes` meets its contract.
-use Rattle.std.proofs.Common.{◌≡◌, refl, sym, ◌+◌, ◌-◌, length, List, ℕ, ◌≤◌, append_assoc, arith}
-use Rattle.std.proofs.lemmas.List.{drop-drop}
-use borrow.Rule.Slice.PartMut.{put_mid}
+use mathlib.Core.Path.{refl, ◌∙◌, sym, ap}
+use Prim.Native.Nat.{◌+◌}
+use native.Mathlib.Omega.{arith}
+use lib.ListN.{length, take, get_or, set}
+use lib.Seq.{take_all}
 use Rattle.math.specs.lists.Part.{splice}
-use Rattle.math.proofs.lists.Splice.{splice_eq}
+use Rattle.math.proofs.lists.Splice.{length-splice, splice-nil, splice-take-next}
 use Rattle.zq_lines_text.proofs.writing.put_bytes.Goals as goal
 
--- the bytes stand in the place of as many
-written : (out : List ℕ) (at : ℕ) (bytes part : List ℕ) (n : ℕ) → part ≡ bytes → n ≡ length bytes → at + length bytes ≤ length out → put_mid at n out part ≡ splice out at bytes
-written out at bytes part n e m h = rw (e, m, drop-drop, ← append_assoc) (sym (splice_eq out at bytes h))
+pub loop-i-init : goal.loop-i-init
+loop-i-init c = (sym (splice-nil _ _), refl)
+
+pub loop-i-preserved : goal.loop-i-preserved
+loop-i-preserved c =
+    let a = c.args in
+    let i = c.loop-i.i in
+    let w = ap (λ l. set l (a.at + i) (get_or a.bytes.now i 0)) c.loop-i.invariant.0 ∙ splice-take-next 0 a.out.now a.at a.bytes.now i (omega arith) in
+    (w, ap length w ∙ length-splice a.out.now a.at (take (i + 1) a.bytes.now))
 
 pub returns : goal.returns
 returns c =
     let a = c.args in
-    let n : a.at + length a.bytes.now - a.at ≡ length a.bytes.now = omega arith in
     record {
-      contents = written a.out.now a.at a.bytes.now _ _ c.copy_from_slice.ensures.after n c.requires;
+      contents = c.loop-i.invariant.0 ∙ ap (splice a.out.now a.at) (take_all c.loop-i.i a.bytes.now (omega arith));
       count = refl;
     }
+
+pub shape_of-out : goal.shape_of-out
+shape_of-out c = c.loop-i.invariant.1
