@@ -7,16 +7,15 @@ pub const RADIX: u64 = 134217728;
 
 pub const WORD: u64 = 4294967296;
 
-// A prime 2^27 − delta, and minus its inverse modulo 2^32. That it is the inverse is asked where 2^32 is divided out, and nowhere else.
+// A modulus 2^27 − delta, which need not be prime; a fold reads nothing else. specs/Fold calls it `prime`.
 #[derive(Clone, Copy)]
-pub struct Prime {
+pub struct PseudoMersenne {
     pub delta: u64,
-    pub opposite: u64,
     pub ghost small: { delta ≤ 2175 },
 }
 
-impl Prime {
-    // The part from bit 27 on times delta, and the part below: z less the upper part times the prime.
+impl PseudoMersenne {
+    // The part from bit 27 on times delta, and the part below: z less the upper part times the modulus.
     pub fn fold(self, z: u64) -> u64
         requires { z < 2 ^ 59 }
         ensures { result ≡ fold self.delta z }
@@ -31,7 +30,7 @@ impl Prime {
         x - x / 134217728 * (134217728 - self.delta as u32)
     }
 
-    // The part from bit 32 on times 32·delta, and the part below. `% WORD` lets the compiler multiply words; 32 times the prime fits one unless delta is 0.
+    // The part from bit 32 on times 32·delta, and the part below. `% WORD` lets the compiler multiply words; 32 times the modulus fits one unless delta is 0.
     pub fn fold_sum(self, z: u64) -> u64
         ensures { (result ≡ z / 4294967296 * (32 * self.delta) + z % 4294967296) × (result < 2 ^ 59) }
     {
@@ -41,7 +40,7 @@ impl Prime {
         z - (z / WORD) * (32 * (RADIX - self.delta) % WORD)
     }
 
-    // Folded twice: below three times the prime.
+    // Folded twice: below three times the modulus.
     pub fn reduce(self, z: u64) -> u64
         requires { z < 2 ^ 59 }
         ensures { (result ≡ reduced self.delta z) × (result ≤ 285600000) }
@@ -49,7 +48,7 @@ impl Prime {
         self.fold(self.fold(z))
     }
 
-    // The remainder of a word below three times the prime.
+    // The remainder of a word below three times the modulus.
     pub fn rest(self, r: u32) -> u32
         requires { r ≤ 285600000 }
         ensures { result ≡ r % prime self.delta }
@@ -64,17 +63,28 @@ impl Prime {
         }
     }
 
-    // The remainder by the prime.
+    // The remainder by the modulus.
     pub fn remainder(self, z: u64) -> u64
         requires { z < 2 ^ 59 }
         ensures { result ≡ z % prime self.delta }
     {
         u64::from(self.rest(self.reduce(z) as u32))
     }
+}
 
+// A prime 2^27 − delta, and minus its inverse modulo 2^32, by which 2^32 is divided out.
+#[derive(Clone, Copy)]
+pub struct Prime {
+    pub delta: u64,
+    pub opposite: u64,
+    pub ghost small: { delta ≤ 2175 },
+    pub ghost inverts: { Opposite delta opposite },
+}
+
+impl Prime {
     // 2^32 divided out (Montgomery's reduction), below three times the prime.
     pub fn montgomery(self, z: u64) -> u64
-        requires { (z < 2 ^ 59) × Opposite self.delta self.opposite }
+        requires { z < 2 ^ 59 }
         ensures { (result ≡ montgomery self.delta self.opposite z) × (result ≤ 285600000) }
     {
         let multiple = (z % WORD) * (self.opposite % WORD) % WORD;

@@ -3,7 +3,7 @@
 ghost use Rattle.std.specs.Prelude.{◌≡◌};
 ghost use Rattle.ntt_layers.specs.Layer.{Powers, LayerFits, SpreadFits, InverseLayerFits, turned_of, spread_of, layer_of, inverse_layer_of};
 
-use crate::fold::{Prime, RADIX, WORD};
+use crate::fold::{Prime, PseudoMersenne, RADIX, WORD};
 
 // The upper half times the twiddles from `at` on. In a loop of their own the products are compiled four at a time.
 fn turn(x: [u32; 64], w: &[u32], at: usize, prime: Prime) -> [u32; 64]
@@ -18,7 +18,7 @@ fn turn(x: [u32; 64], w: &[u32], at: usize, prime: Prime) -> [u32; 64]
 }
 
 // The sums and differences of the entries t and t + 32, at 2t and 2t + 1.
-fn spread(x: [u32; 64], prime: Prime) -> [u32; 64]
+fn spread(x: [u32; 64], prime: PseudoMersenne) -> [u32; 64]
     requires { SpreadFits prime.delta x }
     ensures { result ≡ spread_of prime.delta x }
 {
@@ -35,7 +35,8 @@ pub fn layer(x: [u32; 64], w: &[u32], at: usize, prime: Prime) -> [u32; 64]
     requires { LayerFits prime.delta prime.opposite w.now at x }
     ensures { result ≡ layer_of prime.delta prime.opposite w.now at x }
 {
-    spread(turn(x, w, at, prime), prime)
+    let modulus = PseudoMersenne { delta: prime.delta };
+    spread(turn(x, w, at, prime), modulus)
 }
 
 // Entries 2t and 2t + 1 give the entries t and t + 32, doubled; w has minus the inverses of the powers from `at` on.
@@ -43,12 +44,13 @@ pub fn inverse_layer(y: [u32; 64], w: &[u32], at: usize, prime: Prime) -> [u32; 
     requires { InverseLayerFits prime.delta prime.opposite w.now at y }
     ensures { result ≡ inverse_layer_of prime.delta prime.opposite w.now at y }
 {
+    let modulus = PseudoMersenne { delta: prime.delta };
     let mut out = [0u32; 64];
     for t in 0..32 {
         let u = y[2 * t];
         let v = y[2 * t + 1];
         let difference = (u64::from(v) + (3 * (RADIX - prime.delta) - u64::from(u))) % WORD;
-        out[t] = prime.fold_word(u + v);
+        out[t] = modulus.fold_word(u + v);
         out[t + 32] = prime.montgomery(u64::from(w[at + t]) * difference) as u32;
     }
     out

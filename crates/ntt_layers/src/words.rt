@@ -2,10 +2,10 @@
 ghost use Rattle.std.specs.Prelude.{◌≡◌, ◌<◌};
 ghost use Rattle.ntt_layers.specs.Words.{Small, folded_of, reduced_of, remainders_of};
 
-use crate::fold::{Prime, WORD};
+use crate::fold::{PseudoMersenne, WORD};
 
 // Each word folded.
-pub fn fold_words(x: [u32; 64], prime: Prime) -> [u32; 64]
+pub fn fold_words(x: [u32; 64], prime: PseudoMersenne) -> [u32; 64]
     ensures { result ≡ folded_of prime.delta x }
 {
     let mut out = [0u32; 64];
@@ -16,7 +16,7 @@ pub fn fold_words(x: [u32; 64], prime: Prime) -> [u32; 64]
 }
 
 // Each sum reduced.
-pub fn reduce_sums(s: [u64; 64], prime: Prime) -> [u32; 64]
+pub fn reduce_sums(s: [u64; 64], prime: PseudoMersenne) -> [u32; 64]
     ensures { result ≡ reduced_of prime.delta s }
 {
     let mut out = [0u32; 64];
@@ -27,7 +27,7 @@ pub fn reduce_sums(s: [u64; 64], prime: Prime) -> [u32; 64]
 }
 
 // The remainder of each word times `factor`, plus `offset`.
-pub fn remainders(x: [u32; 64], factor: u64, offset: u64, prime: Prime) -> [u32; 64]
+pub fn remainders(x: [u32; 64], factor: u64, offset: u64, prime: PseudoMersenne) -> [u32; 64]
     requires { (factor < 134217728) × (offset < 134217728) × Small x }
     ensures { result ≡ remainders_of prime.delta factor offset x }
 {

@@ -3,7 +3,7 @@ ghost use Rattle.std.specs.Prelude.{◌≡◌, ◌<◌};
 ghost use Rattle.spec_leaves.specs.Zq.{Q};
 ghost use Rattle.ntt_product.specs.Crt.{crt_of, crt_all_of, Remainders};
 
-use ntt_transform::moduli::{SECOND, THIRD};
+use ntt_transform::moduli::{SECOND_MODULUS, THIRD_MODULUS};
 use ring_zq::zq::Zq;
 
 // Q as a u64.
@@ -17,8 +17,8 @@ pub fn crt(first: u64, second: u64, third: u64) -> u64
     requires { (first < 134217089) × (second < 134215681) × (third < 134215553) }
     ensures { (result ≡ crt_of first second third) × (result < Q) }
 {
-    let middle = SECOND.remainder((second + 268431362 - first) * 36508953);
-    let top = THIRD.remainder(
+    let middle = SECOND_MODULUS.remainder((second + 268431362 - first) * 36508953);
+    let top = THIRD_MODULUS.remainder(
         (third + 268431106 - first) * 32067747 + (268431106 - middle) * 133166994,
     );
     (first + 134217089 * middle + PAIR * top) % MODULUS

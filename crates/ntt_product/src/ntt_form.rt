@@ -5,7 +5,7 @@ ghost use Rattle.ntt_product.specs.NttForm.{ProductsFit, Transform, values_added
 use crate::crt;
 use crate::crt::MODULUS;
 use ntt_layers::words;
-use ntt_transform::moduli::{FIRST, SECOND, THIRD};
+use ntt_transform::moduli::{FIRST, FIRST_MODULUS, SECOND, SECOND_MODULUS, THIRD, THIRD_MODULUS};
 use ntt_transform::table::Twiddles;
 use ntt_transform::transforms;
 
@@ -111,19 +111,19 @@ pub fn inverse(sums: Sums, w: &Twiddles) -> [u32; 64]
         transforms::inverse(s, &w.words, 576, FIRST),
         132119947,
         FIRST_OFFSET,
-        FIRST,
+        FIRST_MODULUS,
     );
     let second = words::remainders(
         transforms::inverse(t, &w.words, 768, SECOND),
         132118561,
         SECOND_OFFSET,
-        SECOND,
+        SECOND_MODULUS,
     );
     let third = words::remainders(
         transforms::inverse(u, &w.words, 960, THIRD),
         132118435,
         THIRD_OFFSET,
-        THIRD,
+        THIRD_MODULUS,
     );
     crt::crt_all(first, second, third)
 }

@@ -1,5 +1,5 @@
-// The three primes: 2^27 − 639, 2^27 − 2047 and 2^27 − 2175.
-use ntt_layers::fold::Prime;
+// The three primes: 2^27 − 639, 2^27 − 2047 and 2^27 − 2175, and each as a modulus alone.
+use ntt_layers::fold::{Prime, PseudoMersenne};
 
 pub const FIRST: Prime = Prime {
     delta: 639,
@@ -15,3 +15,11 @@ pub const THIRD: Prime = Prime {
     delta: 2175,
     opposite: 2442639231,
 };
+
+pub const FIRST_MODULUS: PseudoMersenne = PseudoMersenne { delta: FIRST.delta };
+
+pub const SECOND_MODULUS: PseudoMersenne = PseudoMersenne {
+    delta: SECOND.delta,
+};
+
+pub const THIRD_MODULUS: PseudoMersenne = PseudoMersenne { delta: THIRD.delta };

@@ -3,7 +3,7 @@
 ghost use Rattle.std.specs.Prelude.{◌≡◌};
 ghost use Rattle.ntt_transform.specs.Transforms.{TwiddlesFit, forward_of, inverse_transform_of};
 
-use ntt_layers::fold::Prime;
+use ntt_layers::fold::{Prime, PseudoMersenne};
 use ntt_layers::{layers, words};
 
 // The values at the odd powers of the root, each below twice the prime.
@@ -11,14 +11,15 @@ pub fn forward(a: [u32; 64], w: &[u32], at: usize, prime: Prime) -> [u32; 64]
     requires { TwiddlesFit prime.delta prime.opposite w.now at }
     ensures { result ≡ forward_of prime.delta prime.opposite w.now at a }
 {
-    let x0 = words::fold_words(a, prime);
+    let modulus = PseudoMersenne { delta: prime.delta };
+    let x0 = words::fold_words(a, modulus);
     let x1 = layers::layer(x0, w, at + 0, prime);
     let x2 = layers::layer(x1, w, at + 32, prime);
     let x3 = layers::layer(x2, w, at + 64, prime);
     let x4 = layers::layer(x3, w, at + 96, prime);
     let x5 = layers::layer(x4, w, at + 128, prime);
     let x6 = layers::layer(x5, w, at + 160, prime);
-    words::fold_words(x6, prime)
+    words::fold_words(x6, modulus)
 }
 
 // From sums of products of values back to 64 times the coefficients, each below three times the prime.
@@ -26,7 +27,8 @@ pub fn inverse(s: [u64; 64], w: &[u32], at: usize, prime: Prime) -> [u32; 64]
     requires { TwiddlesFit prime.delta prime.opposite w.now at }
     ensures { result ≡ inverse_transform_of prime.delta prime.opposite w.now at s }
 {
-    let y0 = words::reduce_sums(s, prime);
+    let modulus = PseudoMersenne { delta: prime.delta };
+    let y0 = words::reduce_sums(s, modulus);
     let y1 = layers::inverse_layer(y0, w, at + 160, prime);
     let y2 = layers::inverse_layer(y1, w, at + 128, prime);
     let y3 = layers::inverse_layer(y2, w, at + 96, prime);

@@ -26,7 +26,7 @@ pub overflow_mul-from : goal.overflow_mul-from
 overflow_mul-from c = omega (arith, product (goal.at.overflow_mul-from c).After-from-in-loop-t-2)
 
 pub montgomery-requires : goal.montgomery-requires
-montgomery-requires c = (product (goal.at.montgomery-requires c).After-from-in-loop-t-2, c.requires.powers.opposite)
+montgomery-requires c = product (goal.at.montgomery-requires c).After-from-in-loop-t-2
 
 pub loop-t-init : goal.loop-t-init
 loop-t-init c = (omega arith, halves_none (inverse_layer_at _ _ _ _ _))

@@ -37,7 +37,7 @@ unfolding table
 loop-t-init c = (omega arith, sym (splice-nil _ 32))
 
 pub montgomery-requires : goal.montgomery-requires
-montgomery-requires c = (product (goal.at.montgomery-requires c).After-from-in-loop-t (unturned (goal.at.montgomery-requires c).In-loop-t), c.requires.opposite)
+montgomery-requires c = product (goal.at.montgomery-requires c).After-from-in-loop-t (unturned (goal.at.montgomery-requires c).In-loop-t)
 
 pub loop-t-preserved : goal.loop-t-preserved
 unfolding turned

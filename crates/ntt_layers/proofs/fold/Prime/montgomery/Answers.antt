@@ -33,5 +33,5 @@ returns c =
     let s = c.args in
     let p : (134217728 - s.self.delta) % 4294967296 ≡ prime s.self.delta = omega arith in (
       ap₂ (λ m p. (s.z + m * p) / 4294967296) (mul-mod-both 4294967296 s.z s.self.opposite) p,
-      omega (arith, ap₂ (λ m p. (s.z + m * p) / 4294967296) (mul-mod-both 4294967296 s.z s.self.opposite) p, montgomery-bound s.self.delta s.self.opposite s.z c.args.self.small c.requires.0),
+      omega (arith, ap₂ (λ m p. (s.z + m * p) / 4294967296) (mul-mod-both 4294967296 s.z s.self.opposite) p, montgomery-bound s.self.delta s.self.opposite s.z c.args.self.small c.requires),
     )

@@ -3,7 +3,7 @@ use mathlib.Core.Path.{◌∙◌, ap}
 use Prim.Native.Nat.{◌%◌}
 use Rattle.ntt_layers.specs.Fold.{prime}
 use Rattle.ntt_layers.proofs.Folds.{reduced-mod}
-use Rattle.ntt_layers.proofs.fold.Prime.remainder.Goals as goal
+use Rattle.ntt_layers.proofs.fold.PseudoMersenne.remainder.Goals as goal
 
 pub returns : goal.returns
 returns c =

@@ -3,7 +3,7 @@ use mathlib.Core.Path.{◌≡◌, ◌∙◌, ap}
 use native.Mathlib.Omega.{arith}
 use Rattle.ntt_layers.specs.Fold.{fold, reduced}
 use Rattle.ntt_layers.proofs.Folds.{fold-once, reduced-bound}
-use Rattle.ntt_layers.proofs.fold.Prime.reduce.Goals as goal
+use Rattle.ntt_layers.proofs.fold.PseudoMersenne.reduce.Goals as goal
 
 pub fold-requires-2 : goal.fold-requires-2
 fold-requires-2 c = omega (arith, c.fold.ensures, fold-once c.args.self.delta c.args.z c.args.self.small c.requires)

@@ -4,8 +4,8 @@ use Prim.Native.Nat.{◌+◌, ◌*◌, ◌/◌, ◌%◌}
 use native.Mathlib.Omega.{arith}
 use Rattle.ntt_layers.specs.Fold.{prime, fold}
 use Rattle.ntt_layers.proofs.Folds.{prime_pos, fold-taken}
-use Rattle.ntt_layers.proofs.fold.Prime.fold.Goals.{Start}
-use Rattle.ntt_layers.proofs.fold.Prime.fold.Goals as goal
+use Rattle.ntt_layers.proofs.fold.PseudoMersenne.fold.Goals.{Start}
+use Rattle.ntt_layers.proofs.fold.PseudoMersenne.fold.Goals as goal
 
 -- the product is what a fold takes off
 taken : (c : Start) → fold c.args.self.delta c.args.z + c.args.z / 134217728 % 4294967296 * prime c.args.self.delta ≡ c.args.z

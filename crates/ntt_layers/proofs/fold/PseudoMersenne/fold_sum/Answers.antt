@@ -4,8 +4,8 @@ use Prim.Native.Nat.{◌+◌, ◌-◌, ◌*◌, ◌/◌, ◌%◌, ◌<◌}
 use native.Mathlib.Omega.{arith}
 use Rattle.ntt_layers.specs.Fold.{prime}
 use Rattle.ntt_layers.proofs.Folds.{prime_pos, word-taken, word_bound}
-use Rattle.ntt_layers.proofs.fold.Prime.fold_sum.Goals.{Else-self-eq0}
-use Rattle.ntt_layers.proofs.fold.Prime.fold_sum.Goals as goal
+use Rattle.ntt_layers.proofs.fold.PseudoMersenne.fold_sum.Goals.{Else-self-eq0}
+use Rattle.ntt_layers.proofs.fold.PseudoMersenne.fold_sum.Goals as goal
 
 -- the product is what is taken off
 taken : (c : Else-self-eq0) →
