@@ -3,8 +3,8 @@ ghost use Rattle.std.specs.Prelude.{◌≡◌, ◌+◌, ◌*◌, ◌<◌};
 ghost use Rattle.math.specs.lists.Table.{padded};
 ghost use Rattle.ntt_transform.specs.Roots.{delta, scaled, twiddle_table};
 
-use crate::moduli::{FIRST_MODULUS, SECOND_MODULUS, THIRD_MODULUS};
-use ntt_layers::fold::PseudoMersenne;
+use crate::moduli::{FIRST, SECOND, THIRD};
+use ntt_layers::fold::{Prime, PseudoMersenne};
 
 // The first 128 powers of a root for each of the primes 2^27 − 639, 2^27 − 2047 and 2^27 − 2175: each entry is the one before times the root.
 pub const TABLE: [u32; 384] = [
@@ -115,14 +115,15 @@ pub const INDEXES: [u32; 1152] = [
 ];
 
 // The powers of prime i times 2^32, after those of the primes before it.
-fn scale(i: usize, prime: PseudoMersenne, out: &mut [u32])
+fn scale(i: usize, prime: Prime, out: &mut [u32])
     requires { (i < 3) × (prime.delta ≡ delta i) × (out.old ≡ padded 384 (128 * i) 0 scaled) }
     ensures { out.new ≡ padded 384 (128 * i + 128) 0 scaled }
 {
+    let modulus = PseudoMersenne { delta: prime.delta };
     let powers = TABLE;
     for e in 0..128 {
         let k = 128 * i + e;
-        out[k] = prime.remainder(u64::from(powers[k]) * (32 * prime.delta)) as u32;
+        out[k] = modulus.remainder(u64::from(powers[k]) * (32 * prime.delta)) as u32;
     }
 }
 
@@ -131,9 +132,9 @@ fn words() -> [u32; 1152]
     ensures { result ≡ twiddle_table }
 {
     let mut powers = [0u32; 384];
-    scale(0, FIRST_MODULUS, &mut powers);
-    scale(1, SECOND_MODULUS, &mut powers);
-    scale(2, THIRD_MODULUS, &mut powers);
+    scale(0, FIRST, &mut powers);
+    scale(1, SECOND, &mut powers);
+    scale(2, THIRD, &mut powers);
     let indexes = INDEXES;
     let mut out = [0u32; 1152];
     for m in 0..1152 {
